@@ -1,0 +1,11 @@
+use Rattle.std.proofs.Common.{length, ◌-◌}
+use Rattle.cf_io.proofs.PutLoop.{HasPut}
+use Rattle.cf_io.proofs.sink.put_all.Given as goal
+
+abbrev pub invariant-loop-done : goal.invariant-loop-done
+invariant-loop-done g l =
+    HasPut (g.K.Sink.written l.initial.sink) (g.K.Sink.written l.sink) l.bytes l.done
+    (g.K.Sink.faults l.initial.sink) (g.K.Sink.faults l.sink)
+
+abbrev pub decreases-loop-done : goal.decreases-loop-done
+decreases-loop-done g l = length l.bytes - l.done

@@ -1,0 +1,9 @@
+pub mod Causes
+pub mod Takes
+pub mod Puts
+pub mod Reads
+pub mod FailingCalls
+pub mod MemorySource
+pub mod MemorySink
+pub mod NamedFiles
+pub mod MemoryFiles

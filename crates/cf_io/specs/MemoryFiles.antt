@@ -1,0 +1,48 @@
+-- Files in memory (a convention of this project).
+use Rattle.std.specs.Prelude.{◌≡◌, ℕ, List, [], ◌∷◌, ◌++◌, Bool, true, false, ◌||◌, is_none, Result, Ok, Err}
+use Rattle.cf_io.specs.Causes.{raised}
+use Rattle.cf_io.specs.FailingCalls.{Calls, no_calls, fails_next, after_call}
+use Rattle.cf_io.specs.NamedFiles.{content_of}
+use Rattle.cf_io.specs.Reads.{Told}
+use Rattle.cf_io.specs.declared.files.FilesErr.{FilesErr}
+use Rattle.cf_io.specs.declared.files.FilesErr.TheVariants as err
+
+-- names with their bytes, the names of failed reads in order, the calls so far, the count of faults
+pub record MemoryFiles : Type 0 where
+  pub files : List (List ℕ × List ℕ)
+  pub failed : List (List ℕ)
+  pub calls : Calls
+  pub faults : ℕ
+
+-- before the first read
+abbrev pub unread_files : List (List ℕ × List ℕ) → List ℕ → MemoryFiles
+unread_files files fails = record { files = files; failed = []; calls = no_calls fails; faults = 0 }
+
+-- what they tell
+abbrev pub told_by : MemoryFiles → Told
+told_by files = record { content = content_of files.files; failed = files.failed }
+
+-- whether a read of that name fails: by its number, or since there is no such file
+unfoldable pub read_fails : MemoryFiles → List ℕ → Bool
+read_fails files name = fails_next files.calls || is_none (content_of files.files name)
+
+-- after one more read
+abbrev pub after_read : MemoryFiles → MemoryFiles
+after_read files = record files { calls = after_call files.calls }
+
+-- after one more read, of that name, that failed
+abbrev pub after_failed : MemoryFiles → List ℕ → MemoryFiles
+after_failed files name = record files {
+  calls = after_call files.calls;
+  failed = files.failed ++ name ∷ [];
+  faults = raised files.faults;
+}
+
+-- just the reads that are to fail do, but for want of memory, and each read is counted
+abbrev pub ReadsCounted : {T : Type 0} → MemoryFiles → MemoryFiles → List ℕ → Result T FilesErr →
+    Type 0
+ReadsCounted files after name (Ok bytes) =
+    (read_fails files name ≡ false) × (after ≡ after_read files)
+ReadsCounted files after name (Err err.Failed) =
+    (read_fails files name ≡ true) × (after ≡ after_failed files name)
+ReadsCounted files after name (Err err.NoMemory) = after ≡ after_read files

@@ -1,0 +1,44 @@
+-- What a read of a file does to what the files tell (a convention of this project).
+use Rattle.std.specs.Prelude.{◌≡◌, ◌≤◌, ℕ, List, [], ◌∷◌, ◌++◌, take, option_map, Option, Some, None, Result, Ok, Err, Vec}
+use Rattle.std.specs.Global.{Global}
+use Rattle.cf_io.specs.Causes.{Rose, raised}
+use Rattle.cf_io.specs.declared.files.FilesErr.{FilesErr}
+use Rattle.cf_io.specs.declared.files.FilesErr.TheVariants as err
+
+-- what files tell: the bytes of each name that they have, and the names of failed reads in order
+pub record Told : Type 0 where
+  pub content : List ℕ → Option (List ℕ)
+  pub failed : List (List ℕ)
+
+-- the same files with one more failed read
+abbrev pub with_failed : Told → List ℕ → Told
+with_failed told name = record { content = told.content; failed = told.failed ++ name ∷ [] }
+
+-- one read, where the files tell: the first bytes of the file; only Failed changes what is told
+abbrev pub ReadsTold : Told → Option Told → List ℕ → ℕ → Result (Vec ℕ Global) FilesErr → Type 0
+ReadsTold told after name most (Ok bytes) =
+    (option_map (take most) (told.content name) ≡ Some bytes.items) × (after ≡ Some told)
+ReadsTold told after name most (Err err.Failed) = after ≡ Some (with_failed told name)
+ReadsTold told after name most (Err err.NoMemory) = after ≡ Some told
+
+-- one read: what the files tell before and after, the name, the most bytes wanted, the answer
+abbrev pub Reads : Option Told → Option Told → List ℕ → ℕ → Result (Vec ℕ Global) FilesErr → Type 0
+Reads None after name most result = after ≡ None
+Reads (Some told) after name most result = ReadsTold told after name most result
+
+-- Failed comes only where the count rose
+abbrev pub RoseOnFailed : {T : Type 0} → ℕ → ℕ → Result T FilesErr → Type 0
+RoseOnFailed before now (Err err.Failed) = Rose before now
+RoseOnFailed before now (Err err.NoMemory) = Unit {0}
+RoseOnFailed before now (Ok x) = Unit {0}
+
+-- the count has not fallen, and Failed comes only where it rose
+pub record HasReadCause {T : Type 0} (before now : ℕ) (result : Result T FilesErr) : Type 0 where
+  pub never_falls : before ≤ now
+  pub rose : RoseOnFailed before now result
+
+-- just a read that answers Failed is counted
+abbrev pub CountsReadFaults : {T : Type 0} → ℕ → ℕ → Result T FilesErr → Type 0
+CountsReadFaults before now (Err err.Failed) = now ≡ raised before
+CountsReadFaults before now (Err err.NoMemory) = now ≡ before
+CountsReadFaults before now (Ok x) = now ≡ before

@@ -1,0 +1,62 @@
+ghost use Rattle.std.specs.Prelude.{◌≡◌, ◌≤◌, None, IfOk, vec_len};
+ghost use Rattle.cf_io.specs.Reads.{Reads, HasReadCause, CountsReadFaults};
+
+use crate::files::{Files, FilesErr};
+use std::alloc::Global;
+use std::io::{self, Read};
+use std::{fs, rt};
+
+/// Real files by their paths, which do not tell their contents. A missing file, or a name that
+/// cannot be opened, is a fault; want of memory is none.
+#[derive(Drop)]
+pub struct DirFiles<'a, R: rt::Files + AllocGlobal> {
+    rt: &'a R,
+    faults: u64,
+}
+
+impl<'a, R: rt::Files + AllocGlobal> DirFiles<'a, R> {
+    /// The files that this runtime opens, with no faults yet.
+    pub fn new(rt: &'a R) -> Self
+        ensures { result.faults ≡ 0 }
+    {
+        DirFiles { rt, faults: 0 }
+    }
+}
+
+/// The first bytes of a file, at most so many.
+fn read_front<R: rt::Files + AllocGlobal>(
+    rt: &R,
+    alloc: Global,
+    name: &str,
+    most: u64,
+) -> io::Result<Vec<u8>>
+    ensures { IfOk result (λ bytes. vec_len bytes ≤ most) }
+{
+    let mut bytes = Vec::new(alloc);
+    fs::open(rt, name)?.take(most).read_to_end(&mut bytes)?;
+    // std promises no bound of what `read_to_end` appends.
+    bytes.truncate(most as usize);
+    Ok(bytes)
+}
+
+impl<'a, R: rt::Files + AllocGlobal> Files for DirFiles<'a, R> {
+    ghost told = { λ _. None };
+
+    ghost faults = { λ f. f.faults };
+
+    fn read(&mut self, alloc: Global, name: &str, most: u64) -> Result<Vec<u8>, FilesErr>
+        ensures bytes { Reads None None name.now most result }
+        ensures most { IfOk result (λ bytes. vec_len bytes ≤ most) }
+        ensures cause { HasReadCause self.old.faults self.new.faults result }
+        ensures counted { CountsReadFaults self.old.faults self.new.faults result }
+    {
+        match read_front(self.rt, alloc, name, most) {
+            Ok(bytes) => Ok(bytes),
+            Err(error) if error.kind() == io::ErrorKind::OutOfMemory => Err(FilesErr::NoMemory),
+            Err(_) => {
+                self.faults = self.faults.saturating_add(1);
+                Err(FilesErr::Failed)
+            }
+        }
+    }
+}

@@ -1,0 +1,32 @@
+ghost use Rattle.std.specs.Prelude.{ℕ, Option, ◌≤◌, IfOk, vec_len};
+ghost use Rattle.cf_io.specs.Reads.{Told, Reads, HasReadCause};
+
+use std::alloc::Global;
+
+/// Why a read gave no bytes.
+#[derive(Clone, Copy, Debug, PartialEq)]
+pub enum FilesErr {
+    /// The read failed, and the files' count of faults rose.
+    Failed,
+    /// There was no memory for the bytes, which is no fault of the files.
+    NoMemory,
+}
+
+/// Files that are read by name.
+pub trait Files {
+    /// The bytes of each name and the names whose read failed, where the files tell them.
+    ghost told: { Self → Option Told };
+
+    /// How often the files have failed, up to the greatest `u64`.
+    ghost faults: { Self → ℕ };
+
+    /// The first `most` bytes of the file called `name`, or all of it where it has fewer.
+    ///
+    /// `Failed` comes only where the files' count of faults rose in this call. Files that tell
+    /// their contents then append the name to their list of failed reads; no other read changes
+    /// the list.
+    fn read(&mut self, alloc: Global, name: &str, most: u64) -> Result<Vec<u8>, FilesErr>
+        ensures bytes { Reads (told self.old) (told self.new) name.now most result }
+        ensures most { IfOk result (λ bytes. vec_len bytes ≤ most) }
+        ensures cause { HasReadCause (faults self.old) (faults self.new) result };
+}

@@ -1,0 +1,112 @@
+ghost use Rattle.std.specs.Prelude.{◌≡◌, Some, None, map, take, IfSome, IfNone, IfOk, IfErr};
+ghost use Rattle.std.specs.Prelude.{◌≤◌, vec_len};
+ghost use Rattle.cf_io.specs.Reads.{Reads, HasReadCause};
+ghost use Rattle.cf_io.specs.MemoryFiles.{unread_files, told_by, ReadsCounted};
+ghost use Rattle.cf_io.specs.NamedFiles.{content_of, entry_of};
+
+use crate::failing_calls::FailingCalls;
+use crate::files::{Files, FilesErr};
+use std::alloc::Global;
+use std::marker::Model;
+
+/// Files in memory, of which the first of a name counts. The reads whose numbers are listed fail,
+/// and those of a missing name.
+#[derive(Drop)]
+pub struct MemFiles {
+    files: Vec<(String, Vec<u8>)>,
+    failed: Vec<String>,
+    calls: FailingCalls,
+    faults: u64,
+}
+
+impl Model for MemFiles {
+    ghost use Rattle.std.specs.Prelude.{map, string_bytes};
+    ghost use Rattle.cf_io.specs.NamedFiles.{entry_of};
+    ghost use Rattle.cf_io.specs.MemoryFiles.{MemoryFiles};
+
+    ghost Value = { MemoryFiles };
+
+    ghost view = { λ f. record {
+      files = map entry_of f.files.items;
+      failed = map string_bytes f.failed.items;
+      calls = f.calls;
+      faults = f.faults;
+    } };
+}
+
+impl MemFiles {
+    /// Files with these names and bytes. `fails` lists the numbers of the reads that fail,
+    /// counted from 1. The list of failed reads will take its memory from `alloc`.
+    pub fn new(alloc: Global, files: Vec<(String, Vec<u8>)>, fails: Vec<u64>) -> MemFiles
+        ensures { result ≡ unread_files (map entry_of files.items) fails.items }
+    {
+        MemFiles {
+            files,
+            failed: Vec::new(alloc),
+            calls: FailingCalls::new(fails),
+            faults: 0,
+        }
+    }
+}
+
+/// The bytes of the first file of that name.
+fn find_content<'a>(files: &'a [(String, Vec<u8>)], name: &str) -> Option<&'a [u8]>
+    ensures none { IfNone result (content_of (map entry_of files.now) name.now ≡ None) }
+    ensures found { IfSome result (λ bytes.
+        content_of (map entry_of files.now) name.now ≡ Some bytes.now) }
+{
+    for file in files {
+        if file.0.as_str() == name {
+            return Some(file.1.as_slice());
+        }
+    }
+    None
+}
+
+/// A copy of the first bytes, at most so many.
+fn front_of(alloc: Global, bytes: &[u8], most: u64) -> Result<Vec<u8>, FilesErr>
+    ensures ok { IfOk result (λ copy. copy.items ≡ take most bytes.now) }
+    ensures err { IfErr result (λ e. e ≡ FilesErr.NoMemory) }
+{
+    let count = bytes.len().min(most as usize);
+    match bytes[..count].to_vec(alloc) {
+        Ok(copy) => Ok(copy),
+        Err(_) => Err(FilesErr::NoMemory),
+    }
+}
+
+impl Files for MemFiles {
+    ghost use Rattle.std.specs.Prelude.{Some};
+    ghost use Rattle.cf_io.specs.MemoryFiles.{told_by};
+
+    ghost told = { λ f. Some (told_by f) };
+
+    ghost faults = { λ f. f.faults };
+
+    #[tactic(auto, unfolding(crate::specs::MemoryFiles::read_fails))]
+    fn read(&mut self, alloc: Global, name: &str, most: u64) -> Result<Vec<u8>, FilesErr>
+        ensures bytes { Reads (Some (told_by self.old)) (Some (told_by self.new))
+            name.now most result }
+        ensures most { IfOk result (λ bytes. vec_len bytes ≤ most) }
+        ensures cause { HasReadCause self.old.faults self.new.faults result }
+        ensures exact { ReadsCounted self.old self.new name.now result }
+    {
+        let fails = self.calls.next();
+        let Ok(kept) = String::from_str(alloc, name) else {
+            return Err(FilesErr::NoMemory);
+        };
+        if self.failed.reserve(1).is_err() {
+            return Err(FilesErr::NoMemory);
+        }
+        match find_content(self.files.as_slice(), name) {
+            Some(bytes) if !fails => front_of(alloc, bytes, most),
+            _ => {
+                self.faults = self.faults.saturating_add(1);
+                match self.failed.push(kept) {
+                    Ok(()) => Err(FilesErr::Failed),
+                    Err(_) => unreachable!(),
+                }
+            }
+        }
+    }
+}

@@ -1,0 +1,24 @@
+ghost use Rattle.std.specs.Prelude.{◌≡◌, None, length};
+ghost use Rattle.cf_io.specs.Causes.{HasCause};
+ghost use Rattle.cf_io.specs.Puts.{Puts};
+
+use crate::failed::Failed;
+use crate::sink::Sink;
+
+/// A sink that takes every piece whole, keeps nothing of it and never fails.
+#[derive(Clone, Copy)]
+pub struct Nowhere;
+
+impl Sink for Nowhere {
+    ghost written = { λ _. None };
+
+    ghost faults = { λ _. 0 };
+
+    fn put(&mut self, bytes: &[u8]) -> Result<usize, Failed>
+        ensures bytes { Puts None None bytes.now result }
+        ensures cause { HasCause 0 0 result }
+        ensures whole { result ≡ Ok (length bytes.now) }
+    {
+        Ok(bytes.len())
+    }
+}

@@ -1,0 +1,37 @@
+ghost use Rattle.std.specs.Prelude.{ℕ, List, Option, OnOk, OnErr};
+ghost use Rattle.cf_io.specs.Causes.{HasCause};
+ghost use Rattle.cf_io.specs.Puts.{Puts, Writes, WritesFront};
+
+use crate::failed::Failed;
+
+/// Something that bytes are written to, in order.
+pub trait Sink {
+    /// The bytes that were written, where the sink tells them.
+    ghost written: { Self → Option (List ℕ) };
+
+    /// How often the sink has failed, up to the greatest `u64`.
+    ghost faults: { Self → ℕ };
+
+    /// Writes bytes from the front of `bytes` and answers how many: at least 1 of a piece that is
+    /// not empty, and 0 of an empty one. They stand behind what was written before.
+    ///
+    /// `Failed` comes only where the sink's count of faults rose in this call. Nothing was
+    /// written then.
+    fn put(&mut self, bytes: &[u8]) -> Result<usize, Failed>
+        ensures bytes { Puts (written self.old) (written self.new) bytes.now result }
+        ensures cause { HasCause (faults self.old) (faults self.new) result };
+}
+
+/// Puts until all is written. After `Failed` a front of the bytes was written, and the sink's
+/// count of faults rose.
+pub fn put_all<K: Sink>(sink: &mut K, bytes: &[u8]) -> Result<(), Failed>
+    ensures all { OnOk result (Writes (K.written sink.old) (K.written sink.new) bytes.now) }
+    ensures front { OnErr result (WritesFront (K.written sink.old) (K.written sink.new) bytes.now) }
+    ensures cause { HasCause (K.faults sink.old) (K.faults sink.new) result }
+{
+    let mut done = 0;
+    while done < bytes.len() {
+        done += sink.put(&bytes[done..])?;
+    }
+    Ok(())
+}

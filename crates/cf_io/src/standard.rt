@@ -1,0 +1,102 @@
+ghost use Rattle.std.specs.Prelude.{◌≡◌, None};
+ghost use Rattle.std.specs.Io.KnownBytes.{ReadConsumes, WriteAppends};
+ghost use Rattle.cf_io.specs.Causes.{HasCause, CountsFaults};
+ghost use Rattle.cf_io.specs.Takes.{Takes};
+ghost use Rattle.cf_io.specs.Puts.{Puts};
+
+use crate::failed::Failed;
+use crate::sink::Sink;
+use crate::source::Source;
+use std::io::{Read, Write};
+
+/// A reader, such as standard input, as a source that does not tell what it has left. Its takes are
+/// the reader's own reads.
+#[derive(Drop)]
+pub struct StdSource<R: Read + Drop> {
+    inner: R,
+    faults: u64,
+}
+
+impl<R: Read + Drop> StdSource<R> {
+    /// A source over this reader, with no faults yet.
+    pub fn new(inner: R) -> Self
+        ensures { result ≡ record { inner = inner; faults = 0 } }
+    {
+        StdSource { inner, faults: 0 }
+    }
+}
+
+impl<R: Read + Drop> Source for StdSource<R> {
+    ghost left = { λ _. None };
+
+    ghost faults = { λ s. s.faults };
+
+    // A reader says nothing of the slice behind the bytes that it gave, nor of the slice after an
+    // error. So it reads into a buffer of our own.
+    fn take(&mut self, into: &mut [u8]) -> Result<usize, Failed>
+        ensures bytes { Takes None None into.old into.new result }
+        ensures cause { HasCause self.old.faults self.new.faults result }
+        ensures counted { CountsFaults self.old.faults self.new.faults result }
+        ensures reads { ReadConsumes (R.remaining self.old.inner) (R.remaining self.new.inner)
+            result into.new }
+    {
+        if into.is_empty() {
+            return Ok(0);
+        }
+        let mut buffer = [0u8; 4096];
+        let room = into.len().min(buffer.len());
+        match self.inner.read(&mut buffer[..room]) {
+            Ok(count) => {
+                into[..count].copy_from_slice(&buffer[..count]);
+                Ok(count)
+            }
+            Err(_) => {
+                self.faults = self.faults.saturating_add(1);
+                Err(Failed)
+            }
+        }
+    }
+}
+
+/// A writer, such as standard output, as a sink that does not tell what was written. It is never
+/// flushed, so it should be one that keeps nothing back. A write that takes nothing of a piece is
+/// a fault.
+#[derive(Drop)]
+pub struct StdSink<W: Write + Drop> {
+    inner: W,
+    faults: u64,
+}
+
+impl<W: Write + Drop> StdSink<W> {
+    /// A sink over this writer, with no faults yet.
+    pub fn new(inner: W) -> Self
+        ensures { result ≡ record { inner = inner; faults = 0 } }
+    {
+        StdSink { inner, faults: 0 }
+    }
+}
+
+impl<W: Write + Drop> Sink for StdSink<W> {
+    ghost written = { λ _. None };
+
+    ghost faults = { λ s. s.faults };
+
+    fn put(&mut self, bytes: &[u8]) -> Result<usize, Failed>
+        ensures bytes { Puts None None bytes.now result }
+        ensures cause { HasCause self.old.faults self.new.faults result }
+        ensures counted { CountsFaults self.old.faults self.new.faults result }
+        ensures writes { WriteAppends (W.contents self.old.inner) (W.contents self.new.inner)
+            result bytes.now }
+    {
+        if bytes.is_empty() {
+            return Ok(0);
+        }
+        match self.inner.write(bytes) {
+            Ok(count) if count > 0 => Ok(count),
+            _ => {
+                self.faults = self.faults.saturating_add(1);
+                Err(Failed)
+            }
+        }
+    }
+}
