@@ -1,0 +1,6 @@
+pub mod Masks
+pub mod Table
+pub mod Bounds
+pub mod OneWord
+pub mod Packed
+pub mod Reading

@@ -1,0 +1,9 @@
+pub mod Words
+pub mod Fields
+pub mod Formats
+pub mod Encoding
+pub mod Ranges
+pub mod Decoding
+pub mod Operands
+pub mod Arithmetic
+pub mod Accesses
