@@ -1,0 +1,11 @@
+pub mod Causes
+pub mod Finding
+pub mod Kept
+pub mod Lent
+pub mod Mapped
+pub mod Loads
+pub mod Parts
+pub mod Places
+pub mod RegionLemmas
+pub mod WriteBack
+pub mod Writes

@@ -1,0 +1,11 @@
+pub mod Access
+pub mod Area
+pub mod Bytes
+pub mod Causes
+pub mod Fetching
+pub mod Lending
+pub mod Loading
+pub mod Memory
+pub mod Ranges
+pub mod Refusal
+pub mod Writing

@@ -1,0 +1,19 @@
+//! The parts of a program.
+
+/// A part of a program as its file describes it: where its bytes lie in the file, and where and how they stand in
+/// memory.
+#[derive(Clone, Copy)]
+pub struct Part {
+    /// The address of its first byte in memory.
+    pub base: u32,
+    /// The index in the file of its first byte.
+    pub start: u32,
+    /// How many bytes of the file it has.
+    pub len: u32,
+    /// How many bytes it takes in memory: behind the file's bytes stand zeros.
+    pub size: u32,
+    /// Whether the program may write to it.
+    pub write: bool,
+    /// Whether its words may be fetched as instructions.
+    pub exec: bool,
+}
