@@ -1,0 +1,13 @@
+//! The sequential machine: RV32I, one instruction at a time.
+#![tactic(auto)]
+
+mod machine;
+mod outcome;
+mod serving;
+
+pub use machine::Machine;
+pub use outcome::{Retired, Served, Stepped};
+pub use serving::serve;
+
+#[cfg(test)]
+mod tests;

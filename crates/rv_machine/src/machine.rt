@@ -1,0 +1,352 @@
+#![tactic(auto, unfolding(crate::specs::Step::retire, crate::specs::Step::compute, crate::specs::Step::access_memory, crate::specs::Step::pass, crate::specs::Step::synchronize))]
+
+ghost use Rattle.std.specs.Prelude.{◌≡◌, ◌≢◌, ◌+◌, ◌<◌, ◌^◌, length, slice_index, true, IsTrue};
+ghost use Rattle.mem_regions.specs.Access.{IsWidth, bounds_of, permits_at};
+ghost use Rattle.mem_regions.specs.Ranges.{load_at};
+ghost use Rattle.mem_regions.specs.Fetching.{fetch_at};
+ghost use Rattle.rv_inst.specs.Ranges.{Fits};
+ghost use Rattle.rv_inst.specs.Decoding.{decoded};
+ghost use Rattle.rv_inst.specs.Arithmetic.{is_arithmetic};
+ghost use Rattle.rv_inst.specs.Accesses.{is_load};
+ghost use Rattle.rv_inst.specs.Operands.{class_of as class_name};
+ghost use Rattle.rv_machine.specs.Machine.{start_hart};
+ghost use Rattle.rv_machine.specs.Acts.{Acts, Does, Steps, Counts};
+ghost use Rattle.rv_machine.specs.Call.{call};
+ghost use Rattle.rv_machine.specs.Step.{with_register, retire as retirement, first_value, second_value, compute as computation, loads, stores, access_memory as memory_access, pass as passing, synchronize as synchronization, environment, serial as serial_step, execute as execution, interpret as interpretation, breaks as is_breaking, synchronizes as is_synchronizing};
+
+use crate::outcome::{Retired, Served, Stepped};
+use crate::serving::serve;
+use cf_io::{Sink, Source};
+use mem_regions::{MemErr, Regions};
+use rv_inst::{
+    Access, Class, Instr, access_of, alu, class_of, decode, dest, extend, next_of, sources,
+};
+use std::marker::Model;
+
+/// A machine between two instructions, seen as its hart.
+#[derive(Drop)]
+pub struct Machine {
+    pc: u32,
+    regs: [u32; 32],
+    mem: Regions,
+    retired: u64,
+}
+
+impl Model for Machine {
+    ghost use Rattle.std.specs.Prelude.{◌≡◌, slice_index};
+    ghost use Rattle.rv_machine.specs.Hart.{Hart};
+
+    ghost Value = { Hart };
+
+    ghost view = { λ m. record { pc = m.pc; regs = m.regs; mem = m.mem; retired = m.retired } };
+
+    ghost invariant = { λ m. slice_index m.regs 0 ≡ 0 };
+}
+
+#[inline(always)]
+fn synchronizes(i: Instr) -> bool
+    ensures { result ≡ is_synchronizing i }
+{
+    matches!(i, Instr::FenceI { .. })
+}
+
+#[inline(always)]
+fn breaks(i: Instr) -> bool
+    ensures { result ≡ is_breaking i }
+{
+    matches!(i, Instr::Ebreak)
+}
+
+#[inline(always)]
+fn write_register(regs: &mut [u32; 32], r: u8, value: u32)
+    requires { r < 32 }
+    ensures value { regs.new ≡ with_register regs.old r value }
+    ensures length { length regs.new ≡ 32 }
+{
+    // x0 is always zero.
+    if r != 0 {
+        regs[r as usize] = value;
+    }
+}
+
+impl Machine {
+    /// A machine at its start: at the entry, with x2 below the top of the stack, all other registers 0, and nothing
+    /// retired.
+    pub fn new(mem: Regions, entry: u32) -> Machine
+        ensures { result ≡ start_hart mem entry }
+    {
+        let mut regs = [0; 32];
+        regs[2] = 0x7f0f_fff0;
+        Machine {
+            pc: entry,
+            regs,
+            mem,
+            retired: 0,
+        }
+    }
+
+    /// The address of the next instruction.
+    pub fn pc(&self) -> u32
+        ensures { result ≡ self.now.pc }
+    {
+        self.pc
+    }
+
+    /// The 32 registers, of which x0 is always zero.
+    pub fn regs(&self) -> &[u32; 32]
+        ensures registers { result.now ≡ self.now.regs }
+        ensures zero { slice_index result.now 0 ≡ 0 }
+    {
+        &self.regs
+    }
+
+    /// The memory.
+    pub fn memory(&self) -> &Regions
+        ensures { result.now ≡ self.now.mem }
+    {
+        &self.mem
+    }
+
+    /// How many instructions have retired.
+    pub fn retired(&self) -> u64
+        ensures { result ≡ self.now.retired }
+    {
+        self.retired
+    }
+
+    #[inline(always)]
+    fn retire(&mut self, word: u32, next: u32, reg: u8, value: u32) -> Stepped
+        requires register { reg < 32 }
+        requires count { self.old.retired + 1 < 2 ^ 64 }
+        ensures does { Does (retirement self.old word next reg value) self.old self.new result }
+        ensures count { Counts self.old.retired self.new.retired result }
+    {
+        let pc = self.pc;
+        write_register(&mut self.regs, reg, value);
+        self.pc = next;
+        self.retired += 1;
+        let value = if reg == 0 { 0 } else { value };
+        Stepped::Next(Retired {
+            pc,
+            word,
+            reg,
+            value,
+        })
+    }
+
+    #[inline(always)]
+    fn trap(&self, cause: u8, detail: u32) -> Stepped
+        ensures { result ≡ Stepped.Trap cause self.now.pc detail }
+    {
+        Stepped::Trap {
+            cause,
+            pc: self.pc,
+            detail,
+        }
+    }
+
+    #[inline(always)]
+    fn source_values(&self, i: Instr) -> (u32, u32)
+        requires { Fits i }
+        ensures first { result.0 ≡ first_value self.now i }
+        ensures second { result.1 ≡ second_value self.now i }
+    {
+        let (first, second) = sources(i);
+        (self.regs[first as usize], self.regs[second as usize])
+    }
+
+    #[inline(always)]
+    fn compute(&mut self, word: u32, i: Instr) -> Stepped
+        requires fits { Fits i }
+        requires arithmetic { IsTrue (is_arithmetic (class_name i)) }
+        requires count { self.old.retired + 1 < 2 ^ 64 }
+        ensures does { Does (computation self.old word i) self.old self.new result }
+        ensures count { Counts self.old.retired self.new.retired result }
+    {
+        let (a, b) = self.source_values(i);
+        let next = next_of(i, self.pc, a, b);
+        if next % 4 != 0 {
+            return self.trap(0, next);
+        }
+        let value = alu(i, self.pc, a, b);
+        self.retire(word, next, dest(i), value)
+    }
+
+    #[inline(always)]
+    fn load(&mut self, word: u32, i: Instr, access: Access) -> Stepped
+        requires fits { Fits i }
+        requires load { IsTrue (is_load i) }
+        requires width { IsWidth access.width }
+        requires count { self.old.retired + 1 < 2 ^ 64 }
+        ensures does { Does (loads self.old word i access.addr (load_at self.old.mem access.addr access.width)) self.old self.new result }
+        ensures count { Counts self.old.retired self.new.retired result }
+    {
+        match self.mem.load_number(access.addr, access.width) {
+            Ok(raw) => self.retire(word, self.pc.wrapping_add(4), dest(i), extend(i, raw)),
+            Err(MemErr::Misaligned) => self.trap(4, access.addr),
+            Err(MemErr::NoAccess) => self.trap(5, access.addr),
+        }
+    }
+
+    #[inline(always)]
+    fn store(&mut self, word: u32, access: Access) -> Stepped
+        requires width { IsWidth access.width }
+        requires count { self.old.retired + 1 < 2 ^ 64 }
+        ensures does { Does (stores self.old word access (permits_at (bounds_of self.old.mem) access.addr access.width true)) self.old self.new result }
+        ensures count { Counts self.old.retired self.new.retired result }
+    {
+        match self.mem.store(access.addr, access.width, access.value) {
+            Ok(()) => self.retire(word, self.pc.wrapping_add(4), 0, 0),
+            Err(MemErr::Misaligned) => self.trap(6, access.addr),
+            Err(MemErr::NoAccess) => self.trap(7, access.addr),
+        }
+    }
+
+    #[inline(always)]
+    fn access_memory(&mut self, word: u32, i: Instr) -> Stepped
+        requires fits { Fits i }
+        requires memory { class_name i ≡ Class.Memory }
+        requires count { self.old.retired + 1 < 2 ^ 64 }
+        ensures does { Does (memory_access self.old word i) self.old self.new result }
+        ensures count { Counts self.old.retired self.new.retired result }
+    {
+        let (a, b) = self.source_values(i);
+        let access = access_of(i, a, b);
+        if access.write {
+            self.store(word, access)
+        } else {
+            self.load(word, i, access)
+        }
+    }
+
+    #[inline(always)]
+    fn pass(&mut self, word: u32, i: Instr) -> Stepped
+        requires count { self.old.retired + 1 < 2 ^ 64 }
+        ensures does { Does (passing self.old word i) self.old self.new result }
+        ensures count { Counts self.old.retired self.new.retired result }
+    {
+        if breaks(i) {
+            self.trap(3, self.pc)
+        } else {
+            self.retire(word, self.pc.wrapping_add(4), 0, 0)
+        }
+    }
+
+    #[inline(always)]
+    fn synchronize(&mut self, word: u32) -> Stepped
+        requires count { self.old.retired + 1 < 2 ^ 64 }
+        ensures does { Does (synchronization self.old word) self.old self.new result }
+        ensures count { Counts self.old.retired self.new.retired result }
+    {
+        self.mem.sync_code();
+        self.retire(word, self.pc.wrapping_add(4), 0, 0)
+    }
+
+    fn call_environment<S: Source, K: Sink>(
+        &mut self,
+        word: u32,
+        input: &mut S,
+        output: &mut K,
+    ) -> Stepped
+        requires count { self.old.retired + 1 < 2 ^ 64 }
+        ensures acts { Acts (λ rest. environment self.old word (call self.old.regs self.old.mem rest)) self.old self.new (S.left input.old) (S.left input.new) (K.written output.old) (K.written output.new) result }
+        ensures count { Counts self.old.retired self.new.retired result }
+        ensures no_faults { (result ≢ Stepped.ReadFault) × (result ≢ Stepped.WriteFault) }
+    {
+        match serve(&self.regs, &mut self.mem, input, output) {
+            Served::Value(value) => self.retire(word, self.pc.wrapping_add(4), 10, value),
+            Served::Exit(status) => Stepped::Exit(status),
+            Served::ReadFault => Stepped::ReadFault,
+            Served::WriteFault => Stepped::WriteFault,
+        }
+    }
+
+    #[inline(always)]
+    fn fetch(&self) -> Result<u32, MemErr>
+        ensures { result ≡ fetch_at self.now.mem self.now.pc }
+    {
+        self.mem.fetch(self.pc)
+    }
+
+    #[inline(always)]
+    fn serial<S: Source, K: Sink>(
+        &mut self,
+        word: u32,
+        i: Instr,
+        input: &mut S,
+        output: &mut K,
+    ) -> Stepped
+        requires count { self.old.retired + 1 < 2 ^ 64 }
+        ensures acts { Acts (λ rest. serial_step self.old rest word i) self.old self.new (S.left input.old) (S.left input.new) (K.written output.old) (K.written output.new) result }
+        ensures count { Counts self.old.retired self.new.retired result }
+        ensures no_faults { (result ≢ Stepped.ReadFault) × (result ≢ Stepped.WriteFault) }
+    {
+        if synchronizes(i) {
+            self.synchronize(word)
+        } else {
+            self.call_environment(word, input, output)
+        }
+    }
+
+    #[inline(always)]
+    fn execute<S: Source, K: Sink>(
+        &mut self,
+        word: u32,
+        i: Instr,
+        input: &mut S,
+        output: &mut K,
+    ) -> Stepped
+        requires fits { Fits i }
+        requires count { self.old.retired + 1 < 2 ^ 64 }
+        ensures acts { Acts (λ rest. execution (class_name i) self.old rest word i) self.old self.new (S.left input.old) (S.left input.new) (K.written output.old) (K.written output.new) result }
+        ensures count { Counts self.old.retired self.new.retired result }
+        ensures no_faults { (result ≢ Stepped.ReadFault) × (result ≢ Stepped.WriteFault) }
+    {
+        match class_of(i) {
+            Class::Add
+            | Class::Logic
+            | Class::Shift
+            | Class::Compare
+            | Class::Branch
+            | Class::Jump => { self.compute(word, i) }
+            Class::Memory => self.access_memory(word, i),
+            Class::Serial => self.serial(word, i, input, output),
+            Class::Free => self.pass(word, i),
+            Class::Mul | Class::Div => self.trap(2, word),
+        }
+    }
+
+    #[inline(always)]
+    fn interpret<S: Source, K: Sink>(&mut self, word: u32, input: &mut S, output: &mut K) -> Stepped
+        requires count { self.old.retired + 1 < 2 ^ 64 }
+        ensures acts { Acts (λ rest. interpretation self.old rest word (decoded word)) self.old self.new (S.left input.old) (S.left input.new) (K.written output.old) (K.written output.new) result }
+        ensures count { Counts self.old.retired self.new.retired result }
+        ensures no_faults { (result ≢ Stepped.ReadFault) × (result ≢ Stepped.WriteFault) }
+    {
+        match decode(word) {
+            Some(i) => self.execute(word, i, input, output),
+            None => self.trap(2, word),
+        }
+    }
+
+    /// Makes one step: the instruction at the program counter retires, traps or ends the program.
+    ///
+    /// After `Next` the machine is the one after the instruction; after a trap, an exit or a fault its program
+    /// counter, registers and count are what they were.
+    #[inline(always)]
+    pub fn step<S: Source, K: Sink>(&mut self, input: &mut S, output: &mut K) -> Stepped
+        requires { self.old.retired + 1 < 2 ^ 64 }
+        ensures steps { Steps self.old self.new (S.left input.old) (S.left input.new) (K.written output.old) (K.written output.new) result }
+        ensures count { Counts self.old.retired self.new.retired result }
+        ensures no_faults { (result ≢ Stepped.ReadFault) × (result ≢ Stepped.WriteFault) }
+    {
+        let pc = self.pc();
+        if pc % 4 != 0 {
+            return self.trap(0, pc);
+        }
+        match self.fetch() {
+            Ok(word) => self.interpret(word, input, output),
+            Err(_) => self.trap(1, pc),
+        }
+    }
+}

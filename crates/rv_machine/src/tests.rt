@@ -1,0 +1,153 @@
+use super::*;
+use cf_io::{Empty, MemSink, Nowhere};
+use mem_regions::{Part, Regions};
+use std::process::Abort;
+use std::test::Fail;
+
+/// Where the words of a program stand.
+const BASE: u32 = 0x1_0000;
+
+/// A machine whose words stand at `BASE` in a region that may be read, written and executed, with a stack of 1 MiB.
+fn machine_of(rt: &(impl Abort + AllocGlobal), words: &[u32], entry: u32) -> Result<Machine, Fail> {
+    assert!(rt; words.len() <= 16);
+    let mut file = Vec::new(rt.alloc());
+    for word in words {
+        file.extend_from_slice(&word.to_le_bytes())?;
+    }
+    assert!(rt; file.len() == 4 * words.len());
+    let size = file.len() as u32;
+    let image = Part {
+        base: BASE,
+        start: 0,
+        len: size,
+        size,
+        write: true,
+        exec: true,
+    };
+    let stack = Part {
+        base: 0x7f00_0000,
+        start: 0,
+        len: 0,
+        size: 0x10_0000,
+        write: true,
+        exec: false,
+    };
+    let memory = Regions::load(rt.alloc(), file.as_slice(), &[image, stack])?;
+    Ok(Machine::new(memory, entry))
+}
+
+/// Steps until an instruction does not retire.
+fn run(machine: &mut Machine) -> Stepped {
+    for _ in 0..100 {
+        if machine.retired() > 1000 {
+            break;
+        }
+        match machine.step(&mut Empty, &mut Nowhere) {
+            Stepped::Next(_) => {}
+            end => return end,
+        }
+    }
+    Stepped::ReadFault
+}
+
+fn trap(cause: u8, pc: u32, detail: u32) -> Stepped {
+    Stepped::Trap { cause, pc, detail }
+}
+
+#[test]
+fn ends_as_the_manual_says(rt: HostRuntime) -> Result<(), Fail> {
+    let cases = [
+        // jalr x1, 2(x0): the target is no multiple of 4.
+        ([0x0020_00e7].as_slice(), trap(0, BASE, 2), 0),
+        // lui x5, 0x7f100; lw x6, -2(x5): the address is no multiple of 4, which is looked for first.
+        (
+            [0x7f10_02b7, 0xffe2_a303].as_slice(),
+            trap(4, BASE + 4, 0x7f0f_fffe),
+            1,
+        ),
+        (
+            [0x7f10_02b7, 0x0022_a303].as_slice(),
+            trap(4, BASE + 4, 0x7f10_0002),
+            1,
+        ),
+        // lw x6, 0(x5): one byte behind the stack.
+        (
+            [0x7f10_02b7, 0x0002_a303].as_slice(),
+            trap(5, BASE + 4, 0x7f10_0000),
+            1,
+        ),
+        // ebreak
+        ([0x0010_0073].as_slice(), trap(3, BASE, BASE), 0),
+        // no instruction
+        ([0xffff_ffff].as_slice(), trap(2, BASE, 0xffff_ffff), 0),
+        // addi x6, x0, 6; addi x7, x0, 7; mul x10, x6, x7: the base machine does not multiply.
+        (
+            [0x0060_0313, 0x0070_0393, 0x0273_0533].as_slice(),
+            trap(2, BASE + 8, 0x0273_0533),
+            2,
+        ),
+        // A program that writes its last instruction over its fifth: with fence.i it is fetched anew, with fence not.
+        (
+            [
+                0x0001_02b7,
+                0x01c2_a303,
+                0x0062_a823,
+                0x0000_100f,
+                0x0010_0513,
+                0x05d0_0893,
+                0x0000_0073,
+                0x0090_0513,
+            ]
+            .as_slice(),
+            Stepped::Exit(9),
+            6,
+        ),
+        (
+            [
+                0x0001_02b7,
+                0x01c2_a303,
+                0x0062_a823,
+                0x0ff0_000f,
+                0x0010_0513,
+                0x05d0_0893,
+                0x0000_0073,
+                0x0090_0513,
+            ]
+            .as_slice(),
+            Stepped::Exit(1),
+            6,
+        ),
+    ];
+    for (words, end, retired) in cases {
+        let mut machine = machine_of(&rt, words, BASE)?;
+        assert_eq!(rt; run(&mut machine), end);
+        assert_eq!(rt; machine.retired(), retired);
+    }
+    Ok(())
+}
+
+#[test]
+fn entry_is_no_multiple_of_four(rt: HostRuntime) -> Result<(), Fail> {
+    let mut machine = machine_of(&rt, &[0x0070_0513], BASE + 2)?;
+    assert_eq!(rt; run(&mut machine), trap(0, BASE + 2, BASE + 2));
+    Ok(())
+}
+
+#[test]
+fn serves_exit_and_refuses_other_numbers(rt: HostRuntime) -> Result<(), Fail> {
+    let machine = machine_of(&rt, &[], BASE)?;
+    let mut regs = *machine.regs();
+    regs[10] = 0x107;
+    let mut memory = Regions::load(rt.alloc(), b"", &[])?;
+    let mut output = MemSink::new(rt.alloc(), 1, Vec::new(rt.alloc()))?;
+    for (number, wanted) in [
+        (93, Served::Exit(7)),
+        (94, Served::Exit(7)),
+        (500, Served::Value(0xffff_ffda)),
+    ] {
+        regs[17] = number;
+        let served = serve(&regs, &mut memory, &mut Empty, &mut output);
+        assert_eq!(rt; served, wanted);
+    }
+    Ok(())
+}
