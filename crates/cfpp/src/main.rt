@@ -1,0 +1,42 @@
+//! The simulator's program: it hands its words, the real files and the standard streams to the top call.
+#![tactic(auto)]
+
+use cf_io::{DirFiles, StdSink, StdSource};
+use cfpp_cli::cfpp;
+use std::io::{self, ErrorKind};
+use std::process::ExitCode;
+use std::{env, rt};
+
+/// The status where memory for the words was refused.
+const NO_MEMORY: u8 = 130;
+
+/// The status where the words cannot be had for another cause, as one that is not UTF-8.
+const NO_WORDS: u8 = 133;
+
+/// The words of the command line, without the program's own name.
+fn words_of<R: rt::Env + AllocGlobal>(rt: &R) -> io::Result<Vec<String>> {
+    let mut args = env::args(rt)?;
+    let _name = args.next();
+    Ok(args.collect(rt.alloc())?)
+}
+
+fn main(rt: HostRuntime) -> ExitCode {
+    let words = match words_of(&rt) {
+        Ok(words) => words,
+        Err(error) if error.kind() == ErrorKind::OutOfMemory => return ExitCode::from(NO_MEMORY),
+        Err(_) => return ExitCode::from(NO_WORDS),
+    };
+    let mut files = DirFiles::new(&rt);
+    let mut input = StdSource::new(rt.stdin());
+    let mut output = StdSink::new(rt.stdout());
+    let mut report = StdSink::new(rt.stderr());
+    let status = cfpp(
+        rt.alloc(),
+        words.as_slice(),
+        &mut files,
+        &mut input,
+        &mut output,
+        &mut report,
+    );
+    ExitCode::from(status.code())
+}

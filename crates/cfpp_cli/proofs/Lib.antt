@@ -1,0 +1,4 @@
+pub mod Commands
+pub mod Flat
+pub mod Programs
+pub mod Runs

@@ -1,0 +1,14 @@
+-- The status that the process ends with.
+use Rattle.std.specs.Prelude.{ℕ}
+use Rattle.cfpp_cli.specs.declared.status.Status.{Status}
+use Rattle.cfpp_cli.specs.declared.status.Status.TheVariants as status
+
+abbrev pub code_of : Status → ℕ
+code_of (status.Exit code) = code
+code_of (status.Trap cause pc detail) = 120
+code_of (status.Limit limit) = 121
+code_of (status.BadWords index) = 122
+code_of (status.BadProgram error) = 124
+code_of (status.ReadFault which) = 128
+code_of status.WriteFault = 129
+code_of status.NoMemory = 130

@@ -1,0 +1,35 @@
+-- The words of the command line, and the first of them that has no place.
+use Rattle.std.specs.Prelude.{◌≡◌, ◌≤◌, ◌+◌, ℕ, List, [], ◌∷◌, codes, length, take, nat_eq, Bool, true, false, not, Result, Ok, Err, if◌then◌else◌}
+use Rattle.std.specs.List.{starts_with}
+use lib.Pointwise.{pointwise}
+
+-- a word that may name a file: it is not empty and does not begin as an option does
+abbrev pub is_file_name : List ℕ → Bool
+is_file_name [] = false
+is_file_name (byte ∷ bytes) = not (starts_with nat_eq (byte ∷ bytes) (codes "--"))
+
+-- the words run the sequential machine on a program
+pub record IsMachine (words : List (List ℕ)) (program : List ℕ) : Type 0 where
+  pub words_are : words ≡ codes "machine" ∷ program ∷ []
+  pub named : is_file_name program ≡ true
+
+-- the words are those of a command
+abbrev pub IsCommand : List (List ℕ) → Type 0
+IsCommand words = (program : List ℕ) × IsMachine words program
+
+-- the words before this index begin those of some command; with the word at it, or with none there, they begin those of no command
+pub record IsBadAt (words : List (List ℕ)) (index : ℕ) : Type 0 where
+  pub within : index ≤ length words
+  pub begun : (command : List (List ℕ)) × IsCommand command × (take index command ≡ take index words)
+  pub no_further : (command : List (List ℕ)) → IsCommand command → take (index + 1) command ≡ take (index + 1) words → ⊥
+
+-- the word is `machine`
+abbrev pub is_machine : List ℕ → Bool
+is_machine word = pointwise nat_eq word (codes "machine")
+
+-- the program that the words name, or the index of the first word that has no place
+unfoldable pub program_of : List (List ℕ) → Result (List ℕ) ℕ
+program_of [] = Err 0
+program_of (first ∷ []) = if is_machine first then Err 1 else Err 0
+program_of (first ∷ name ∷ []) = if is_machine first then (if is_file_name name then Ok name else Err 1) else Err 0
+program_of (first ∷ name ∷ more ∷ words) = if is_machine first then (if is_file_name name then Err 2 else Err 1) else Err 0

@@ -1,0 +1,69 @@
+ghost use Rattle.std.specs.Prelude.{◌≡◌};
+
+/// What could not be read.
+#[derive(Clone, Copy, Debug, PartialEq, Eq)]
+pub enum Which {
+    Layout,
+    Program,
+    Script,
+    Source,
+    Input,
+}
+
+/// Why a file is no program.
+#[derive(Clone, Copy, Debug, PartialEq, Eq)]
+pub enum ProgramErr {
+    /// It has over 33,554,432 bytes.
+    TooLong,
+
+    /// It begins as an ELF file does, and ELF files are not read yet.
+    NotBuilt,
+}
+
+/// How a call of the simulator ended.
+#[derive(Clone, Copy, Debug, PartialEq, Eq)]
+pub enum Status {
+    /// The program ended itself with this code.
+    Exit(u8),
+
+    /// An instruction trapped: the cause, its address, and the address or the word at fault.
+    Trap { cause: u8, pc: u32, detail: u32 },
+
+    /// So many instructions had retired, and the program had not ended.
+    Limit(Option<u64>),
+
+    /// The words are not those of any command: the index of the first that has no place.
+    BadWords(u32),
+
+    /// The file is no program.
+    BadProgram(ProgramErr),
+
+    /// A file or the input could not be read.
+    ReadFault(Which),
+
+    /// The output or the report could not be written.
+    WriteFault,
+
+    /// Memory was refused, before anything was written.
+    NoMemory,
+}
+
+impl Status {
+    ghost use Rattle.cfpp_cli.specs.Codes.{code_of};
+
+    /// The status that the process ends with: a program's own, or one from 120 on.
+    pub fn code(&self) -> u8
+        ensures { result ≡ code_of self.now }
+    {
+        match self {
+            Status::Exit(code) => *code,
+            Status::Trap { .. } => 120,
+            Status::Limit(_) => 121,
+            Status::BadWords(_) => 122,
+            Status::BadProgram(_) => 124,
+            Status::ReadFault(_) => 128,
+            Status::WriteFault => 129,
+            Status::NoMemory => 130,
+        }
+    }
+}
