@@ -1,11 +1,7 @@
--- The outside at one moment: what each part of it tells, and how often it has failed.
+-- The outside of the top call at one moment: what each part of it tells, and how often it has failed.
 use Rattle.std.specs.Prelude.{ℕ, List, Option}
 use Rattle.cf_io.specs.Reads.{Told}
-
--- what the program's input has left, and what was written to its output, where they tell it
-pub record Streams : Type 0 where
-  pub input : Option (List ℕ)
-  pub output : Option (List ℕ)
+use Rattle.rv_machine.specs.Streams.{Streams, streams_of}
 
 -- the files and the program's streams
 pub record Outside : Type 0 where
@@ -13,16 +9,14 @@ pub record Outside : Type 0 where
   pub file_faults : ℕ
   pub streams : Streams
 
--- what was written to the report, where it tells it
+-- the report: what was written to it, where it tells that
 pub record Report : Type 0 where
   pub written : Option (List ℕ)
   pub faults : ℕ
 
-abbrev pub streams_of : Option (List ℕ) → Option (List ℕ) → Streams
-streams_of input output = record { input = input; output = output }
-
 abbrev pub outside_of : Option Told → ℕ → Option (List ℕ) → Option (List ℕ) → Outside
-outside_of files faults input output = record { files = files; file_faults = faults; streams = streams_of input output }
+outside_of files faults input output =
+    record { files = files; file_faults = faults; streams = streams_of input output }
 
 abbrev pub report_of : Option (List ℕ) → ℕ → Report
 report_of written faults = record { written = written; faults = faults }

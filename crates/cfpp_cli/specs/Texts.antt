@@ -14,7 +14,11 @@ hex_digit d = if nat_lt d 10 then 48 + d else 87 + d
 
 -- a word as eight hexadecimal digits
 abbrev pub hex8 : ℕ → List ℕ
-hex8 w = hex_digit (w / 268435456 % 16) ∷ hex_digit (w / 16777216 % 16) ∷ hex_digit (w / 1048576 % 16) ∷ hex_digit (w / 65536 % 16) ∷ hex_digit (w / 4096 % 16) ∷ hex_digit (w / 256 % 16) ∷ hex_digit (w / 16 % 16) ∷ hex_digit (w % 16) ∷ []
+hex8 w =
+    hex_digit (w / 0x10000000 % 16) ∷ hex_digit (w / 0x1000000 % 16)
+    ∷ hex_digit (w / 0x100000 % 16) ∷ hex_digit (w / 0x10000 % 16)
+    ∷ hex_digit (w / 0x1000 % 16) ∷ hex_digit (w / 0x100 % 16)
+    ∷ hex_digit (w / 0x10 % 16) ∷ hex_digit (w % 16) ∷ []
 
 -- x and two decimal digits
 abbrev pub register_name : ℕ → List ℕ
@@ -39,4 +43,6 @@ counted_line name n = name ++ decimal n ++ newline
 
 -- the line of a trap
 unfoldable pub trap_line : ℕ → ℕ → ℕ → List ℕ
-trap_line cause pc detail = codes "trap " ++ decimal cause ++ codes " at " ++ hex8 pc ++ codes " detail " ++ hex8 detail ++ newline
+trap_line cause pc detail =
+    codes "trap " ++ decimal cause ++ codes " at " ++ hex8 pc ++ codes " detail "
+    ++ hex8 detail ++ newline

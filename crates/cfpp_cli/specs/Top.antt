@@ -4,11 +4,12 @@ use Rattle.cf_io.specs.Causes.{Rose}
 use Rattle.cf_io.specs.Puts.{Writes, WritesFront}
 use Rattle.cf_io.specs.Reads.{Told, with_failed}
 use Rattle.rv_machine.specs.Hart.{Hart}
+use Rattle.rv_machine.specs.Streams.{Streams}
 use Rattle.cfpp_cli.specs.Texts.{line, counted_line}
 use Rattle.cfpp_cli.specs.Words.{IsMachine, IsBadAt}
 use Rattle.cfpp_cli.specs.Image.{opened}
 use Rattle.cfpp_cli.specs.Finish.{Runs, closing}
-use Rattle.cfpp_cli.specs.Outside.{Streams, Outside, Report}
+use Rattle.cfpp_cli.specs.Outside.{Outside, Report}
 use Rattle.cfpp_cli.specs.declared.running.Finish.{Finish}
 use Rattle.cfpp_cli.specs.declared.running.Finish.TheVariants as finish
 use Rattle.cfpp_cli.specs.declared.status.Status.{Status}
@@ -27,7 +28,9 @@ default_limit = 10000000
 -- the file's first bytes, one more than a program may have; the read leaves what the files tell as it was
 abbrev pub IsFront : Option Told → Option Told → List ℕ → List ℕ → Type 0
 IsFront None after name image = Unit {0}
-IsFront (Some told) after name image = (content : List ℕ) × (told.content name ≡ Some content) × (image ≡ take (most_bytes + 1) content) × (after ≡ Some told)
+IsFront (Some told) after name image =
+    (content : List ℕ) × (told.content name ≡ Some content)
+    × (image ≡ take (most_bytes + 1) content) × (after ≡ Some told)
 
 -- files that tell have noted a failed read by this name
 abbrev pub NotesFailure : Option Told → Option Told → List ℕ → Type 0
@@ -39,7 +42,8 @@ abbrev pub IsElf : List ℕ → Type 0
 IsElf image = take 4 image ≡ 0x7f ∷ codes "ELF"
 
 -- the image was run, finished so, and this is its closing report
-pub record RunsImage (image : List ℕ) (before after : Streams) (finish : Finish) (report : List ℕ) : Type 0 where
+pub record RunsImage (image : List ℕ) (before after : Streams) (finish : Finish)
+    (report : List ℕ) : Type 0 where
   pub fits : length image ≤ most_bytes
   pub flat : IsElf image → ⊥
   pub last : Hart
@@ -54,18 +58,27 @@ status_of finish.Limit = status.Limit (Some default_limit)
 
 -- the status and the report that an image comes to
 abbrev pub ComesTo : List ℕ → Streams → Streams → Status → List ℕ → Type 0
-ComesTo image before after (status.Exit code) report = RunsImage image before after (finish.Exit code) report
-ComesTo image before after (status.Trap cause pc detail) report = RunsImage image before after (finish.Trap cause pc detail) report
-ComesTo image before after (status.Limit limit) report = (limit ≡ Some default_limit) × RunsImage image before after finish.Limit report
-ComesTo image before after (status.BadProgram program.TooLong) report = (most_bytes < length image) × (report ≡ line (codes "bad program: TooLong")) × (after ≡ before)
-ComesTo image before after (status.BadProgram program.NotBuilt) report = (length image ≤ most_bytes) × IsElf image × (report ≡ line (codes "bad program: NotBuilt")) × (after ≡ before)
-ComesTo image before after status.NoMemory report = (report ≡ line (codes "no memory")) × (after ≡ before)
+ComesTo image before after (status.Exit code) report =
+    RunsImage image before after (finish.Exit code) report
+ComesTo image before after (status.Trap cause pc detail) report =
+    RunsImage image before after (finish.Trap cause pc detail) report
+ComesTo image before after (status.Limit limit) report =
+    (limit ≡ Some default_limit) × RunsImage image before after finish.Limit report
+ComesTo image before after (status.BadProgram program.TooLong) report =
+    (most_bytes < length image) × (report ≡ line (codes "bad program: TooLong"))
+    × (after ≡ before)
+ComesTo image before after (status.BadProgram program.NotBuilt) report =
+    (length image ≤ most_bytes) × IsElf image
+    × (report ≡ line (codes "bad program: NotBuilt")) × (after ≡ before)
+ComesTo image before after status.NoMemory report =
+    (report ≡ line (codes "no memory")) × (after ≡ before)
 ComesTo image before after (status.BadWords index) report = ⊥
 ComesTo image before after (status.ReadFault file) report = ⊥
 ComesTo image before after status.WriteFault report = ⊥
 
 -- the words name a program, its file was read, and its image comes to this
-pub record RunsProgram (words : List (List ℕ)) (before after : Outside) (answer : Status) (report : List ℕ) : Type 0 where
+pub record RunsProgram (words : List (List ℕ)) (before after : Outside) (answer : Status)
+    (report : List ℕ) : Type 0 where
   pub name : List ℕ
   pub image : List ℕ
   pub words_are : IsMachine words name
@@ -73,7 +86,8 @@ pub record RunsProgram (words : List (List ℕ)) (before after : Outside) (answe
   pub comes_to : ComesTo image before.streams after.streams answer report
 
 -- the words name a program, and its file could not be read
-pub record CannotRead (words : List (List ℕ)) (before after : Outside) (report : List ℕ) : Type 0 where
+pub record CannotRead (words : List (List ℕ)) (before after : Outside) (report : List ℕ) :
+    Type 0 where
   pub name : List ℕ
   pub words_are : IsMachine words name
   pub noted : NotesFailure before.files after.files name
@@ -82,14 +96,16 @@ pub record CannotRead (words : List (List ℕ)) (before after : Outside) (report
   pub streams : after.streams ≡ before.streams
 
 -- the words name a program, and memory for it was refused
-pub record LacksMemory (words : List (List ℕ)) (before after : Outside) (report : List ℕ) : Type 0 where
+pub record LacksMemory (words : List (List ℕ)) (before after : Outside) (report : List ℕ) :
+    Type 0 where
   pub name : List ℕ
   pub words_are : IsMachine words name
   pub reports : report ≡ line (codes "no memory")
   pub streams : after.streams ≡ before.streams
 
 -- the words are those of no command, and no file was read
-pub record RefusesWords (words : List (List ℕ)) (index : ℕ) (before after : Outside) (report : List ℕ) : Type 0 where
+pub record RefusesWords (words : List (List ℕ)) (index : ℕ) (before after : Outside)
+    (report : List ℕ) : Type 0 where
   pub bad : IsBadAt words index
   pub files : after.files ≡ before.files
   pub reports : report ≡ counted_line (codes "bad words at ") index
@@ -97,12 +113,18 @@ pub record RefusesWords (words : List (List ℕ)) (index : ℕ) (before after : 
 
 -- the answer and the report, before the report is put
 abbrev pub Answers : List (List ℕ) → Outside → Outside → Status → List ℕ → Type 0
-Answers words before after (status.Exit code) report = RunsProgram words before after (status.Exit code) report
-Answers words before after (status.Trap cause pc detail) report = RunsProgram words before after (status.Trap cause pc detail) report
-Answers words before after (status.Limit limit) report = RunsProgram words before after (status.Limit limit) report
-Answers words before after (status.BadProgram error) report = RunsProgram words before after (status.BadProgram error) report
-Answers words before after (status.BadWords index) report = RefusesWords words index before after report
-Answers words before after (status.ReadFault which.Program) report = CannotRead words before after report
+Answers words before after (status.Exit code) report =
+    RunsProgram words before after (status.Exit code) report
+Answers words before after (status.Trap cause pc detail) report =
+    RunsProgram words before after (status.Trap cause pc detail) report
+Answers words before after (status.Limit limit) report =
+    RunsProgram words before after (status.Limit limit) report
+Answers words before after (status.BadProgram error) report =
+    RunsProgram words before after (status.BadProgram error) report
+Answers words before after (status.BadWords index) report =
+    RefusesWords words index before after report
+Answers words before after (status.ReadFault which.Program) report =
+    CannotRead words before after report
 Answers words before after (status.ReadFault which.Layout) report = ⊥
 Answers words before after (status.ReadFault which.Script) report = ⊥
 Answers words before after (status.ReadFault which.Source) report = ⊥
@@ -114,10 +136,12 @@ Answers words before after status.WriteFault report = ⊥
 abbrev pub Reports : Report → Report → List ℕ → Status → Status → Type 0
 Reports before after text answer result =
     ((result ≡ answer) × Writes before.written after.written text)
-    ⊎ ((result ≡ status.WriteFault) × WritesFront before.written after.written text × Rose before.faults after.faults)
+    ⊎ ((result ≡ status.WriteFault) × WritesFront before.written after.written text
+    × Rose before.faults after.faults)
 
 -- the top call: its words, the outside and the report before and after it, and its status
-pub record IsTop (words : List (List ℕ)) (before after : Outside) (blank full : Report) (result : Status) : Type 0 where
+pub record IsTop (words : List (List ℕ)) (before after : Outside) (blank full : Report)
+    (result : Status) : Type 0 where
   pub answer : Status
   pub text : List ℕ
   pub answers : Answers words before after answer text

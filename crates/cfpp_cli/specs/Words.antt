@@ -20,8 +20,10 @@ IsCommand words = (program : List ℕ) × IsMachine words program
 -- the words before this index begin those of some command; with the word at it, or with none there, they begin those of no command
 pub record IsBadAt (words : List (List ℕ)) (index : ℕ) : Type 0 where
   pub within : index ≤ length words
-  pub begun : (command : List (List ℕ)) × IsCommand command × (take index command ≡ take index words)
-  pub no_further : (command : List (List ℕ)) → IsCommand command → take (index + 1) command ≡ take (index + 1) words → ⊥
+  pub begun : (command : List (List ℕ)) × IsCommand command
+      × (take index command ≡ take index words)
+  pub no_further : (command : List (List ℕ)) → IsCommand command →
+      take (index + 1) command ≡ take (index + 1) words → ⊥
 
 -- the word is `machine`
 abbrev pub is_machine : List ℕ → Bool
@@ -31,5 +33,7 @@ is_machine word = pointwise nat_eq word (codes "machine")
 unfoldable pub program_of : List (List ℕ) → Result (List ℕ) ℕ
 program_of [] = Err 0
 program_of (first ∷ []) = if is_machine first then Err 1 else Err 0
-program_of (first ∷ name ∷ []) = if is_machine first then (if is_file_name name then Ok name else Err 1) else Err 0
-program_of (first ∷ name ∷ more ∷ words) = if is_machine first then (if is_file_name name then Err 2 else Err 1) else Err 0
+program_of (first ∷ name ∷ []) =
+    if is_machine first then (if is_file_name name then Ok name else Err 1) else Err 0
+program_of (first ∷ name ∷ more ∷ words) =
+    if is_machine first then (if is_file_name name then Err 2 else Err 1) else Err 0

@@ -1,6 +1,6 @@
 ghost use Rattle.std.specs.Prelude.{◌≡◌, ◌+◌, ◌<◌, ◌≤◌, ◌^◌};
 ghost use Rattle.cfpp_cli.specs.Finish.{Runs};
-ghost use Rattle.cfpp_cli.specs.Outside.{streams_of};
+ghost use Rattle.rv_machine.specs.Streams.{streams_of};
 
 use cf_io::{Sink, Source};
 use rv_machine::{Machine, Stepped};
@@ -26,7 +26,9 @@ pub fn run<S: Source, K: Sink>(
     limit: u64,
 ) -> Finish
     requires { machine.old.retired + limit < 2 ^ 64 }
-    ensures { Runs machine.old machine.new (streams_of (S.left input.old) (K.written output.old)) (streams_of (S.left input.new) (K.written output.new)) limit result }
+    ensures { Runs machine.old machine.new
+        (streams_of (S.left input.old) (K.written output.old))
+        (streams_of (S.left input.new) (K.written output.new)) limit result }
 {
     for done in 0..limit {
         match machine.step(input, output) {

@@ -1,5 +1,6 @@
 ghost use Rattle.std.specs.Prelude.{◌≡◌, ◌≤◌, ◌<◌, ◌++◌, map, string_bytes, length};
-ghost use Rattle.cfpp_cli.specs.Outside.{outside_of, streams_of, report_of};
+ghost use Rattle.rv_machine.specs.Streams.{streams_of};
+ghost use Rattle.cfpp_cli.specs.Outside.{outside_of, report_of};
 ghost use Rattle.cfpp_cli.specs.Top.{Answers, ComesTo, IsTop, status_of as status_for};
 ghost use Rattle.cfpp_cli.specs.Texts.{line as line_of, counted_line};
 
@@ -57,7 +58,9 @@ fn run_image<S: Source, K: Sink>(
     input: &mut S,
     output: &mut K,
 ) -> (Status, Page)
-    ensures { ComesTo image.now (streams_of (S.left input.old) (K.written output.old)) (streams_of (S.left input.new) (K.written output.new)) result.0 result.1.items }
+    ensures { ComesTo image.now
+        (streams_of (S.left input.old) (K.written output.old))
+        (streams_of (S.left input.new) (K.written output.new)) result.0 result.1.items }
 {
     if image.len() as u64 > MOST_BYTES {
         let status = Status::BadProgram(ProgramErr::TooLong);
@@ -83,7 +86,10 @@ fn decide<F: Files, S: Source, K: Sink>(
     input: &mut S,
     output: &mut K,
 ) -> (Status, Page)
-    ensures { Answers (map string_bytes words.now) (outside_of (F.told files.old) (F.faults files.old) (S.left input.old) (K.written output.old)) (outside_of (F.told files.new) (F.faults files.new) (S.left input.new) (K.written output.new)) result.0 result.1.items }
+    ensures { Answers (map string_bytes words.now)
+        (outside_of (F.told files.old) (F.faults files.old) (S.left input.old) (K.written output.old))
+        (outside_of (F.told files.new) (F.faults files.new) (S.left input.new) (K.written output.new))
+        result.0 result.1.items }
 {
     let program = match program_word(words) {
         Ok(program) => program,
@@ -116,7 +122,11 @@ pub fn cfpp<F: Files, S: Source, K: Sink, R: Sink>(
     output: &mut K,
     report: &mut R,
 ) -> Status
-    ensures top { IsTop (map string_bytes words.now) (outside_of (F.told files.old) (F.faults files.old) (S.left input.old) (K.written output.old)) (outside_of (F.told files.new) (F.faults files.new) (S.left input.new) (K.written output.new)) (report_of (R.written report.old) (R.faults report.old)) (report_of (R.written report.new) (R.faults report.new)) result }
+    ensures top { IsTop (map string_bytes words.now)
+        (outside_of (F.told files.old) (F.faults files.old) (S.left input.old) (K.written output.old))
+        (outside_of (F.told files.new) (F.faults files.new) (S.left input.new) (K.written output.new))
+        (report_of (R.written report.old) (R.faults report.old))
+        (report_of (R.written report.new) (R.faults report.new)) result }
 {
     let (status, page) = decide(alloc, words, files, input, output);
     match put_all(report, page.as_slice()) {

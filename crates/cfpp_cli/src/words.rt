@@ -10,7 +10,9 @@ fn is_file_name(word: &str) -> bool
 
 #[tactic(auto, unfolding(crate::specs::Words::program_of))]
 fn find_program(words: &[String]) -> Result<&str, u32>
-    ensures { MatchResult result (λ name. program_of (map string_bytes words.now) ≡ Ok name.now) (λ index. program_of (map string_bytes words.now) ≡ Err index) }
+    ensures { MatchResult result
+        (λ name. program_of (map string_bytes words.now) ≡ Ok name.now)
+        (λ index. program_of (map string_bytes words.now) ≡ Err index) }
 {
     match words {
         [] => Err(0),
@@ -25,7 +27,9 @@ fn find_program(words: &[String]) -> Result<&str, u32>
 /// The program's name among the words, or the index of the first word that has no place.
 #[tactic(auto, using(crate::proofs::Commands::commands))]
 pub fn program_word(words: &[String]) -> Result<&str, u32>
-    ensures { MatchResult result (λ name. IsMachine (map string_bytes words.now) name.now) (λ index. IsBadAt (map string_bytes words.now) index) }
+    ensures { MatchResult result
+        (λ name. IsMachine (map string_bytes words.now) name.now)
+        (λ index. IsBadAt (map string_bytes words.now) index) }
 {
     find_program(words)
 }

@@ -1,8 +1,8 @@
 pub mod Hart
 pub mod Machine
+pub mod Streams
 pub mod Outcome
 pub mod Call
 pub mod Step
 pub mod After
-pub mod Told
 pub mod Acts

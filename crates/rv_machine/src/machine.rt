@@ -10,6 +10,7 @@ ghost use Rattle.rv_inst.specs.Arithmetic.{is_arithmetic};
 ghost use Rattle.rv_inst.specs.Accesses.{is_load};
 ghost use Rattle.rv_inst.specs.Operands.{class_of as class_name};
 ghost use Rattle.rv_machine.specs.Machine.{start_hart};
+ghost use Rattle.rv_machine.specs.Streams.{streams_of};
 ghost use Rattle.rv_machine.specs.Acts.{Acts, Does, Steps, Counts};
 ghost use Rattle.rv_machine.specs.Call.{call};
 ghost use Rattle.rv_machine.specs.Step.{with_register, retire as retirement, first_value, second_value, compute as computation, loads, stores, access_memory as memory_access, pass as passing, synchronize as synchronization, environment, serial as serial_step, execute as execution, interpret as interpretation, breaks as is_breaking, synchronizes as is_synchronizing};
@@ -249,7 +250,9 @@ impl Machine {
         output: &mut K,
     ) -> Stepped
         requires count { self.old.retired + 1 < 2 ^ 64 }
-        ensures acts { Acts (λ rest. environment self.old word (call self.old.regs self.old.mem rest)) self.old self.new (S.left input.old) (S.left input.new) (K.written output.old) (K.written output.new) result }
+        ensures acts { Acts (λ rest. environment self.old word (call self.old.regs self.old.mem rest)) self.old self.new
+            (streams_of (S.left input.old) (K.written output.old))
+            (streams_of (S.left input.new) (K.written output.new)) result }
         ensures count { Counts self.old.retired self.new.retired result }
         ensures no_faults { (result ≢ Stepped.ReadFault) × (result ≢ Stepped.WriteFault) }
     {
@@ -277,7 +280,9 @@ impl Machine {
         output: &mut K,
     ) -> Stepped
         requires count { self.old.retired + 1 < 2 ^ 64 }
-        ensures acts { Acts (λ rest. serial_step self.old rest word i) self.old self.new (S.left input.old) (S.left input.new) (K.written output.old) (K.written output.new) result }
+        ensures acts { Acts (λ rest. serial_step self.old rest word i) self.old self.new
+            (streams_of (S.left input.old) (K.written output.old))
+            (streams_of (S.left input.new) (K.written output.new)) result }
         ensures count { Counts self.old.retired self.new.retired result }
         ensures no_faults { (result ≢ Stepped.ReadFault) × (result ≢ Stepped.WriteFault) }
     {
@@ -298,7 +303,9 @@ impl Machine {
     ) -> Stepped
         requires fits { Fits i }
         requires count { self.old.retired + 1 < 2 ^ 64 }
-        ensures acts { Acts (λ rest. execution (class_name i) self.old rest word i) self.old self.new (S.left input.old) (S.left input.new) (K.written output.old) (K.written output.new) result }
+        ensures acts { Acts (λ rest. execution (class_name i) self.old rest word i) self.old self.new
+            (streams_of (S.left input.old) (K.written output.old))
+            (streams_of (S.left input.new) (K.written output.new)) result }
         ensures count { Counts self.old.retired self.new.retired result }
         ensures no_faults { (result ≢ Stepped.ReadFault) × (result ≢ Stepped.WriteFault) }
     {
@@ -319,7 +326,9 @@ impl Machine {
     #[inline(always)]
     fn interpret<S: Source, K: Sink>(&mut self, word: u32, input: &mut S, output: &mut K) -> Stepped
         requires count { self.old.retired + 1 < 2 ^ 64 }
-        ensures acts { Acts (λ rest. interpretation self.old rest word (decoded word)) self.old self.new (S.left input.old) (S.left input.new) (K.written output.old) (K.written output.new) result }
+        ensures acts { Acts (λ rest. interpretation self.old rest word (decoded word)) self.old self.new
+            (streams_of (S.left input.old) (K.written output.old))
+            (streams_of (S.left input.new) (K.written output.new)) result }
         ensures count { Counts self.old.retired self.new.retired result }
         ensures no_faults { (result ≢ Stepped.ReadFault) × (result ≢ Stepped.WriteFault) }
     {
@@ -336,7 +345,9 @@ impl Machine {
     #[inline(always)]
     pub fn step<S: Source, K: Sink>(&mut self, input: &mut S, output: &mut K) -> Stepped
         requires { self.old.retired + 1 < 2 ^ 64 }
-        ensures steps { Steps self.old self.new (S.left input.old) (S.left input.new) (K.written output.old) (K.written output.new) result }
+        ensures steps { Steps self.old self.new
+            (streams_of (S.left input.old) (K.written output.old))
+            (streams_of (S.left input.new) (K.written output.new)) result }
         ensures count { Counts self.old.retired self.new.retired result }
         ensures no_faults { (result ≢ Stepped.ReadFault) × (result ≢ Stepped.WriteFault) }
     {

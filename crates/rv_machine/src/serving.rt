@@ -1,4 +1,5 @@
 ghost use Rattle.std.specs.Prelude.{◌≡◌, ◌≢◌};
+ghost use Rattle.rv_machine.specs.Streams.{streams_of};
 ghost use Rattle.rv_machine.specs.Acts.{Serves};
 ghost use Rattle.rv_machine.specs.Call.{is_exit as exits};
 
@@ -26,7 +27,9 @@ pub fn serve<S: Source, K: Sink>(
     input: &mut S,
     output: &mut K,
 ) -> Served
-    ensures serves { Serves regs.now mem.old mem.new (S.left input.old) (S.left input.new) (K.written output.old) (K.written output.new) result }
+    ensures serves { Serves regs.now mem.old mem.new
+        (streams_of (S.left input.old) (K.written output.old))
+        (streams_of (S.left input.new) (K.written output.new)) result }
     ensures no_faults { (result ≢ Served.ReadFault) × (result ≢ Served.WriteFault) }
 {
     if is_exit(regs[17]) {

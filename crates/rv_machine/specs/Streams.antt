@@ -1,0 +1,26 @@
+-- The input and the output of a program as their source and sink tell them: nothing is claimed of what they keep to themselves.
+use Rattle.std.specs.Prelude.{◌≡◌, ℕ, List, Option, Some, None}
+use Rattle.cf_io.specs.Puts.{Writes}
+
+-- what the input has left and what was written to the output, where they tell it
+pub record Streams : Type 0 where
+  pub input : Option (List ℕ)
+  pub output : Option (List ℕ)
+
+abbrev pub streams_of : Option (List ℕ) → Option (List ℕ) → Streams
+streams_of input output = record { input = input; output = output }
+
+-- these are the bytes, where they are told
+abbrev pub IsTold : Option (List ℕ) → List ℕ → Type 0
+IsTold None bytes = Unit {0}
+IsTold (Some told) bytes = bytes ≡ told
+
+-- where bytes were told, these are told now
+abbrev pub Becomes : Option (List ℕ) → Option (List ℕ) → List ℕ → Type 0
+Becomes None after bytes = Unit {0}
+Becomes (Some told) after bytes = after ≡ Some bytes
+
+-- where they tell: this is left of the input, and this was added to the output
+pub record Leaves (before after : Streams) (rest added : List ℕ) : Type 0 where
+  pub input : Becomes before.input after.input rest
+  pub output : Writes before.output after.output added
