@@ -1,112 +1,128 @@
--- The program that the words name is that of a command, and where there is none, a first word has no place.
-use Rattle.std.proofs.Common.{◌≡◌, ℕ, List, [], ◌∷◌, codes, take, Bool, true, false, refl, arith, Result, Ok, Err, if◌then◌else◌, subst}
+-- The program that the words name is that of a command; where they name none, a first word has no place.
+use Rattle.std.proofs.Common.{◌≡◌, ℕ, List, [], ◌∷◌, codes, take, Bool, true, false, refl, arith, Ok, Err, subst, sym}
 use lib.Pointwise.{bytes_decides}
-use Rattle.cfpp_cli.specs.Words.{is_file_name, IsMachine, IsCommand, IsBadAt, is_machine, program_of}
+use Rattle.cfpp_cli.specs.Words.{is_file_name, IsMachine, IsCommand, IsBadAt, is_machine, named_program, program_of}
 
--- a word that passes the test is `machine`
-the_word : (word : List ℕ) → is_machine word ≡ true → word ≡ codes "machine"
-the_word word h = (bytes_decides word (codes "machine")).0 h
+-- the words of a command
+abbrev command_of : List ℕ → List (List ℕ)
+command_of program = codes "machine" ∷ program ∷ []
 
--- `machine` passes the test
-the_test : (word : List ℕ) → word ≡ codes "machine" → is_machine word ≡ true
-the_test word h = (bytes_decides word (codes "machine")).1 h
+-- a word that passes the test is `machine`, and `machine` passes it
+test-word : (word : List ℕ) → is_machine word ≡ true → word ≡ codes "machine"
+test-word word h = (bytes_decides word (codes "machine")).0 h
 
--- some command
-some_command : IsCommand (codes "machine" ∷ codes "p" ∷ [])
+word-test : (word : List ℕ) → word ≡ codes "machine" → is_machine word ≡ true
+word-test word h = (bytes_decides word (codes "machine")).1 h
+
+-- some command, which any words begin as far as no word is read
+some_command : IsCommand (command_of (codes "p"))
 some_command = (codes "p", record { words_are = refl; named = refl })
 
--- no command has no words
-none_first : (command : List (List ℕ)) → IsCommand command → take 1 command ≡ [] → ⊥
-none_first command (program, is) e = let f : take 1 (codes "machine" ∷ program ∷ []) ≡ [] = subst (λ (c : List (List ℕ)). take 1 c ≡ []) is.words_are e in cc
+-- to be no command's beginning, it is enough not to be that of one with a file's name
+no-command : (words : List (List ℕ)) (n : ℕ) → ((program : List ℕ) → is_file_name program ≡ true →
+    take n (command_of program) ≡ take n words → ⊥) → (command : List (List ℕ)) →
+    IsCommand command → take n command ≡ take n words → ⊥
+no-command words n none command (program, is) same =
+    none program is.named (subst (λ (c : List (List ℕ)). take n c ≡ take n words) is.words_are same)
 
-bad_first : (word : List ℕ) (words : List (List ℕ)) → is_machine word ≡ false → IsBadAt (word ∷ words) 0
-bad_first word words h = record {
+-- a first word that is not `machine`
+bad-first : (word : List ℕ) (words : List (List ℕ)) → is_machine word ≡ false →
+    IsBadAt (word ∷ words) 0
+bad-first word words h = record {
   within = omega arith;
   begun = (_, some_command, refl);
-  no_further = λ command (program, is) e.
-      let f : take 1 (codes "machine" ∷ program ∷ []) ≡ take 1 (word ∷ words) = subst (λ (c : List (List ℕ)). take 1 c ≡ take 1 (word ∷ words)) is.words_are e in
-      let g : word ≡ codes "machine" = cc in
-      let t : is_machine word ≡ true = the_test word g in cc;
+  no_further = no-command (word ∷ words) 1
+      (λ program named same. let t : is_machine word ≡ true = word-test word (cc) in cc);
 }
 
-bad_none : IsBadAt [] 0
-bad_none = record { within = omega arith; begun = (_, some_command, refl); no_further = none_first }
-
--- with `machine` alone a name is missing
-bad_alone : (word : List ℕ) → is_machine word ≡ true → IsBadAt (word ∷ []) 1
-bad_alone word h = record {
+bad-none : IsBadAt [] 0
+bad-none = record {
   within = omega arith;
-  begun = (_, some_command, let e = the_word word h in cc);
-  no_further = λ command (program, is) e.
-      let f : take 2 (codes "machine" ∷ program ∷ []) ≡ take 2 (word ∷ []) = subst (λ (c : List (List ℕ)). take 2 c ≡ take 2 (word ∷ [])) is.words_are e in cc;
+  begun = (_, some_command, refl);
+  no_further = no-command [] 1 (λ program named same. cc);
 }
 
--- behind `machine` a word that names no file
-bad_name : (word name : List ℕ) (words : List (List ℕ)) → is_machine word ≡ true → is_file_name name ≡ false → IsBadAt (word ∷ name ∷ words) 1
-bad_name word name words h n = record {
+-- no name behind `machine`
+bad-alone : IsBadAt (codes "machine" ∷ []) 1
+bad-alone = record {
   within = omega arith;
-  begun = (_, some_command, let e = the_word word h in cc);
-  no_further = λ command (program, is) e.
-      let f : take 2 (codes "machine" ∷ program ∷ []) ≡ take 2 (word ∷ name ∷ words) = subst (λ (c : List (List ℕ)). take 2 c ≡ take 2 (word ∷ name ∷ words)) is.words_are e in
-      let g : program ≡ name = cc in
-      let t : is_file_name name ≡ true = subst (λ (p : List ℕ). is_file_name p ≡ true) g is.named in cc;
+  begun = (_, some_command, refl);
+  no_further = no-command (codes "machine" ∷ []) 2 (λ program named same. cc);
+}
+
+-- a word there that names no file
+bad-name : (name : List ℕ) (words : List (List ℕ)) → is_file_name name ≡ false →
+    IsBadAt (codes "machine" ∷ name ∷ words) 1
+bad-name name words h = record {
+  within = omega arith;
+  begun = (_, some_command, refl);
+  no_further = no-command (codes "machine" ∷ name ∷ words) 2 (λ program named same.
+      let e : program ≡ name = cc in
+      let t : is_file_name name ≡ true = subst (λ (p : List ℕ). is_file_name p ≡ true) e named in cc);
 }
 
 -- a word behind the name
-bad_more : (word name more : List ℕ) (words : List (List ℕ)) → is_machine word ≡ true → is_file_name name ≡ true → IsBadAt (word ∷ name ∷ more ∷ words) 2
-bad_more word name more words h n = record {
+bad-more : (name more : List ℕ) (words : List (List ℕ)) → is_file_name name ≡ true →
+    IsBadAt (codes "machine" ∷ name ∷ more ∷ words) 2
+bad-more name more words h = record {
   within = omega arith;
-  begun = (codes "machine" ∷ name ∷ [], (name, record { words_are = refl; named = n }), let e = the_word word h in cc);
-  no_further = λ command (program, is) e.
-      let f : take 3 (codes "machine" ∷ program ∷ []) ≡ take 3 (word ∷ name ∷ more ∷ words) = subst (λ (c : List (List ℕ)). take 3 c ≡ take 3 (word ∷ name ∷ more ∷ words)) is.words_are e in cc;
+  begun = (command_of name, (name, record { words_are = refl; named = h }), refl);
+  no_further = no-command (codes "machine" ∷ name ∷ more ∷ words) 3 (λ program named same. cc);
 }
 
--- no program: the first word without a place
-abbrev refuse : ℕ → Result (List ℕ) ℕ
-refuse index = Err index
+-- what is named behind `machine`
+named-read : (words : List (List ℕ)) (name : List ℕ) → named_program words ≡ Ok name →
+    IsMachine (codes "machine" ∷ words) name
+named-read [] name e = absurd (cc)
+named-read (given ∷ []) name e = record { words_are = grind arith; named = grind arith }
+named-read (given ∷ more ∷ words) name e = absurd (grind arith)
 
-read_two : (b c : Bool) (word name given : List ℕ) → is_machine word ≡ b → is_file_name given ≡ c → (if b then (if c then Ok given else refuse 1) else refuse 0) ≡ Ok name → IsMachine (word ∷ given ∷ []) name
-read_two true true word name given h n e =
-    let g : given ≡ name = cc in
-    subst (IsMachine (word ∷ given ∷ [])) g (record { words_are = let t = the_word word h in cc; named = n })
-read_two true false word name given h n e = absurd (cc)
-read_two false c word name given h n e = absurd (cc)
+-- what has no place behind `machine` and a name
+more-refused : (b : Bool) (name more : List ℕ) (words : List (List ℕ)) (index : ℕ) →
+    is_file_name name ≡ b → named_program (name ∷ more ∷ words) ≡ Err index →
+    IsBadAt (codes "machine" ∷ name ∷ more ∷ words) index
+more-refused true name more words index h e =
+    let i : 2 ≡ index = grind arith in
+    subst (IsBadAt (codes "machine" ∷ name ∷ more ∷ words)) i (bad-more name more words h)
+more-refused false name more words index h e =
+    let i : 1 ≡ index = grind arith in
+    subst (IsBadAt (codes "machine" ∷ name ∷ more ∷ words)) i (bad-name name (more ∷ words) h)
 
-read_one : (b : Bool) (name : List ℕ) (P : Type 0) → (if b then refuse 1 else refuse 0) ≡ Ok name → P
-read_one true name P e = absurd (cc)
-read_one false name P e = absurd (cc)
+-- what has no place behind `machine`
+named-refused : (words : List (List ℕ)) (index : ℕ) → named_program words ≡ Err index →
+    IsBadAt (codes "machine" ∷ words) index
+named-refused [] index e = subst (IsBadAt (codes "machine" ∷ [])) (cc) bad-alone
+named-refused (name ∷ []) index e =
+    let h : is_file_name name ≡ false = grind arith in
+    let i : 1 ≡ index = grind arith in
+    subst (IsBadAt (codes "machine" ∷ name ∷ [])) i (bad-name name [] h)
+named-refused (name ∷ more ∷ words) index e =
+    more-refused (is_file_name name) name more words index refl e
 
-read_three : (b c : Bool) (name : List ℕ) (P : Type 0) → (if b then (if c then refuse 2 else refuse 1) else refuse 0) ≡ Ok name → P
-read_three true true name P e = absurd (cc)
-read_three true false name P e = absurd (cc)
-read_three false c name P e = absurd (cc)
-
-pub program-read : (words : List (List ℕ)) (name : List ℕ) → program_of words ≡ Ok name → IsMachine words name
+pub program-read : (words : List (List ℕ)) (name : List ℕ) → program_of words ≡ Ok name →
+    IsMachine words name
 unfolding program_of
 program-read [] name e = absurd (cc)
-program-read (word ∷ []) name e = read_one (is_machine word) name _ e
-program-read (word ∷ given ∷ []) name e = read_two (is_machine word) (is_file_name given) word name given refl refl e
-program-read (word ∷ given ∷ more ∷ words) name e = read_three (is_machine word) (is_file_name given) name _ e
+program-read (word ∷ words) name e =
+    let h : is_machine word ≡ true = grind arith in
+    let r : named_program words ≡ Ok name = grind arith in
+    subst (λ (w : List ℕ). IsMachine (w ∷ words) name) (sym (test-word word h)) (named-read words name r)
 
-refused_one : (b : Bool) (word : List ℕ) (index : ℕ) → is_machine word ≡ b → (if b then refuse 1 else refuse 0) ≡ Err index → IsBadAt (word ∷ []) index
-refused_one true word index h e = let i : 1 ≡ index = cc in subst (IsBadAt (word ∷ [])) i (bad_alone word h)
-refused_one false word index h e = let i : 0 ≡ index = cc in subst (IsBadAt (word ∷ [])) i (bad_first word [] h)
-
-refused_two : (b c : Bool) (word given : List ℕ) (index : ℕ) → is_machine word ≡ b → is_file_name given ≡ c → (if b then (if c then Ok given else refuse 1) else refuse 0) ≡ Err index → IsBadAt (word ∷ given ∷ []) index
-refused_two true true word given index h n e = absurd (cc)
-refused_two true false word given index h n e = let i : 1 ≡ index = cc in subst (IsBadAt (word ∷ given ∷ [])) i (bad_name word given [] h n)
-refused_two false c word given index h n e = let i : 0 ≡ index = cc in subst (IsBadAt (word ∷ given ∷ [])) i (bad_first word _ h)
-
-refused_three : (b c : Bool) (word given more : List ℕ) (words : List (List ℕ)) (index : ℕ) → is_machine word ≡ b → is_file_name given ≡ c → (if b then (if c then refuse 2 else refuse 1) else refuse 0) ≡ Err index → IsBadAt (word ∷ given ∷ more ∷ words) index
-refused_three true true word given more words index h n e = let i : 2 ≡ index = cc in subst (IsBadAt (word ∷ given ∷ more ∷ words)) i (bad_more word given more words h n)
-refused_three true false word given more words index h n e = let i : 1 ≡ index = cc in subst (IsBadAt (word ∷ given ∷ more ∷ words)) i (bad_name word given _ h n)
-refused_three false c word given more words index h n e = let i : 0 ≡ index = cc in subst (IsBadAt (word ∷ given ∷ more ∷ words)) i (bad_first word _ h)
-
-pub program-refused : (words : List (List ℕ)) (index : ℕ) → program_of words ≡ Err index → IsBadAt words index
+-- what has no place among all words
+first-refused : (b : Bool) (word : List ℕ) (words : List (List ℕ)) (index : ℕ) →
+    is_machine word ≡ b → program_of (word ∷ words) ≡ Err index → IsBadAt (word ∷ words) index
 unfolding program_of
-program-refused [] index e = let i : 0 ≡ index = cc in subst (IsBadAt []) i bad_none
-program-refused (word ∷ []) index e = refused_one (is_machine word) word index refl e
-program-refused (word ∷ given ∷ []) index e = refused_two (is_machine word) (is_file_name given) word given index refl refl e
-program-refused (word ∷ given ∷ more ∷ words) index e = refused_three (is_machine word) (is_file_name given) word given more words index refl refl e
+first-refused true word words index h e =
+    let r : named_program words ≡ Err index = grind arith in
+    subst (λ (w : List ℕ). IsBadAt (w ∷ words) index) (sym (test-word word h)) (named-refused words index r)
+first-refused false word words index h e =
+    let i : 0 ≡ index = grind arith in
+    subst (IsBadAt (word ∷ words)) i (bad-first word words h)
+
+pub program-refused : (words : List (List ℕ)) (index : ℕ) → program_of words ≡ Err index →
+    IsBadAt words index
+unfolding program_of
+program-refused [] index e = subst (IsBadAt []) (cc) bad-none
+program-refused (word ∷ words) index e = first-refused (is_machine word) word words index refl e
 
 pub ruleset commands = (program-read, program-refused)

@@ -10,22 +10,37 @@ use Rattle.cfpp_cli.specs.declared.status.Status.{Status}
 use Rattle.cfpp_cli.specs.declared.status.Status.TheVariants as status
 
 -- the file that the front was taken of
-front-of : (told : Told) (after : Option Told) (name image : List ℕ) (content : Option (List ℕ)) → told.content name ≡ content → option_map (take (most_bytes + 1)) content ≡ Some image → after ≡ Some told → IsFront (Some told) after name image
+front-of : (told : Told) (after : Option Told) (name image : List ℕ) (content : Option (List ℕ)) →
+    told.content name ≡ content → option_map (take (most_bytes + 1)) content ≡ Some image →
+    after ≡ Some told → IsFront (Some told) after name image
 front-of told after name image None e h same = absurd (cc)
 front-of told after name image (Some content) e h same = (content, e, cc, same)
 
 -- what a read of a program leaves
-pub front-read : (told after : Option Told) (name : List ℕ) (image : Vec ℕ Global) → Reads told after name (most_bytes + 1) (Ok image) → IsFront told after name image.items
+pub front-read : (told after : Option Told) (name : List ℕ) (image : Vec ℕ Global) →
+    Reads told after name (most_bytes + 1) (Ok image) → IsFront told after name image.items
 front-read None after name image h = tt
-front-read (Some told) after name image h = front-of told after name image.items (told.content name) refl h.0 h.1
+front-read (Some told) after name image h =
+    front-of told after name image.items (told.content name) refl h.0 h.1
 
 -- what its image comes to is the answer
-pub answers-program : (words : List (List ℕ)) (before after : Outside) (answer : Status) (text name image : List ℕ) → IsMachine words name → IsFront before.files after.files name image → ComesTo image before.streams after.streams answer text → Answers words before after answer text
-answers-program words before after (status.Exit code) text name image is front comes = record { name = name; image = image; words_are = is; front = front; comes_to = comes }
-answers-program words before after (status.Trap cause pc detail) text name image is front comes = record { name = name; image = image; words_are = is; front = front; comes_to = comes }
-answers-program words before after (status.Limit limit) text name image is front comes = record { name = name; image = image; words_are = is; front = front; comes_to = comes }
-answers-program words before after (status.BadProgram error) text name image is front comes = record { name = name; image = image; words_are = is; front = front; comes_to = comes }
-answers-program words before after status.NoMemory text name image is front comes = record { name = name; words_are = is; reports = comes.0; streams = comes.1 }
-answers-program words before after (status.BadWords index) text name image is front comes = absurd comes
-answers-program words before after (status.ReadFault which) text name image is front comes = absurd comes
-answers-program words before after status.WriteFault text name image is front comes = absurd comes
+pub answers-program : (words : List (List ℕ)) (before after : Outside) (answer : Status)
+    (text name image : List ℕ) → IsMachine words name →
+    IsFront before.files after.files name image →
+    ComesTo image before.streams after.streams answer text → Answers words before after answer text
+answers-program words before after (status.Exit code) text name image is front comes =
+    record { name = name; image = image; words_are = is; front = front; comes_to = comes }
+answers-program words before after (status.Trap cause pc detail) text name image is front comes =
+    record { name = name; image = image; words_are = is; front = front; comes_to = comes }
+answers-program words before after (status.Limit limit) text name image is front comes =
+    record { name = name; image = image; words_are = is; front = front; comes_to = comes }
+answers-program words before after (status.BadProgram error) text name image is front comes =
+    record { name = name; image = image; words_are = is; front = front; comes_to = comes }
+answers-program words before after status.NoMemory text name image is front comes =
+    record { name = name; words_are = is; reports = comes.0; streams = comes.1 }
+answers-program words before after (status.BadWords index) text name image is front comes =
+    absurd comes
+answers-program words before after (status.ReadFault which) text name image is front comes =
+    absurd comes
+answers-program words before after status.WriteFault text name image is front comes =
+    absurd comes

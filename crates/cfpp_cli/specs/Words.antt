@@ -29,11 +29,13 @@ pub record IsBadAt (words : List (List ℕ)) (index : ℕ) : Type 0 where
 abbrev pub is_machine : List ℕ → Bool
 is_machine word = pointwise nat_eq word (codes "machine")
 
--- the program that the words name, or the index of the first word that has no place
+-- the program that the words behind `machine` name, or the index of the first word that has no place
+abbrev pub named_program : List (List ℕ) → Result (List ℕ) ℕ
+named_program [] = Err 1
+named_program (name ∷ []) = if is_file_name name then Ok name else Err 1
+named_program (name ∷ more ∷ words) = if is_file_name name then Err 2 else Err 1
+
+-- the same of all words
 unfoldable pub program_of : List (List ℕ) → Result (List ℕ) ℕ
 program_of [] = Err 0
-program_of (first ∷ []) = if is_machine first then Err 1 else Err 0
-program_of (first ∷ name ∷ []) =
-    if is_machine first then (if is_file_name name then Ok name else Err 1) else Err 0
-program_of (first ∷ name ∷ more ∷ words) =
-    if is_machine first then (if is_file_name name then Err 2 else Err 1) else Err 0
+program_of (first ∷ words) = if is_machine first then named_program words else Err 0

@@ -29,7 +29,9 @@ pub record SameButInput (m k : Machine) : Type 0 where
 -- n instructions lead from one machine to another, over an input that does not tell what it has left: each finds what it finds
 unfoldable pub Leads : Machine → ℕ → Machine → Type 0
 Leads start zero m = SameButInput start m
-Leads start (suc n) m = (before : Machine) × (line : Retired) × (next : Machine) × Leads start n before × (step before ≡ Next next line) × SameButInput next m
+Leads start (suc n) m =
+    (before : Machine) × (line : Retired) × (next : Machine) × Leads start n before
+    × (step before ≡ Next next line) × SameButInput next m
 
 -- the machine is the one after n instructions, where the input tells what it has left; else they lead to it
 abbrev pub Reaches : Option (List ℕ) → Machine → ℕ → Machine → Type 0

@@ -55,7 +55,9 @@ loads h word i addr (Err NoAccess) = Trap 5 h.pc addr
 
 -- a store: the memory gets the low bytes of the value
 abbrev pub stores : Hart → ℕ → Access → Result (Unit {0}) MemErr → Outcome Hart
-stores h word access (Ok done) = retire (record h { mem = stored h.mem access.addr access.width access.value }) word (word_sum h.pc 4) 0 0
+stores h word access (Ok done) =
+    let mem = stored h.mem access.addr access.width access.value in
+    retire (record h { mem = mem }) word (word_sum h.pc 4) 0 0
 stores h word access (Err Misaligned) = Trap 6 h.pc access.addr
 stores h word access (Err NoAccess) = Trap 7 h.pc access.addr
 
@@ -84,7 +86,8 @@ beside rest output (Exit status) = Exit status
 
 -- ECALL: what the call answers goes to x10
 abbrev pub environment : Hart → ℕ → Called → Outcome Machine
-environment h word (called.Value a) = beside a.rest a.output (retire (record h { mem = a.mem }) word (word_sum h.pc 4) 10 a.value)
+environment h word (called.Value a) =
+    beside a.rest a.output (retire (record h { mem = a.mem }) word (word_sum h.pc 4) 10 a.value)
 environment h word (called.Exit status) = Exit status
 
 -- the instruction is FENCE.I

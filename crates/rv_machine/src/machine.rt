@@ -179,7 +179,9 @@ impl Machine {
         requires load { IsTrue (is_load i) }
         requires width { IsWidth access.width }
         requires count { self.old.retired + 1 < 2 ^ 64 }
-        ensures does { Does (loads self.old word i access.addr (load_at self.old.mem access.addr access.width)) self.old self.new result }
+        ensures does { Does
+            (loads self.old word i access.addr (load_at self.old.mem access.addr access.width))
+            self.old self.new result }
         ensures count { Counts self.old.retired self.new.retired result }
     {
         match self.mem.load_number(access.addr, access.width) {
@@ -193,7 +195,10 @@ impl Machine {
     fn store(&mut self, word: u32, access: Access) -> Stepped
         requires width { IsWidth access.width }
         requires count { self.old.retired + 1 < 2 ^ 64 }
-        ensures does { Does (stores self.old word access (permits_at (bounds_of self.old.mem) access.addr access.width true)) self.old self.new result }
+        ensures does { Does
+            (stores self.old word access
+            (permits_at (bounds_of self.old.mem) access.addr access.width true))
+            self.old self.new result }
         ensures count { Counts self.old.retired self.new.retired result }
     {
         match self.mem.store(access.addr, access.width, access.value) {
@@ -250,7 +255,9 @@ impl Machine {
         output: &mut K,
     ) -> Stepped
         requires count { self.old.retired + 1 < 2 ^ 64 }
-        ensures acts { Acts (λ rest. environment self.old word (call self.old.regs self.old.mem rest)) self.old self.new
+        ensures acts { Acts
+            (λ rest. environment self.old word (call self.old.regs self.old.mem rest))
+            self.old self.new
             (streams_of (S.left input.old) (K.written output.old))
             (streams_of (S.left input.new) (K.written output.new)) result }
         ensures count { Counts self.old.retired self.new.retired result }
@@ -303,7 +310,8 @@ impl Machine {
     ) -> Stepped
         requires fits { Fits i }
         requires count { self.old.retired + 1 < 2 ^ 64 }
-        ensures acts { Acts (λ rest. execution (class_name i) self.old rest word i) self.old self.new
+        ensures acts { Acts (λ rest. execution (class_name i) self.old rest word i)
+            self.old self.new
             (streams_of (S.left input.old) (K.written output.old))
             (streams_of (S.left input.new) (K.written output.new)) result }
         ensures count { Counts self.old.retired self.new.retired result }
@@ -326,7 +334,8 @@ impl Machine {
     #[inline(always)]
     fn interpret<S: Source, K: Sink>(&mut self, word: u32, input: &mut S, output: &mut K) -> Stepped
         requires count { self.old.retired + 1 < 2 ^ 64 }
-        ensures acts { Acts (λ rest. interpretation self.old rest word (decoded word)) self.old self.new
+        ensures acts { Acts (λ rest. interpretation self.old rest word (decoded word))
+            self.old self.new
             (streams_of (S.left input.old) (K.written output.old))
             (streams_of (S.left input.new) (K.written output.new)) result }
         ensures count { Counts self.old.retired self.new.retired result }
