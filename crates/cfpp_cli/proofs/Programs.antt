@@ -5,7 +5,7 @@ use Rattle.std.specs.Global.{Global}
 use Rattle.cf_io.specs.Reads.{Told, Reads}
 use Rattle.cfpp_cli.specs.Words.{IsMachine}
 use Rattle.cfpp_cli.specs.Outside.{Outside}
-use Rattle.cfpp_cli.specs.Top.{most_bytes, IsFront, ComesTo, Answers}
+use Rattle.cfpp_cli.specs.Top.{most_bytes, IsFront, TellSame, ComesTo, Answers}
 use Rattle.cfpp_cli.specs.declared.status.Status.{Status}
 use Rattle.cfpp_cli.specs.declared.status.Status.TheVariants as status
 
@@ -23,6 +23,12 @@ front-read None after name image h = tt
 front-read (Some told) after name image h =
     front-of told after name image.items (told.content name) refl h.0 h.1
 
+-- nor does it change what the files tell
+front-keeps : (told after : Option Told) (name image : List ℕ) → IsFront told after name image →
+    TellSame told after
+front-keeps None after name image front = tt
+front-keeps (Some told) after name image front = front.3
+
 -- what its image comes to is the answer
 pub answers-program : (words : List (List ℕ)) (before after : Outside) (answer : Status)
     (text name image : List ℕ) → IsMachine words name →
@@ -37,7 +43,13 @@ answers-program words before after (status.Limit limit) text name image is front
 answers-program words before after (status.BadProgram error) text name image is front comes =
     record { name = name; image = image; words_are = is; front = front; comes_to = comes }
 answers-program words before after status.NoMemory text name image is front comes =
-    record { name = name; words_are = is; reports = comes.0; streams = comes.1 }
+    record {
+      name = name;
+      words_are = is;
+      files = front-keeps before.files after.files name image front;
+      reports = comes.0;
+      streams = comes.1;
+    }
 answers-program words before after (status.BadWords index) text name image is front comes =
     absurd comes
 answers-program words before after (status.ReadFault which) text name image is front comes =

@@ -32,6 +32,11 @@ IsFront (Some told) after name image =
     (content : List ℕ) × (told.content name ≡ Some content)
     × (image ≡ take (most_bytes + 1) content) × (after ≡ Some told)
 
+-- files that tell, tell the same
+abbrev pub TellSame : Option Told → Option Told → Type 0
+TellSame None after = Unit {0}
+TellSame (Some told) after = after ≡ Some told
+
 -- files that tell have noted a failed read by this name
 abbrev pub NotesFailure : Option Told → Option Told → List ℕ → Type 0
 NotesFailure None after name = Unit {0}
@@ -100,6 +105,7 @@ pub record LacksMemory (words : List (List ℕ)) (before after : Outside) (repor
     Type 0 where
   pub name : List ℕ
   pub words_are : IsMachine words name
+  pub files : TellSame before.files after.files
   pub reports : report ≡ line (codes "no memory")
   pub streams : after.streams ≡ before.streams
 

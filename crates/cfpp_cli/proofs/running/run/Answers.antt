@@ -13,10 +13,10 @@ loop-done-preserved g c = record {
 
 pub returns-in-Exit : goal.returns-in-Exit
 returns-in-Exit g c =
-    let so_far = c.loop-done.invariant in
-    runs-exit _ _ _ _ _ _ _ _ _ so_far.reached (omega arith) so_far.counted c.in-Exit.ensures.steps
+    runs-exit _ _ _ _ _ _ _ _ _ c.loop-done.invariant.reached (omega arith)
+    c.loop-done.invariant.counted c.in-Exit.ensures.steps
 
 pub returns-in-Trap : goal.returns-in-Trap
 returns-in-Trap g c =
-    let so_far = c.loop-done.invariant in
-    runs-trap _ _ _ _ _ _ _ _ _ _ _ so_far.reached (omega arith) so_far.counted c.in-Trap.ensures.steps
+    runs-trap _ _ _ _ _ _ _ _ _ _ _ c.loop-done.invariant.reached (omega arith)
+    c.loop-done.invariant.counted c.in-Trap.ensures.steps

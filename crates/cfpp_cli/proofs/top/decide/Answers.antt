@@ -3,6 +3,6 @@ use Rattle.cfpp_cli.proofs.top.decide.Goals as goal
 
 pub returns-in-Ok-read : goal.returns-in-Ok-read
 returns-in-Ok-read g c =
-    let front = front-read _ _ _ c.in-Ok-read.image c.in-Ok-read.ensures.bytes in
-    answers-program _ _ _ _ _ _ _ c.in-Ok.ensures front
+    answers-program _ _ _ _ _ _ _ c.in-Ok.ensures
+    (front-read _ _ _ c.in-Ok-read.image c.in-Ok-read.ensures.bytes)
     (rw c.as_slice.ensures.value at c.run_image.ensures)
