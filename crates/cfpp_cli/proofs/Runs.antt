@@ -11,7 +11,9 @@ use Rattle.rv_machine.specs.Outcome.{Outcome, Next, Trap, Exit}
 use Rattle.rv_machine.specs.Step.{step, step_on, behind}
 use Rattle.rv_machine.specs.After.{after, Leads, Reaches}
 use Rattle.rv_machine.specs.Acts.{DoesBeside, Steps}
-use Rattle.cfpp_cli.specs.Finish.{opening, Runs}
+use Rattle.rv_machine.proofs.Told.{rest-told, stays, leaves-again}
+use Rattle.cfpp_cli.specs.Finish.{opening, Finishes, Runs}
+use Rattle.cfpp_cli.specs.declared.running.Finish.{Finish}
 use Rattle.cfpp_cli.specs.declared.running.Finish.TheVariants as finish
 
 -- a run so far: n instructions from the start to this hart, and what the streams tell now
@@ -20,38 +22,6 @@ pub record Reached (start now : Hart) (before after : Streams) (n : ℕ) : Type 
   pub reaches : Reaches before.input (opening start before.input) n last
   pub hart : now ≡ last.hart
   pub streams : Leaves before after last.rest last.output
-
--- what is told of an input before the first take, and of an output before the first put
-input-begins : (told : Option (List ℕ)) → Becomes told told (unwrap_or told [])
-input-begins None = tt
-input-begins (Some told) = refl
-
-output-begins : (told : Option (List ℕ)) → Writes told told []
-output-begins None = tt
-output-begins (Some told) = ap Some (sym (append-nil told))
-
--- what is told of an input after two takes, and of an output after two puts
-becomes-again : (a b c : Option (List ℕ)) (x y : List ℕ) → Becomes a b x → Becomes b c y →
-    Becomes a c y
-becomes-again None b c x y h k = tt
-becomes-again (Some told) b c x y h k =
-    let P : Option (List ℕ) → Type 0 = λ o. Becomes o c y in
-    subst P h k
-
-writes-again : (a b c : Option (List ℕ)) (x y : List ℕ) → Writes a b x → Writes b c y →
-    Writes a c (x ++ y)
-writes-again None b c x y h k = tt
-writes-again (Some told) b c x y h k =
-    let P : Option (List ℕ) → Type 0 = λ o. Writes o c y in
-    let both : c ≡ Some ((told ++ x) ++ y) = subst P h k in
-    both ∙ ap Some (append_assoc told x y)
-
-leaves-again : (a b c : Streams) (rest next x y : List ℕ) → Leaves a b rest x →
-    Leaves b c next y → Leaves a c next (x ++ y)
-leaves-again a b c rest next x y h k = record {
-  input = becomes-again a.input b.input c.input rest next h.input k.input;
-  output = writes-again a.output b.output c.output x y h.output k.output;
-}
 
 -- before the first step
 reaches-none : (start : Hart) (left : Option (List ℕ)) →
@@ -65,7 +35,7 @@ reached-none start s = record {
   last = opening start s.input;
   reaches = reaches-none start s.input;
   hart = refl;
-  streams = record { input = input-begins s.input; output = output-begins s.output };
+  streams = stays s (unwrap_or s.input []) (rest-told s.input);
 }
 
 -- over an input that does not tell what it has left, the machine may have any
@@ -180,43 +150,47 @@ traps (Trap cause' pc' detail') now new before after cause pc detail (hart, stre
     (cc, hart, streams)
 traps (Exit other) now new before after cause pc detail (hart, streams, same) = absurd (cc)
 
--- a step ends the program
+-- a step that changes nothing ends the run, as its outcome says
+ends : (start now new : Hart) (before between after : Streams) (limit n : ℕ) (rest : List ℕ)
+    (o : Outcome Machine) (end : Finish) → Reached start now before between n →
+    IsTold between.input rest → now.retired ≡ start.retired + n →
+    (step_on now rest ≡ o) × (new ≡ now) × (after ≡ between) →
+    ((m : Machine) → Reaches before.input (opening start before.input) n m →
+    step m ≡ behind m.output o → Finishes before.input (opening start before.input) limit end n m) →
+    Runs start new before after limit end
+ends start now new before between after limit n rest o end run told count (is, same, streams) finishes =
+    let f : Finds start now before between n rest = finds start now before between n rest run told in
+    let m : Machine = f.machine in
+    let P : Streams → Type 0 = λ s. Leaves before s m.rest m.output in
+    record {
+      count = n;
+      last = m;
+      finishes = finishes m f.reaches (step-is m now rest o f.hart f.rest_is is);
+      hart = same ∙ sym f.hart;
+      retired = ap (λ (h : Hart). h.retired) same ∙ count;
+      streams = subst P (sym streams) f.streams;
+    }
+
+-- the program ends itself
 pub runs-exit : (start now new : Hart) (before between after : Streams) (limit n status : ℕ) →
     Reached start now before between n → n < limit → now.retired ≡ start.retired + n →
     Steps now new between after (stepped.Exit status) →
     Runs start new before after limit (finish.Exit status)
 runs-exit start now new before between after limit n status run below count steps =
-    let f : Finds start now before between n steps.rest =
-    finds start now before between n steps.rest run steps.told in
-    let e = exits _ now new between after status steps.does in
-    let P : Streams → Type 0 = λ told. Leaves before told f.machine.rest f.machine.output in
-    record {
-      count = n;
-      last = f.machine;
-      finishes = (below, f.reaches, step-is f.machine now steps.rest _ f.hart f.rest_is e.0);
-      hart = e.1 ∙ sym f.hart;
-      retired = ap (λ (h : Hart). h.retired) e.1 ∙ count;
-      streams = subst P (sym e.2) f.streams;
-    }
+    ends start now new before between after limit n steps.rest (Exit status) (finish.Exit status)
+    run steps.told count (exits _ now new between after status steps.does)
+    (λ m reaches is. (below, reaches, is))
 
--- a step traps
+-- the instruction traps
 pub runs-trap : (start now new : Hart) (before between after : Streams)
     (limit n cause pc detail : ℕ) → Reached start now before between n → n < limit →
     now.retired ≡ start.retired + n → Steps now new between after (stepped.Trap cause pc detail) →
     Runs start new before after limit (finish.Trap cause pc detail)
 runs-trap start now new before between after limit n cause pc detail run below count steps =
-    let f : Finds start now before between n steps.rest =
-    finds start now before between n steps.rest run steps.told in
-    let e = traps _ now new between after cause pc detail steps.does in
-    let P : Streams → Type 0 = λ told. Leaves before told f.machine.rest f.machine.output in
-    record {
-      count = n;
-      last = f.machine;
-      finishes = (below, f.reaches, step-is f.machine now steps.rest _ f.hart f.rest_is e.0);
-      hart = e.1 ∙ sym f.hart;
-      retired = ap (λ (h : Hart). h.retired) e.1 ∙ count;
-      streams = subst P (sym e.2) f.streams;
-    }
+    ends start now new before between after limit n steps.rest (Trap cause pc detail)
+    (finish.Trap cause pc detail) run steps.told count
+    (traps _ now new between after cause pc detail steps.does)
+    (λ m reaches is. (below, reaches, is))
 
 -- the limit is reached
 pub runs-limit : (start now : Hart) (before after : Streams) (limit n : ℕ) →

@@ -65,7 +65,7 @@ fn fence_i() -> Instr {
     }
 }
 
-/// Words as an assembler writes them, with the instructions that the manual's tables give for them.
+/// Words with the instructions that the manual's tables give for them. GNU objdump 2.40 reads each as the comment says.
 fn words() -> [(u32, Instr); 16] {
     [
         (0x0070_0513, imm_op(ImmOp::Add, 10, 0, 7)), // addi x10, x0, 7

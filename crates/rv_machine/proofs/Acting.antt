@@ -24,28 +24,11 @@ use Rattle.rv_machine.specs.Call as called
 use Rattle.rv_machine.specs.Streams.{Streams, IsTold, Becomes, Leaves}
 use Rattle.rv_machine.specs.Step.{beside, compute, access_memory, pass, synchronize, synchronizes, environment, serial, execute, interpret, step_on}
 use Rattle.rv_machine.specs.Acts.{Does, DoesBeside, Acts, Answers, Serves}
+use Rattle.rv_machine.proofs.Told.{rest-told, stays}
 
 -- an input that agrees with what is told
 abbrev some_rest : Streams → List ℕ
 some_rest s = unwrap_or s.input []
-
-rest-told : (told : Option (List ℕ)) → IsTold told (unwrap_or told [])
-rest-told None = tt
-rest-told (Some told) = refl
-
--- what is told of an input that nothing was taken from
-input-stays : (told : Option (List ℕ)) (rest : List ℕ) → IsTold told rest → Becomes told told rest
-input-stays None rest h = tt
-input-stays (Some told) rest h = ap Some (sym h)
-
--- what is told of an output that nothing was put to
-output-stays : (told : Option (List ℕ)) → Writes told told []
-output-stays None = tt
-output-stays (Some told) = ap Some (sym (append-nil told))
-
--- streams that nothing was asked of
-stays : (s : Streams) (rest : List ℕ) → IsTold s.input rest → Leaves s s rest []
-stays s rest h = record { input = input-stays s.input rest h; output = output-stays s.output }
 
 -- an outcome of the hart alone
 alone : (o : Outcome Hart) (old new : Hart) (s : Streams) (rest : List ℕ) (result : Stepped) →

@@ -1,0 +1,47 @@
+-- What streams tell where nothing is asked of them, and after one use and then another.
+use Rattle.std.proofs.Common.{◌≡◌, ℕ, List, [], ◌++◌, Option, Some, None, refl, ap, sym, ◌∙◌, subst, append-nil, append_assoc}
+use Rattle.std.specs.Prelude.{unwrap_or}
+use Rattle.cf_io.specs.Puts.{Writes}
+use Rattle.rv_machine.specs.Streams.{Streams, IsTold, Becomes, Leaves}
+
+-- an input that agrees with what is told
+pub rest-told : (told : Option (List ℕ)) → IsTold told (unwrap_or told [])
+rest-told None = tt
+rest-told (Some told) = refl
+
+-- an input that nothing was taken from, and an output that nothing was put to
+input-stays : (told : Option (List ℕ)) (rest : List ℕ) → IsTold told rest → Becomes told told rest
+input-stays None rest h = tt
+input-stays (Some told) rest h = ap Some (sym h)
+
+output-stays : (told : Option (List ℕ)) → Writes told told []
+output-stays None = tt
+output-stays (Some told) = ap Some (sym (append-nil told))
+
+-- streams that nothing was asked of
+pub stays : (s : Streams) (rest : List ℕ) → IsTold s.input rest → Leaves s s rest []
+stays s rest h = record { input = input-stays s.input rest h; output = output-stays s.output }
+
+-- an input after two takes, and an output after two puts
+becomes-again : (a b c : Option (List ℕ)) (x y : List ℕ) → Becomes a b x → Becomes b c y →
+    Becomes a c y
+becomes-again None b c x y h k = tt
+becomes-again (Some told) b c x y h k =
+    let P : Option (List ℕ) → Type 0 = λ o. Becomes o c y in
+    subst P h k
+
+writes-again : (a b c : Option (List ℕ)) (x y : List ℕ) → Writes a b x → Writes b c y →
+    Writes a c (x ++ y)
+writes-again None b c x y h k = tt
+writes-again (Some told) b c x y h k =
+    let P : Option (List ℕ) → Type 0 = λ o. Writes o c y in
+    let both : c ≡ Some ((told ++ x) ++ y) = subst P h k in
+    both ∙ ap Some (append_assoc told x y)
+
+-- streams after one use and then another
+pub leaves-again : (a b c : Streams) (rest next x y : List ℕ) → Leaves a b rest x →
+    Leaves b c next y → Leaves a c next (x ++ y)
+leaves-again a b c rest next x y h k = record {
+  input = becomes-again a.input b.input c.input rest next h.input k.input;
+  output = writes-again a.output b.output c.output x y h.output k.output;
+}
