@@ -14,6 +14,8 @@ use Rattle.rv_inst.specs.declared.instruction.MulOp.{MulOp}
 use Rattle.rv_inst.specs.declared.instruction.MulOp.TheVariants as mulop
 use Rattle.rv_inst.specs.declared.instruction.Instr.{Instr}
 use Rattle.rv_inst.specs.declared.instruction.Instr.TheVariants.{Lui, Auipc, Jal, Jalr, Branch, Load, Store, OpImm, Op, Fence, Ecall, Ebreak, FenceI, Mul}
+use Rattle.rv_inst.specs.declared.isa.Isa.{Isa}
+use Rattle.rv_inst.specs.declared.isa.Isa.TheVariants.{Rv32i, Rv32im}
 use Rattle.rv_inst.specs.Fields.{opcode, rd_of, funct3, rs1_of, rs2_of, funct7, high12, imm_i, imm_s, imm_b, imm_u, imm_j}
 
 -- the condition that a branch's funct3 names
@@ -150,3 +152,8 @@ decoded_mul w = option_map (λ op. Mul op (rd_of w) (rs1_of w) (rs2_of w)) (mul_
 -- the instruction that a word stands for where there is the M extension
 unfoldable pub decoded_m : ℕ → Option Instr
 decoded_m w = if (opcode w == 0b0110011) && (funct7 w == 0b0000001) then decoded_mul w else decoded w
+
+-- the instruction of the set that a word stands for
+unfoldable pub decoded_as : Isa → ℕ → Option Instr
+decoded_as Rv32i w = decoded w
+decoded_as Rv32im w = decoded_m w

@@ -8,6 +8,7 @@ mod decoding;
 mod encoding;
 mod fields;
 mod instruction;
+mod isa;
 pub mod laws;
 mod opcodes;
 mod operands;
@@ -20,6 +21,7 @@ pub use classes::{Class, class_of};
 pub use decoding::{decode, decode_m};
 pub use encoding::encode;
 pub use instruction::{Cond, ImmOp, Instr, LoadKind, MulOp, RegOp, StoreKind};
+pub use isa::{Isa, decode_as};
 pub use operands::{dest, sources};
 pub use ranges::fits;
 
