@@ -1,0 +1,46 @@
+-- The line of a move in a script (a format of this project).
+use Rattle.std.specs.Prelude.{ℕ, ◌+◌, ◌/◌, ◌%◌, List, [], ◌∷◌, ◌++◌, codes, decimal, nat_lt, if◌then◌else◌}
+use Rattle.cf_bind.specs.declared.passenger.Guess.{Guess}
+use Rattle.cf_bind.specs.declared.passenger.Guess.TheVariants as guess
+use Rattle.cf_bind.specs.declared.moves.Move.{Move}
+use Rattle.cf_bind.specs.declared.moves.Move.TheVariants.{Issue, Emit, Climb, Fall, Meet, Execute, Send, Launch, Slide, Access, Recover, Leave, Exit, Serve}
+
+-- one lower-case hexadecimal digit
+abbrev pub hex_digit : ℕ → ℕ
+hex_digit d = if nat_lt d 10 then 48 + d else 87 + d
+
+-- a word as eight hexadecimal digits
+abbrev pub hex8 : ℕ → List ℕ
+hex8 w =
+    hex_digit (w / 0x10000000 % 16) ∷ hex_digit (w / 0x1000000 % 16)
+    ∷ hex_digit (w / 0x100000 % 16) ∷ hex_digit (w / 0x10000 % 16)
+    ∷ hex_digit (w / 0x1000 % 16) ∷ hex_digit (w / 0x100 % 16)
+    ∷ hex_digit (w / 0x10 % 16) ∷ hex_digit (w % 16) ∷ []
+
+-- a guess, as it stands behind `issue`
+abbrev pub guess_text : Guess → List ℕ
+guess_text guess.Next = codes "next"
+guess_text guess.Taken = codes "taken"
+guess_text guess.Wait = codes "wait"
+guess_text (guess.To t) = codes "to " ++ hex8 t
+
+-- a kind of move and the number of its stage
+abbrev pub at_stage : List ℕ → ℕ → List ℕ
+at_stage kind i = kind ++ codes " " ++ decimal i
+
+-- the line of a move, without its line feed: one space between words, numbers without leading zeros, addresses in eight digits
+unfoldable pub move_line : Move → List ℕ
+move_line (Issue g) = codes "issue " ++ guess_text g
+move_line Emit = codes "emit"
+move_line (Climb i) = at_stage (codes "climb") i
+move_line (Fall i) = at_stage (codes "fall") i
+move_line (Meet i) = at_stage (codes "meet") i
+move_line (Execute i) = at_stage (codes "execute") i
+move_line (Send i) = at_stage (codes "send") i
+move_line (Launch i) = at_stage (codes "launch") i
+move_line (Slide k c) = codes "slide " ++ decimal k ++ codes " " ++ decimal c
+move_line Access = codes "access"
+move_line (Recover i) = at_stage (codes "recover") i
+move_line Leave = codes "leave"
+move_line Exit = codes "exit"
+move_line Serve = codes "serve"

@@ -1,0 +1,73 @@
+use crate::binding::Binding;
+use crate::packet::Packet;
+use rv_inst::Instr;
+
+/// Where fetch goes on behind an instruction, guessed when it is issued.
+#[derive(Clone, Copy, PartialEq, Eq)]
+pub enum Guess {
+    /// At the next word.
+    Next,
+
+    /// At the target of a branch or of JAL.
+    Taken,
+
+    /// Nowhere: fetch waits for the outcome.
+    Wait,
+
+    /// At this address, guessed for JALR.
+    To(u32),
+}
+
+/// How an instruction ends the program.
+#[derive(Clone, Copy, PartialEq, Eq)]
+pub enum End {
+    /// It traps. The causes are those of the RISC-V Privileged Architecture; `pc` is its own address, `detail` the
+    /// address or the word at fault.
+    Trap { cause: u8, pc: u32, detail: u32 },
+
+    /// It is a call that ends the program with this status.
+    Exit(u8),
+}
+
+/// An instruction that climbs the instruction pipe.
+#[derive(Clone, Copy, PartialEq, Eq)]
+pub struct Passenger {
+    /// Its address.
+    pub pc: u32,
+
+    /// The instruction, or `None` where there was none at its address.
+    pub what: Option<Instr>,
+
+    /// Where fetch went on behind it.
+    pub guess: Guess,
+
+    /// Its first source, or `None` where it has none.
+    pub src1: Option<Binding>,
+
+    /// Its second source, or `None` where it has none.
+    pub src2: Option<Binding>,
+
+    /// Its destination, or `None` where it has none.
+    pub dst: Option<Binding>,
+
+    /// It was executed.
+    pub done: bool,
+
+    /// Its operation was launched into a siding.
+    pub launched: bool,
+
+    /// Its operation came back from the siding.
+    pub recovered: bool,
+
+    /// The address of the instruction to run after it, once it is done.
+    pub next: Option<u32>,
+
+    /// How it ends the program, where it does.
+    pub ending: Option<End>,
+
+    /// The packet that it has still to send.
+    pub owes: Option<Packet>,
+
+    /// It must not have been fetched, and climbs on without effect.
+    pub dead: bool,
+}
