@@ -8,6 +8,7 @@ use Rattle.cfpp_cli.specs.Outside.{Outside}
 use Rattle.cfpp_cli.specs.Top.{most_bytes, IsFront, TellSame, ComesTo, Answers}
 use Rattle.cfpp_cli.specs.declared.status.Status.{Status}
 use Rattle.cfpp_cli.specs.declared.status.Status.TheVariants as status
+use Rattle.cfpp_cli.specs.declared.status.Which.TheVariants as which
 
 -- the file that the front was taken of
 front-of : (told : Told) (after : Option Told) (name image : List ℕ) (content : Option (List ℕ)) →
@@ -52,7 +53,15 @@ answers-program words before after status.NoMemory text name image is front come
     }
 answers-program words before after (status.BadWords index) text name image is front comes =
     absurd comes
-answers-program words before after (status.ReadFault which) text name image is front comes =
-    absurd comes
 answers-program words before after status.WriteFault text name image is front comes =
+    record { name = name; image = image; words_are = is; front = front; comes_to = comes }
+answers-program words before after (status.ReadFault which.Input) text name image is front comes =
+    record { name = name; image = image; words_are = is; front = front; comes_to = comes }
+answers-program words before after (status.ReadFault which.Layout) text name image is front comes =
+    absurd comes
+answers-program words before after (status.ReadFault which.Program) text name image is front comes =
+    absurd comes
+answers-program words before after (status.ReadFault which.Script) text name image is front comes =
+    absurd comes
+answers-program words before after (status.ReadFault which.Source) text name image is front comes =
     absurd comes

@@ -2,6 +2,7 @@
 use Rattle.std.proofs.Common.{◌≡◌, ℕ, zero, suc, ◌+◌, ◌<◌, List, [], ◌++◌, Option, Some, None, refl, ap, sym, ◌∙◌, subst, add-one, append_assoc, append-nil}
 use Rattle.std.specs.Prelude.{unwrap_or}
 use Rattle.cf_io.specs.Puts.{Writes}
+use Rattle.rv_inst.specs.declared.Isa.TheVariants.{Rv32i}
 use Rattle.rv_machine.specs.declared.outcome.Retired.{Retired}
 use Rattle.rv_machine.specs.declared.outcome.Stepped.TheVariants as stepped
 use Rattle.rv_machine.specs.Hart.{Hart}
@@ -10,22 +11,22 @@ use Rattle.rv_machine.specs.Streams.{Streams, IsTold, Becomes, Leaves}
 use Rattle.rv_machine.specs.Outcome.{Outcome, Next, Trap, Exit}
 use Rattle.rv_machine.specs.Step.{step, step_on, behind}
 use Rattle.rv_machine.specs.After.{after, Leads, Reaches}
-use Rattle.rv_machine.specs.Acts.{DoesBeside, Steps}
+use Rattle.rv_machine.specs.Acts.{Acts, Stops, Steps}
 use Rattle.rv_machine.proofs.Told.{rest-told, stays, leaves-again}
-use Rattle.cfpp_cli.specs.Finish.{opening, Finishes, Runs}
+use Rattle.cfpp_cli.specs.Finish.{opening, Finishes, Closes, Runs}
 use Rattle.cfpp_cli.specs.declared.running.Finish.{Finish}
 use Rattle.cfpp_cli.specs.declared.running.Finish.TheVariants as finish
 
 -- a run so far: n instructions from the start to this hart, and what the streams tell now
 pub record Reached (start now : Hart) (before after : Streams) (n : ℕ) : Type 0 where
   pub last : Machine
-  pub reaches : Reaches before.input (opening start before.input) n last
+  pub reaches : Reaches Rv32i before.input (opening start before.input) n last
   pub hart : now ≡ last.hart
   pub streams : Leaves before after last.rest last.output
 
 -- before the first step
 reaches-none : (start : Hart) (left : Option (List ℕ)) →
-    Reaches left (opening start left) 0 (opening start left)
+    Reaches Rv32i left (opening start left) 0 (opening start left)
 unfolding after Leads
 reaches-none start None = record { hart = refl; output = refl }
 reaches-none start (Some told) = refl
@@ -39,8 +40,8 @@ reached-none start s = record {
 }
 
 -- over an input that does not tell what it has left, the machine may have any
-leads-rest : (start m : Machine) (n : ℕ) (rest : List ℕ) → Leads start n m →
-    Leads start n (record m { rest = rest })
+leads-rest : (start m : Machine) (n : ℕ) (rest : List ℕ) → Leads Rv32i start n m →
+    Leads Rv32i start n (record m { rest = rest })
 unfolding Leads
 leads-rest start m zero rest h = record { hart = h.hart; output = h.output }
 leads-rest start m (suc n) rest (before, line, next, leads, steps, same) =
@@ -49,7 +50,7 @@ leads-rest start m (suc n) rest (before, line, next, leads, steps, same) =
 -- a run so far whose machine has the rest that the next step finds
 record Finds (start now : Hart) (before after : Streams) (n : ℕ) (rest : List ℕ) : Type 0 where
   pub machine : Machine
-  pub reaches : Reaches before.input (opening start before.input) n machine
+  pub reaches : Reaches Rv32i before.input (opening start before.input) n machine
   pub hart : machine.hart ≡ now
   pub rest_is : machine.rest ≡ rest
   pub streams : Leaves before after machine.rest machine.output
@@ -84,113 +85,121 @@ finds start now before after n rest run told =
 
 -- the step of a machine, from what its hart does on its rest
 step-is : (m : Machine) (now : Hart) (rest : List ℕ) (o : Outcome Machine) → m.hart ≡ now →
-    m.rest ≡ rest → step_on now rest ≡ o → step m ≡ behind m.output o
+    m.rest ≡ rest → step_on Rv32i now rest ≡ o → step Rv32i m ≡ behind m.output o
 unfolding step
 step-is m now rest o h r e =
-    let on_rest : step_on now m.rest ≡ o = subst (λ (x : List ℕ). step_on now x ≡ o) (sym r) e in
-    ap (behind m.output) (subst (λ (x : Hart). step_on x m.rest ≡ o) (sym h) on_rest)
+    let on_rest : step_on Rv32i now m.rest ≡ o =
+    subst (λ (x : List ℕ). step_on Rv32i now x ≡ o) (sym r) e in
+    ap (behind m.output) (subst (λ (x : Hart). step_on Rv32i x m.rest ≡ o) (sym h) on_rest)
 
 -- one more instruction
 reaches-next : (left : Option (List ℕ)) (start m next : Machine) (n : ℕ) (line : Retired) →
-    Reaches left start n m → step m ≡ Next next line → Reaches left start (n + 1) next
+    Reaches Rv32i left start n m → step Rv32i m ≡ Next next line →
+    Reaches Rv32i left start (n + 1) next
 unfolding after Leads
 reaches-next None start m next n line h e =
     rw add-one (m, line, next, h, e, record { hart = refl; output = refl })
 reaches-next (Some told) start m next n line h e = rw (add-one, h, e) refl
 
--- what a step that retired an instruction did
-record Retires (o : Outcome Machine) (new : Hart) (before after : Streams) (line : Retired) :
-    Type 0 where
-  pub next : Machine
-  pub is : o ≡ Next next line
-  pub hart : new ≡ next.hart
-  pub streams : Leaves before after next.rest next.output
-
-retires : (o : Outcome Machine) (now new : Hart) (before after : Streams) (line : Retired) →
-    DoesBeside o now new before after (stepped.Next line) → Retires o new before after line
-retires (Next next other) now new before after line (hart, streams, same) =
-    record { next = next; is = ap (Next next) (cc); hart = hart; streams = streams }
-retires (Trap cause pc detail) now new before after line (hart, streams, same) = absurd (cc)
-retires (Exit status) now new before after line (hart, streams, same) = absurd (cc)
-
 -- a step goes on
 pub reached-next : (start now new : Hart) (before between after : Streams) (n : ℕ)
     (line : Retired) → Reached start now before between n →
-    Steps now new between after (stepped.Next line) → Reached start new before after (n + 1)
+    Steps Rv32i now new between after (stepped.Next line) → Reached start new before after (n + 1)
+unfolding Acts
 reached-next start now new before between after n line run steps =
     let f : Finds start now before between n steps.rest =
     finds start now before between n steps.rest run steps.told in
-    let r : Retires (step_on now steps.rest) new between after line =
-    retires _ now new between after line steps.does in
     let m : Machine = f.machine in
-    let next : Machine = record r.next { output = m.output ++ r.next.output } in
-    let is : step m ≡ Next next line = step-is m now steps.rest _ f.hart f.rest_is r.is in
+    let next : Machine = record steps.next { output = m.output ++ steps.next.output } in
+    let is : step Rv32i m ≡ Next next line = step-is m now steps.rest _ f.hart f.rest_is steps.is in
     record {
       last = next;
       reaches = reaches-next before.input (opening start before.input) m next n line f.reaches is;
-      hart = r.hart;
-      streams = leaves-again before between after m.rest r.next.rest m.output r.next.output
-          f.streams r.streams;
+      hart = steps.hart;
+      streams = leaves-again before between after m.rest steps.next.rest m.output
+          steps.next.output f.streams steps.leaves;
     }
 
--- what a step that ended the program did
-exits : (o : Outcome Machine) (now new : Hart) (before after : Streams) (status : ℕ) →
-    DoesBeside o now new before after (stepped.Exit status) →
-    (o ≡ Exit status) × (new ≡ now) × (after ≡ before)
-exits (Next next other) now new before after status (hart, streams, same) = absurd (cc)
-exits (Trap cause pc detail) now new before after status (hart, streams, same) = absurd (cc)
-exits (Exit other) now new before after status (hart, streams, same) = (ap Exit (cc), hart, streams)
-
--- what a step that trapped did
-traps : (o : Outcome Machine) (now new : Hart) (before after : Streams) (cause pc detail : ℕ) →
-    DoesBeside o now new before after (stepped.Trap cause pc detail) →
-    (o ≡ Trap cause pc detail) × (new ≡ now) × (after ≡ before)
-traps (Next next other) now new before after cause pc detail (hart, streams, same) = absurd (cc)
-traps (Trap cause' pc' detail') now new before after cause pc detail (hart, streams, same) =
-    (cc, hart, streams)
-traps (Exit other) now new before after cause pc detail (hart, streams, same) = absurd (cc)
-
--- a step that changes nothing ends the run, as its outcome says
-ends : (start now new : Hart) (before between after : Streams) (limit n : ℕ) (rest : List ℕ)
+-- a step that leaves all as it was ends the run, as its outcome says
+ends : (start now new : Hart) (before between after : Streams) (limit n : ℕ)
     (o : Outcome Machine) (end : Finish) → Reached start now before between n →
-    IsTold between.input rest → now.retired ≡ start.retired + n →
-    (step_on now rest ≡ o) × (new ≡ now) × (after ≡ between) →
-    ((m : Machine) → Reaches before.input (opening start before.input) n m →
-    step m ≡ behind m.output o → Finishes before.input (opening start before.input) limit end n m) →
+    now.retired ≡ start.retired + n → Stops (step_on Rv32i now) o now new between after →
+    ((m : Machine) → Reaches Rv32i before.input (opening start before.input) n m →
+    step Rv32i m ≡ behind m.output o →
+    Finishes before.input (opening start before.input) limit end n m) →
+    ((last : Hart) → new ≡ last → Closes end last new between after) →
     Runs start new before after limit end
-ends start now new before between after limit n rest o end run told count (is, same, streams) finishes =
-    let f : Finds start now before between n rest = finds start now before between n rest run told in
+ends start now new before between after limit n o end run count stops finishes closes =
+    let f : Finds start now before between n stops.rest =
+    finds start now before between n stops.rest run stops.told in
     let m : Machine = f.machine in
-    let P : Streams → Type 0 = λ s. Leaves before s m.rest m.output in
     record {
       count = n;
       last = m;
-      finishes = finishes m f.reaches (step-is m now rest o f.hart f.rest_is is);
-      hart = same ∙ sym f.hart;
-      retired = ap (λ (h : Hart). h.retired) same ∙ count;
-      streams = subst P (sym streams) f.streams;
+      finishes = finishes m f.reaches (step-is m now stops.rest o f.hart f.rest_is stops.is);
+      retired = ap (λ (h : Hart). h.retired) stops.hart ∙ count;
+      between = between;
+      streams = f.streams;
+      closes = closes m.hart (stops.hart ∙ sym f.hart);
     }
 
 -- the program ends itself
 pub runs-exit : (start now new : Hart) (before between after : Streams) (limit n status : ℕ) →
     Reached start now before between n → n < limit → now.retired ≡ start.retired + n →
-    Steps now new between after (stepped.Exit status) →
+    Steps Rv32i now new between after (stepped.Exit status) →
     Runs start new before after limit (finish.Exit status)
+unfolding Acts
 runs-exit start now new before between after limit n status run below count steps =
-    ends start now new before between after limit n steps.rest (Exit status) (finish.Exit status)
-    run steps.told count (exits _ now new between after status steps.does)
-    (λ m reaches is. (below, reaches, is))
+    ends start now new before between after limit n (Exit status) (finish.Exit status)
+    run count steps (λ m reaches is. (below, reaches, is)) (λ last same. (same, steps.streams))
 
 -- the instruction traps
 pub runs-trap : (start now new : Hart) (before between after : Streams)
     (limit n cause pc detail : ℕ) → Reached start now before between n → n < limit →
-    now.retired ≡ start.retired + n → Steps now new between after (stepped.Trap cause pc detail) →
+    now.retired ≡ start.retired + n →
+    Steps Rv32i now new between after (stepped.Trap cause pc detail) →
     Runs start new before after limit (finish.Trap cause pc detail)
+unfolding Acts
 runs-trap start now new before between after limit n cause pc detail run below count steps =
-    ends start now new before between after limit n steps.rest (Trap cause pc detail)
-    (finish.Trap cause pc detail) run steps.told count
-    (traps _ now new between after cause pc detail steps.does)
-    (λ m reaches is. (below, reaches, is))
+    ends start now new before between after limit n (Trap cause pc detail)
+    (finish.Trap cause pc detail) run count steps (λ m reaches is. (below, reaches, is))
+    (λ last same. (same, steps.streams))
+
+-- the input fails the instruction
+pub runs-read-fault : (start now new : Hart) (before between after : Streams) (limit n : ℕ) →
+    Reached start now before between n → n < limit → now.retired ≡ start.retired + n →
+    Steps Rv32i now new between after stepped.ReadFault →
+    Runs start new before after limit finish.ReadFault
+unfolding Acts
+runs-read-fault start now new before between after limit n run below count steps =
+    let P : Hart → Type 0 = λ h. Closes finish.ReadFault h new between after in
+    record {
+      count = n;
+      last = run.last;
+      finishes = (below, run.reaches);
+      retired = ap (λ (h : Hart). h.retired) steps.2 ∙ count;
+      between = between;
+      streams = run.streams;
+      closes = subst P run.hart steps;
+    }
+
+-- the output fails the instruction
+pub runs-write-fault : (start now new : Hart) (before between after : Streams) (limit n : ℕ) →
+    Reached start now before between n → n < limit → now.retired ≡ start.retired + n →
+    Steps Rv32i now new between after stepped.WriteFault →
+    Runs start new before after limit finish.WriteFault
+unfolding Acts
+runs-write-fault start now new before between after limit n run below count steps =
+    let P : Hart → Type 0 = λ h. Closes finish.WriteFault h new between after in
+    record {
+      count = n;
+      last = run.last;
+      finishes = (below, run.reaches);
+      retired = ap (λ (h : Hart). h.retired) steps.2 ∙ count;
+      between = between;
+      streams = run.streams;
+      closes = subst P run.hart steps;
+    }
 
 -- the limit is reached
 pub runs-limit : (start now : Hart) (before after : Streams) (limit n : ℕ) →
@@ -200,7 +209,8 @@ runs-limit start now before after limit n run e count = record {
   count = n;
   last = run.last;
   finishes = (e, run.reaches);
-  hart = run.hart;
   retired = count;
+  between = after;
   streams = run.streams;
+  closes = (run.hart, refl);
 }

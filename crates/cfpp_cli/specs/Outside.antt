@@ -8,15 +8,22 @@ pub record Outside : Type 0 where
   pub files : Option Told
   pub file_faults : ℕ
   pub streams : Streams
+  pub input_faults : ℕ
+  pub output_faults : ℕ
 
 -- the report: what was written to it, where it tells that
 pub record Report : Type 0 where
   pub written : Option (List ℕ)
   pub faults : ℕ
 
-abbrev pub outside_of : Option Told → ℕ → Option (List ℕ) → Option (List ℕ) → Outside
-outside_of files faults input output =
-    record { files = files; file_faults = faults; streams = streams_of input output }
+abbrev pub outside_of : Option Told → ℕ → Option (List ℕ) → ℕ → Option (List ℕ) → ℕ → Outside
+outside_of files file_faults input input_faults output output_faults = record {
+  files = files;
+  file_faults = file_faults;
+  streams = streams_of input output;
+  input_faults = input_faults;
+  output_faults = output_faults;
+}
 
 abbrev pub report_of : Option (List ℕ) → ℕ → Report
 report_of written faults = record { written = written; faults = faults }

@@ -1,6 +1,6 @@
 -- What the top call answers, and what it leaves of the outside.
-use Rattle.std.specs.Prelude.{◌≡◌, ◌<◌, ◌≤◌, ◌⊎◌, ℕ, ◌+◌, List, ◌∷◌, length, take, codes, Option, Some, None}
-use Rattle.cf_io.specs.Causes.{Rose}
+use Rattle.std.specs.Prelude.{◌≡◌, ◌<◌, ◌≤◌, ◌⊎◌, ℕ, ◌+◌, List, ◌∷◌, length, take, codes, Option, Some, None, Result, Ok, Err}
+use Rattle.cf_io.specs.Causes.{Rose, HasCause}
 use Rattle.cf_io.specs.Puts.{Writes, WritesFront}
 use Rattle.cf_io.specs.Reads.{Told, with_failed}
 use Rattle.rv_machine.specs.Hart.{Hart}
@@ -60,6 +60,8 @@ abbrev pub status_of : Finish → Status
 status_of (finish.Exit code) = status.Exit code
 status_of (finish.Trap cause pc detail) = status.Trap cause pc detail
 status_of finish.Limit = status.Limit (Some default_limit)
+status_of finish.ReadFault = status.ReadFault which.Input
+status_of finish.WriteFault = status.WriteFault
 
 -- the status and the report that an image comes to
 abbrev pub ComesTo : List ℕ → Streams → Streams → Status → List ℕ → Type 0
@@ -78,8 +80,14 @@ ComesTo image before after (status.BadProgram program.NotBuilt) report =
 ComesTo image before after status.NoMemory report =
     (report ≡ line (codes "no memory")) × (after ≡ before)
 ComesTo image before after (status.BadWords index) report = ⊥
-ComesTo image before after (status.ReadFault file) report = ⊥
-ComesTo image before after status.WriteFault report = ⊥
+ComesTo image before after (status.ReadFault which.Input) report =
+    RunsImage image before after finish.ReadFault report
+ComesTo image before after status.WriteFault report =
+    RunsImage image before after finish.WriteFault report
+ComesTo image before after (status.ReadFault which.Layout) report = ⊥
+ComesTo image before after (status.ReadFault which.Program) report = ⊥
+ComesTo image before after (status.ReadFault which.Script) report = ⊥
+ComesTo image before after (status.ReadFault which.Source) report = ⊥
 
 -- the words name a program, its file was read, and its image comes to this
 pub record RunsProgram (words : List (List ℕ)) (before after : Outside) (answer : Status)
@@ -134,9 +142,25 @@ Answers words before after (status.ReadFault which.Program) report =
 Answers words before after (status.ReadFault which.Layout) report = ⊥
 Answers words before after (status.ReadFault which.Script) report = ⊥
 Answers words before after (status.ReadFault which.Source) report = ⊥
-Answers words before after (status.ReadFault which.Input) report = ⊥
+Answers words before after (status.ReadFault which.Input) report =
+    RunsProgram words before after (status.ReadFault which.Input) report
 Answers words before after status.NoMemory report = LacksMemory words before after report
-Answers words before after status.WriteFault report = ⊥
+Answers words before after status.WriteFault report =
+    RunsProgram words before after status.WriteFault report
+
+-- an error where the answer is that the program's input failed
+abbrev pub input_answered : Status → Result (Unit {0}) (Unit {0})
+input_answered (status.ReadFault which.Input) = Err tt
+input_answered (status.ReadFault which.Layout) = Ok tt
+input_answered (status.ReadFault which.Program) = Ok tt
+input_answered (status.ReadFault which.Script) = Ok tt
+input_answered (status.ReadFault which.Source) = Ok tt
+input_answered _ = Ok tt
+
+-- an error where the answer is that the program's output failed
+abbrev pub output_answered : Status → Result (Unit {0}) (Unit {0})
+output_answered status.WriteFault = Err tt
+output_answered _ = Ok tt
 
 -- the whole report was put, and the status is the answer; or the report failed behind a front of it, and the status is WriteFault
 abbrev pub Reports : Report → Report → List ℕ → Status → Status → Type 0
@@ -151,4 +175,6 @@ pub record IsTop (words : List (List ℕ)) (before after : Outside) (blank full 
   pub answer : Status
   pub text : List ℕ
   pub answers : Answers words before after answer text
+  pub input : HasCause before.input_faults after.input_faults (input_answered answer)
+  pub output : HasCause before.output_faults after.output_faults (output_answered answer)
   pub reports : Reports blank full text answer result

@@ -18,6 +18,8 @@ fn push_first_line(page: &mut Page, limit: u64, finish: Finish)
         Finish::Exit(status) => page::push_counted(page, b"exit ", u64::from(status)),
         Finish::Trap { cause, pc, detail } => page::push_trap(page, cause, pc, detail),
         Finish::Limit => page::push_counted(page, b"limit ", limit),
+        Finish::ReadFault => page::push_line(page, b"read fault input"),
+        Finish::WriteFault => page::push_line(page, b"write fault output"),
     }
 }
 

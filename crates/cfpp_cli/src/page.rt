@@ -2,7 +2,7 @@
 
 ghost use Rattle.std.specs.Prelude.{◌≡◌, ◌+◌, ◌*◌, ◌<◌, ◌≤◌, ◌++◌, ◌∷◌, [], length, decimal};
 ghost use Rattle.arrayvec.specs.ArrayVec.{array_vec_len};
-ghost use Rattle.cfpp_cli.specs.Texts.{hex8, hex_digit, separator as separator_of, register_entry, registers_from, counted_line, trap_line};
+ghost use Rattle.cfpp_cli.specs.Texts.{line, hex8, hex_digit, separator as separator_of, register_entry, registers_from, counted_line, trap_line};
 
 use arrayvec::ArrayVec;
 use itoa::Buffer;
@@ -88,6 +88,16 @@ pub fn push_registers(page: &mut Page, regs: &[u32; 32])
         push_register(page, register, *word);
         register += 1;
     }
+}
+
+/// A line of this text.
+pub fn push_line(page: &mut Page, text: &[u8])
+    requires { array_vec_len page.old + length text.now + 1 ≤ 640 }
+    ensures items { page.new.items ≡ page.old.items ++ line text.now }
+    ensures len { array_vec_len page.new ≡ array_vec_len page.old + length text.now + 1 }
+{
+    push_text(page, text);
+    page.push(b'\n');
 }
 
 /// A line of a name and a number.

@@ -1,5 +1,5 @@
 use super::*;
-use cf_io::{Empty, MemFiles, MemSink};
+use cf_io::{Empty, MemFiles, MemSink, MemSource};
 use std::alloc::{AllocError, Global};
 use std::process::Abort;
 use std::test::Fail;
@@ -196,4 +196,49 @@ fn failing_report(rt: HostRuntime) -> Result<(), Fail> {
     assert_eq!(rt; status, Status::WriteFault);
     assert!(rt; report.bytes().is_empty());
     Ok(())
+}
+
+/// One call of the top call over streams that fail at once: its status, and whether the report begins so.
+fn check_failing(
+    rt: &(impl Abort + AllocGlobal),
+    file: &[u8],
+    wanted: Status,
+    first_lines: &[u8],
+) -> Result<(), Fail> {
+    let alloc = rt.alloc();
+    let words = words_of(alloc, &["machine", "p"])?;
+    let mut files = files_of(alloc, file, Vec::new(alloc))?;
+    let mut input = MemSource::new(b"a".to_vec(alloc)?, 1, [1u64].to_vec(alloc)?);
+    let mut output = MemSink::new(alloc, 10, [1u64].to_vec(alloc)?)?;
+    let mut report = MemSink::new(alloc, 1000, Vec::new(alloc))?;
+    let status = cfpp(
+        alloc,
+        words.as_slice(),
+        &mut files,
+        &mut input,
+        &mut output,
+        &mut report,
+    );
+    assert_eq!(rt; status, wanted);
+    assert!(rt; report.bytes().starts_with(first_lines));
+    assert!(rt; output.bytes().is_empty());
+    Ok(())
+}
+
+#[test]
+fn failing_streams(rt: HostRuntime) -> Result<(), Fail> {
+    // lui x11, 0x7f000; addi x12, x0, 8; addi x17, x0, 63; ecall
+    check_failing(
+        &rt,
+        b"\xb7\x05\x00\x7f\x13\x06\x80\x00\x93\x08\xf0\x03\x73\x00\x00\x00",
+        Status::ReadFault(Which::Input),
+        b"read fault input\nretired 3\nx00=00000000 x01=00000000 x02=7f0ffff0",
+    )?;
+    // addi x10, x0, 1; lui x11, 0x10; addi x12, x0, 6; addi x17, x0, 64; ecall
+    check_failing(
+        &rt,
+        b"\x13\x05\x10\x00\xb7\x05\x01\x00\x13\x06\x60\x00\x93\x08\x00\x04\x73\x00\x00\x00",
+        Status::WriteFault,
+        b"write fault output\nretired 4\nx00=00000000 x01=00000000 x02=7f0ffff0",
+    )
 }

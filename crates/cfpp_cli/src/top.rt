@@ -1,7 +1,8 @@
 ghost use Rattle.std.specs.Prelude.{◌≡◌, ◌≤◌, ◌<◌, ◌++◌, map, string_bytes, length};
+ghost use Rattle.cf_io.specs.Causes.{HasCause};
 ghost use Rattle.rv_machine.specs.Streams.{streams_of};
 ghost use Rattle.cfpp_cli.specs.Outside.{outside_of, report_of};
-ghost use Rattle.cfpp_cli.specs.Top.{Answers, ComesTo, IsTop, status_of as status_for};
+ghost use Rattle.cfpp_cli.specs.Top.{Answers, ComesTo, IsTop, status_of as status_for, input_answered, output_answered};
 ghost use Rattle.cfpp_cli.specs.Texts.{line as line_of, counted_line};
 
 use crate::closing::closing_page;
@@ -27,6 +28,8 @@ fn status_of(finish: Finish) -> Status
         Finish::Exit(code) => Status::Exit(code),
         Finish::Trap { cause, pc, detail } => Status::Trap { cause, pc, detail },
         Finish::Limit => Status::Limit(Some(DEFAULT_LIMIT)),
+        Finish::ReadFault => Status::ReadFault(Which::Input),
+        Finish::WriteFault => Status::WriteFault,
     }
 }
 
@@ -36,8 +39,7 @@ fn line(text: &[u8]) -> Page
     ensures { result.items ≡ line_of text.now }
 {
     let mut page = ArrayVec::new();
-    page::push_text(&mut page, text);
-    page.push(b'\n');
+    page::push_line(&mut page, text);
     page
 }
 
@@ -58,9 +60,11 @@ fn run_image<S: Source, K: Sink>(
     input: &mut S,
     output: &mut K,
 ) -> (Status, Page)
-    ensures { ComesTo image.now
+    ensures comes { ComesTo image.now
         (streams_of (S.left input.old) (K.written output.old))
         (streams_of (S.left input.new) (K.written output.new)) result.0 result.1.items }
+    ensures input { HasCause (S.faults input.old) (S.faults input.new) (input_answered result.0) }
+    ensures output { HasCause (K.faults output.old) (K.faults output.new) (output_answered result.0) }
 {
     if image.len() as u64 > MOST_BYTES {
         let status = Status::BadProgram(ProgramErr::TooLong);
@@ -86,10 +90,14 @@ fn decide<F: Files, S: Source, K: Sink>(
     input: &mut S,
     output: &mut K,
 ) -> (Status, Page)
-    ensures { Answers (map string_bytes words.now)
-        (outside_of (F.told files.old) (F.faults files.old) (S.left input.old) (K.written output.old))
-        (outside_of (F.told files.new) (F.faults files.new) (S.left input.new) (K.written output.new))
+    ensures answers { Answers (map string_bytes words.now)
+        (outside_of (F.told files.old) (F.faults files.old) (S.left input.old) (S.faults input.old)
+        (K.written output.old) (K.faults output.old))
+        (outside_of (F.told files.new) (F.faults files.new) (S.left input.new) (S.faults input.new)
+        (K.written output.new) (K.faults output.new))
         result.0 result.1.items }
+    ensures input { HasCause (S.faults input.old) (S.faults input.new) (input_answered result.0) }
+    ensures output { HasCause (K.faults output.old) (K.faults output.new) (output_answered result.0) }
 {
     let program = match program_word(words) {
         Ok(program) => program,
@@ -123,8 +131,10 @@ pub fn cfpp<F: Files, S: Source, K: Sink, R: Sink>(
     report: &mut R,
 ) -> Status
     ensures top { IsTop (map string_bytes words.now)
-        (outside_of (F.told files.old) (F.faults files.old) (S.left input.old) (K.written output.old))
-        (outside_of (F.told files.new) (F.faults files.new) (S.left input.new) (K.written output.new))
+        (outside_of (F.told files.old) (F.faults files.old) (S.left input.old) (S.faults input.old)
+        (K.written output.old) (K.faults output.old))
+        (outside_of (F.told files.new) (F.faults files.new) (S.left input.new) (S.faults input.new)
+        (K.written output.new) (K.faults output.new))
         (report_of (R.written report.old) (R.faults report.old))
         (report_of (R.written report.new) (R.faults report.new)) result }
 {

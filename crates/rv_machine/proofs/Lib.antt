@@ -1,2 +1,5 @@
 pub mod Acting
+pub mod Buffers
+pub mod Calls
+pub mod Classes
 pub mod Told

@@ -2,12 +2,19 @@
 use Rattle.std.proofs.Common.{◌≡◌, ℕ, List, [], ◌++◌, Option, Some, None, refl, ap, sym, ◌∙◌, subst, append-nil, append_assoc}
 use Rattle.std.specs.Prelude.{unwrap_or}
 use Rattle.cf_io.specs.Puts.{Writes}
-use Rattle.rv_machine.specs.Streams.{Streams, IsTold, Becomes, Leaves}
+use Rattle.rv_machine.specs.Streams.{Streams, IsTold, Becomes, Leaves, IsSpent}
 
--- an input that agrees with what is told
-pub rest-told : (told : Option (List ℕ)) → IsTold told (unwrap_or told [])
+-- an input that agrees with what is told: nothing where that is not told
+abbrev pub some_rest : Option (List ℕ) → List ℕ
+some_rest told = unwrap_or told []
+
+pub rest-told : (told : Option (List ℕ)) → IsTold told (some_rest told)
 rest-told None = tt
 rest-told (Some told) = refl
+
+pub rest-spent : (told : Option (List ℕ)) → IsSpent told (some_rest told)
+rest-spent None = refl
+rest-spent (Some told) = tt
 
 -- an input that nothing was taken from, and an output that nothing was put to
 input-stays : (told : Option (List ℕ)) (rest : List ℕ) → IsTold told rest → Becomes told told rest

@@ -1,6 +1,11 @@
 -- What a call of the machine does, of all that the definitions say and the streams tell.
-use Rattle.std.specs.Prelude.{◌≡◌, ℕ, ◌+◌, List}
+use Rattle.std.specs.Prelude.{◌≡◌, ℕ, ◌+◌, ◌%◌, List, Some, Ok}
 use Rattle.mem_regions.specs.Memory.{Memory}
+use Rattle.mem_regions.specs.Fetching.{fetch_at}
+use Rattle.rv_inst.specs.declared.isa.Isa.{Isa}
+use Rattle.rv_inst.specs.declared.instruction.Instr.TheVariants.{Ecall}
+use Rattle.rv_inst.specs.Decoding.{decoded_as}
+use Rattle.rv_machine.specs.declared.outcome.Retired.{Retired}
 use Rattle.rv_machine.specs.declared.outcome.Stepped.{Stepped}
 use Rattle.rv_machine.specs.declared.outcome.Stepped.TheVariants as stepped
 use Rattle.rv_machine.specs.declared.outcome.Served.{Served}
@@ -11,7 +16,8 @@ use Rattle.rv_machine.specs.Outcome.{Outcome, Next, Trap, Exit}
 use Rattle.rv_machine.specs.Call.{Called, call}
 use Rattle.rv_machine.specs.Call as called
 use Rattle.rv_machine.specs.Step.{step_on}
-use Rattle.rv_machine.specs.Streams.{Streams, IsTold, Leaves}
+use Rattle.rv_machine.specs.Streams.{Streams, IsTold, Leaves, IsSpent}
+use Rattle.rv_machine.specs.Faults.{FailsReading, FailsWriting}
 
 -- the hart did this, which asks nothing of the streams
 abbrev pub Does : Outcome Hart → Hart → Hart → Stepped → Type 0
@@ -19,39 +25,82 @@ Does (Next h line) old new result = (new ≡ h) × (result ≡ stepped.Next line
 Does (Trap cause pc detail) old new result = (new ≡ old) × (result ≡ stepped.Trap cause pc detail)
 Does (Exit status) old new result = (new ≡ old) × (result ≡ stepped.Exit status)
 
--- the hart did this, and so did the streams; only an instruction that retires leaves a mark
-abbrev pub DoesBeside : Outcome Machine → Hart → Hart → Streams → Streams → Stepped → Type 0
-DoesBeside (Next m line) old new before after result =
-    (new ≡ m.hart) × Leaves before after m.rest m.output × (result ≡ stepped.Next line)
-DoesBeside (Trap cause pc detail) old new before after result =
-    (new ≡ old) × (after ≡ before) × (result ≡ stepped.Trap cause pc detail)
-DoesBeside (Exit status) old new before after result =
-    (new ≡ old) × (after ≡ before) × (result ≡ stepped.Exit status)
-
--- some input that agrees with what is told brings the outcome about
-pub record Acts (outcome : List ℕ → Outcome Machine) (old new : Hart) (before after : Streams)
-    (result : Stepped) : Type 0 where
+-- an instruction retired: the outcome is this on some input that agrees with what is told
+pub record Retires (outcome : List ℕ → Outcome Machine) (new : Hart) (before after : Streams)
+    (line : Retired) : Type 0 where
   pub rest : List ℕ
   pub told : IsTold before.input rest
-  pub does : DoesBeside (outcome rest) old new before after result
+  pub next : Machine
+  pub is : outcome rest ≡ Next next line
+  pub hart : new ≡ next.hart
+  pub leaves : Leaves before after next.rest next.output
+  pub spent : IsSpent before.input next.rest
 
--- the call did one step
-abbrev pub Steps : Hart → Hart → Streams → Streams → Stepped → Type 0
-Steps old new before after result = Acts (step_on old) old new before after result
-
--- the environment call came out so
-abbrev pub Answers : Called → Memory → Memory → Streams → Streams → Served → Type 0
-Answers (called.Value a) mem new before after result =
-    (new ≡ a.mem) × Leaves before after a.rest a.output × (result ≡ served.Value a.value)
-Answers (called.Exit status) mem new before after result =
-    (new ≡ mem) × (after ≡ before) × (result ≡ served.Exit status)
-
--- some input that agrees with what is told has the environment call come out so
-pub record Serves (regs : List ℕ) (mem new : Memory) (before after : Streams) (result : Served) :
-    Type 0 where
+-- a trap or an exit, which leaves all as it was: the outcome is this on some input that agrees with what is told
+pub record Stops (outcome : List ℕ → Outcome Machine) (end : Outcome Machine) (old new : Hart)
+    (before after : Streams) : Type 0 where
   pub rest : List ℕ
   pub told : IsTold before.input rest
-  pub answers : Answers (call regs mem rest) mem new before after result
+  pub is : outcome rest ≡ end
+  pub hart : new ≡ old
+  pub streams : after ≡ before
+
+-- the outcome came about; or a stream failed the instruction, which is an environment call where `calls` holds
+unfoldable pub Acts : Type 0 → (List ℕ → Outcome Machine) → Hart → Hart → Streams → Streams →
+    Stepped → Type 0
+Acts calls outcome old new before after (stepped.Next line) = Retires outcome new before after line
+Acts calls outcome old new before after (stepped.Trap cause pc detail) =
+    Stops outcome (Trap cause pc detail) old new before after
+Acts calls outcome old new before after (stepped.Exit status) =
+    Stops outcome (Exit status) old new before after
+Acts calls outcome old new before after stepped.ReadFault =
+    calls × FailsReading old.regs old.mem new.mem before after
+    × (new ≡ record old { mem = new.mem })
+Acts calls outcome old new before after stepped.WriteFault =
+    calls × FailsWriting old.regs old.mem before after × (new ≡ old)
+
+-- the instruction at the program counter is ECALL
+pub record CallsHere (isa : Isa) (h : Hart) : Type 0 where
+  pub aligned : h.pc % 4 ≡ 0
+  pub word : ℕ
+  pub fetched : fetch_at h.mem h.pc ≡ Ok word
+  pub decoded : decoded_as isa word ≡ Some Ecall
+
+-- one step of a machine that has this instruction set; a stream fails only an environment call that asks it
+abbrev pub Steps : Isa → Hart → Hart → Streams → Streams → Stepped → Type 0
+Steps isa old new before after result =
+    Acts (CallsHere isa old) (step_on isa old) old new before after result
+
+-- the call answered: it is this on some input that agrees with what is told
+pub record Returns (asked : List ℕ → Called) (new : Memory) (before after : Streams)
+    (value : ℕ) : Type 0 where
+  pub rest : List ℕ
+  pub told : IsTold before.input rest
+  pub later : List ℕ
+  pub added : List ℕ
+  pub is : asked rest
+      ≡ called.Value (record { value = value; mem = new; rest = later; output = added })
+  pub leaves : Leaves before after later added
+  pub spent : IsSpent before.input later
+
+-- the call ended the program, which leaves all as it was
+pub record Quits (asked : List ℕ → Called) (status : ℕ) (mem new : Memory)
+    (before after : Streams) : Type 0 where
+  pub rest : List ℕ
+  pub told : IsTold before.input rest
+  pub is : asked rest ≡ called.Exit status
+  pub memory : new ≡ mem
+  pub streams : after ≡ before
+
+-- the environment call that the registers ask for came about, or a stream that it asks failed it
+unfoldable pub Serves : List ℕ → Memory → Memory → Streams → Streams → Served → Type 0
+Serves regs mem new before after (served.Value value) =
+    Returns (call regs mem) new before after value
+Serves regs mem new before after (served.Exit status) =
+    Quits (call regs mem) status mem new before after
+Serves regs mem new before after served.ReadFault = FailsReading regs mem new before after
+Serves regs mem new before after served.WriteFault =
+    FailsWriting regs mem before after × (new ≡ mem)
 
 -- the count is one higher where an instruction retired, and the same elsewhere
 abbrev pub Counts : ℕ → ℕ → Stepped → Type 0

@@ -5,4 +5,6 @@ pub mod Outcome
 pub mod Call
 pub mod Step
 pub mod After
+pub mod Buffers
+pub mod Faults
 pub mod Acts

@@ -1,4 +1,4 @@
--- One step of the sequential machine (RISC-V Unprivileged ISA Manual, RV32I and Zifencei).
+-- One step of the sequential machine (RISC-V Unprivileged ISA Manual, RV32I, Zifencei and the M extension).
 use Rattle.std.specs.Prelude.{ℕ, ◌+◌, ◌%◌, List, [], ◌++◌, Bool, true, false, ◌==◌, if◌then◌else◌, Option, Some, None, Result, Ok, Err, slice_index, slice_set}
 use Rattle.mem_regions.specs.Fetching.{fetch_at, synced}
 use Rattle.mem_regions.specs.Access.{permits_at, bounds_of}
@@ -11,11 +11,13 @@ use Rattle.rv_inst.specs.declared.classes.Class.TheVariants as class
 use Rattle.rv_inst.specs.declared.accesses.Access.{Access}
 use Rattle.rv_inst.specs.declared.instruction.Instr.{Instr}
 use Rattle.rv_inst.specs.declared.instruction.Instr.TheVariants.{FenceI, Ebreak}
+use Rattle.rv_inst.specs.declared.isa.Isa.{Isa}
 use Rattle.rv_inst.specs.Words.{word_sum}
-use Rattle.rv_inst.specs.Decoding.{decoded}
+use Rattle.rv_inst.specs.Decoding.{decoded_as}
 use Rattle.rv_inst.specs.Operands.{class_of, sources_of, dest_of}
-use Rattle.rv_inst.specs.Arithmetic.{alu_value, next_pc}
+use Rattle.rv_inst.specs.Arithmetic.{next_pc}
 use Rattle.rv_inst.specs.Accesses.{access_made, extended}
+use Rattle.rv_mul.specs.Values.{value_of}
 use Rattle.rv_machine.specs.Hart.{Hart}
 use Rattle.rv_machine.specs.Machine.{Machine}
 use Rattle.rv_machine.specs.Outcome.{Outcome, Next, Trap, Exit}
@@ -32,20 +34,24 @@ retire h word next r v = Next
     (record { pc = next; regs = with_register h.regs r v; mem = h.mem; retired = h.retired + 1 })
     (record { pc = h.pc; word = word; reg = r; value = if r == 0 then 0 else v })
 
+-- the value of a register; x0 is always zero
+abbrev pub register_value : List ℕ → ℕ → ℕ
+register_value regs r = if r == 0 then 0 else slice_index regs r
+
 -- the values of the two sources; x0 stands for a source that the instruction does not have
 abbrev pub first_value : Hart → Instr → ℕ
-first_value h i = slice_index h.regs (sources_of i).0
+first_value h i = register_value h.regs (sources_of i).0
 
 abbrev pub second_value : Hart → Instr → ℕ
-second_value h i = slice_index h.regs (sources_of i).1
+second_value h i = register_value h.regs (sources_of i).1
 
--- arithmetic, branches and jumps: a target that is no multiple of 4 is a trap of the instruction that jumps
+-- arithmetic, products and quotients, branches and jumps: a target that is no multiple of 4 is a trap of the instruction that jumps
 unfoldable pub compute : Hart → ℕ → Instr → Outcome Hart
 compute h word i =
     let a = first_value h i in
     let b = second_value h i in
     let next = next_pc i h.pc a b in
-    if next % 4 == 0 then retire h word next (dest_of i) (alu_value i h.pc a b) else Trap 0 h.pc next
+    if next % 4 == 0 then retire h word next (dest_of i) (value_of i h.pc a b) else Trap 0 h.pc next
 
 -- a load: its destination gets the number at the address, extended
 abbrev pub loads : Hart → ℕ → Instr → ℕ → Result ℕ MemErr → Outcome Hart
@@ -106,7 +112,7 @@ serial h rest word i =
     then beside rest [] (synchronize h word)
     else environment h word (call h.regs h.mem rest)
 
--- what an instruction does, by its class; a machine without multiply and divide units does not have their instructions
+-- what an instruction does, by its class
 unfoldable pub execute : Class → Hart → List ℕ → ℕ → Instr → Outcome Machine
 execute class.Add h rest word i = beside rest [] (compute h word i)
 execute class.Logic h rest word i = beside rest [] (compute h word i)
@@ -117,22 +123,23 @@ execute class.Jump h rest word i = beside rest [] (compute h word i)
 execute class.Memory h rest word i = beside rest [] (access_memory h word i)
 execute class.Serial h rest word i = serial h rest word i
 execute class.Free h rest word i = beside rest [] (pass h word i)
-execute class.Mul h rest word i = Trap 2 h.pc word
-execute class.Div h rest word i = Trap 2 h.pc word
+execute class.Mul h rest word i = beside rest [] (compute h word i)
+execute class.Div h rest word i = beside rest [] (compute h word i)
 
 -- the instruction that the word stands for
 abbrev pub interpret : Hart → List ℕ → ℕ → Option Instr → Outcome Machine
 interpret h rest word None = Trap 2 h.pc word
 interpret h rest word (Some i) = execute (class_of i) h rest word i
 
--- the word that was fetched
-abbrev pub fetched : Hart → List ℕ → Result ℕ MemErr → Outcome Machine
-fetched h rest (Ok word) = interpret h rest word (decoded word)
-fetched h rest (Err e) = Trap 1 h.pc h.pc
+-- the word that was fetched, as an instruction of the set
+abbrev pub fetched : Isa → Hart → List ℕ → Result ℕ MemErr → Outcome Machine
+fetched isa h rest (Ok word) = interpret h rest word (decoded_as isa word)
+fetched isa h rest (Err e) = Trap 1 h.pc h.pc
 
 -- what a hart does next, where the input has these bytes left; the output is that of this step
-unfoldable pub step_on : Hart → List ℕ → Outcome Machine
-step_on h rest = if h.pc % 4 == 0 then fetched h rest (fetch_at h.mem h.pc) else Trap 0 h.pc h.pc
+unfoldable pub step_on : Isa → Hart → List ℕ → Outcome Machine
+step_on isa h rest =
+    if h.pc % 4 == 0 then fetched isa h rest (fetch_at h.mem h.pc) else Trap 0 h.pc h.pc
 
 -- the output of a step stands behind that of the steps before
 abbrev pub behind : List ℕ → Outcome Machine → Outcome Machine
@@ -140,6 +147,6 @@ behind output (Next m line) = Next (record m { output = output ++ m.output }) li
 behind output (Trap cause pc detail) = Trap cause pc detail
 behind output (Exit status) = Exit status
 
--- one step of the machine
-unfoldable pub step : Machine → Outcome Machine
-step m = behind m.output (step_on m.hart m.rest)
+-- one step of the machine that has this instruction set
+unfoldable pub step : Isa → Machine → Outcome Machine
+step isa m = behind m.output (step_on isa m.hart m.rest)

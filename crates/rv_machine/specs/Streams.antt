@@ -1,5 +1,5 @@
 -- The input and the output of a program as their source and sink tell them: nothing is claimed of what they keep to themselves.
-use Rattle.std.specs.Prelude.{◌≡◌, ℕ, List, Option, Some, None}
+use Rattle.std.specs.Prelude.{◌≡◌, ℕ, List, [], ◌++◌, Option, Some, None}
 use Rattle.cf_io.specs.Puts.{Writes}
 
 -- what the input has left and what was written to the output, where they tell it
@@ -24,3 +24,13 @@ Becomes (Some told) after bytes = after ≡ Some bytes
 pub record Leaves (before after : Streams) (rest added : List ℕ) : Type 0 where
   pub input : Becomes before.input after.input rest
   pub output : Writes before.output after.output added
+
+-- an input that does not tell what it has left is thought of as having just the bytes that are taken, so that nothing is left of them
+abbrev pub IsSpent : Option (List ℕ) → List ℕ → Type 0
+IsSpent None rest = rest ≡ []
+IsSpent (Some told) rest = Unit {0}
+
+-- where the input tells: these were the first bytes that it had left, and the others are left now
+abbrev pub Gives : Option (List ℕ) → Option (List ℕ) → List ℕ → Type 0
+Gives None after taken = Unit {0}
+Gives (Some told) after taken = (rest : List ℕ) × (told ≡ taken ++ rest) × (after ≡ Some rest)

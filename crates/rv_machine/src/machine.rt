@@ -1,27 +1,28 @@
 #![tactic(auto, unfolding(crate::specs::Step::retire, crate::specs::Step::compute, crate::specs::Step::access_memory, crate::specs::Step::pass, crate::specs::Step::synchronize))]
 
-ghost use Rattle.std.specs.Prelude.{◌≡◌, ◌≢◌, ◌+◌, ◌<◌, ◌^◌, length, slice_index, true, IsTrue};
+ghost use Rattle.std.specs.Prelude.{◌≡◌, ◌+◌, ◌<◌, ◌^◌, Some, length, slice_index, true, IsTrue};
+ghost use Rattle.cf_io.specs.Causes.{HasCause};
 ghost use Rattle.mem_regions.specs.Access.{IsWidth, bounds_of, permits_at};
 ghost use Rattle.mem_regions.specs.Ranges.{load_at};
 ghost use Rattle.mem_regions.specs.Fetching.{fetch_at};
 ghost use Rattle.rv_inst.specs.Ranges.{Fits};
-ghost use Rattle.rv_inst.specs.Decoding.{decoded};
-ghost use Rattle.rv_inst.specs.Arithmetic.{is_arithmetic};
+ghost use Rattle.rv_inst.specs.Decoding.{decoded_as};
 ghost use Rattle.rv_inst.specs.Accesses.{is_load};
 ghost use Rattle.rv_inst.specs.Operands.{class_of as class_name};
+ghost use Rattle.rv_mul.specs.Values.{computes};
 ghost use Rattle.rv_machine.specs.Machine.{start_hart};
 ghost use Rattle.rv_machine.specs.Streams.{streams_of};
 ghost use Rattle.rv_machine.specs.Acts.{Acts, Does, Steps, Counts};
 ghost use Rattle.rv_machine.specs.Call.{call};
+ghost use Rattle.rv_machine.specs.Faults.{input_stepped, output_stepped};
 ghost use Rattle.rv_machine.specs.Step.{with_register, retire as retirement, first_value, second_value, compute as computation, loads, stores, access_memory as memory_access, pass as passing, synchronize as synchronization, environment, serial as serial_step, execute as execution, interpret as interpretation, breaks as is_breaking, synchronizes as is_synchronizing};
 
 use crate::outcome::{Retired, Served, Stepped};
 use crate::serving::serve;
 use cf_io::{Sink, Source};
 use mem_regions::{MemErr, Regions};
-use rv_inst::{
-    Access, Class, Instr, access_of, alu, class_of, decode, dest, extend, next_of, sources,
-};
+use rv_inst::{Access, Class, Instr, Isa, access_of, decode_as, dest, extend, next_of, sources};
+use rv_mul::value;
 use std::marker::Model;
 
 /// A machine between two instructions, seen as its hart.
@@ -159,7 +160,7 @@ impl Machine {
     #[inline(always)]
     fn compute(&mut self, word: u32, i: Instr) -> Stepped
         requires fits { Fits i }
-        requires arithmetic { IsTrue (is_arithmetic (class_name i)) }
+        requires computing { IsTrue (computes (class_name i)) }
         requires count { self.old.retired + 1 < 2 ^ 64 }
         ensures does { Does (computation self.old word i) self.old self.new result }
         ensures count { Counts self.old.retired self.new.retired result }
@@ -169,8 +170,7 @@ impl Machine {
         if next % 4 != 0 {
             return self.trap(0, next);
         }
-        let value = alu(i, self.pc, a, b);
-        self.retire(word, next, dest(i), value)
+        self.retire(word, next, dest(i), value(i, self.pc, a, b))
     }
 
     #[inline(always)]
@@ -255,13 +255,14 @@ impl Machine {
         output: &mut K,
     ) -> Stepped
         requires count { self.old.retired + 1 < 2 ^ 64 }
-        ensures acts { Acts
+        ensures acts { Acts (Unit {0})
             (λ rest. environment self.old word (call self.old.regs self.old.mem rest))
             self.old self.new
             (streams_of (S.left input.old) (K.written output.old))
             (streams_of (S.left input.new) (K.written output.new)) result }
         ensures count { Counts self.old.retired self.new.retired result }
-        ensures no_faults { (result ≢ Stepped.ReadFault) × (result ≢ Stepped.WriteFault) }
+        ensures input { HasCause (S.faults input.old) (S.faults input.new) (input_stepped result) }
+        ensures output { HasCause (K.faults output.old) (K.faults output.new) (output_stepped result) }
     {
         match serve(&self.regs, &mut self.mem, input, output) {
             Served::Value(value) => self.retire(word, self.pc.wrapping_add(4), 10, value),
@@ -286,12 +287,14 @@ impl Machine {
         input: &mut S,
         output: &mut K,
     ) -> Stepped
+        requires serial { class_name i ≡ Class.Serial }
         requires count { self.old.retired + 1 < 2 ^ 64 }
-        ensures acts { Acts (λ rest. serial_step self.old rest word i) self.old self.new
+        ensures acts { Acts (i ≡ Instr.Ecall) (λ rest. serial_step self.old rest word i) self.old self.new
             (streams_of (S.left input.old) (K.written output.old))
             (streams_of (S.left input.new) (K.written output.new)) result }
         ensures count { Counts self.old.retired self.new.retired result }
-        ensures no_faults { (result ≢ Stepped.ReadFault) × (result ≢ Stepped.WriteFault) }
+        ensures input { HasCause (S.faults input.old) (S.faults input.new) (input_stepped result) }
+        ensures output { HasCause (K.faults output.old) (K.faults output.new) (output_stepped result) }
     {
         if synchronizes(i) {
             self.synchronize(word)
@@ -301,6 +304,7 @@ impl Machine {
     }
 
     #[inline(always)]
+    #[tactic(auto, using(crate::proofs::Classes::computing))]
     fn execute<S: Source, K: Sink>(
         &mut self,
         word: u32,
@@ -310,63 +314,104 @@ impl Machine {
     ) -> Stepped
         requires fits { Fits i }
         requires count { self.old.retired + 1 < 2 ^ 64 }
-        ensures acts { Acts (λ rest. execution (class_name i) self.old rest word i)
-            self.old self.new
+        ensures acts { Acts (i ≡ Instr.Ecall)
+            (λ rest. execution (class_name i) self.old rest word i) self.old self.new
             (streams_of (S.left input.old) (K.written output.old))
             (streams_of (S.left input.new) (K.written output.new)) result }
         ensures count { Counts self.old.retired self.new.retired result }
-        ensures no_faults { (result ≢ Stepped.ReadFault) × (result ≢ Stepped.WriteFault) }
+        ensures input { HasCause (S.faults input.old) (S.faults input.new) (input_stepped result) }
+        ensures output { HasCause (K.faults output.old) (K.faults output.new) (output_stepped result) }
     {
-        match class_of(i) {
-            Class::Add
-            | Class::Logic
-            | Class::Shift
-            | Class::Compare
-            | Class::Branch
-            | Class::Jump => { self.compute(word, i) }
-            Class::Memory => self.access_memory(word, i),
-            Class::Serial => self.serial(word, i, input, output),
-            Class::Free => self.pass(word, i),
-            Class::Mul | Class::Div => self.trap(2, word),
+        // An arm for each instruction: what is inlined there is made for it.
+        match i {
+            Instr::Lui { .. } => self.compute(word, i),
+            Instr::Auipc { .. } => self.compute(word, i),
+            Instr::Jal { .. } => self.compute(word, i),
+            Instr::Jalr { .. } => self.compute(word, i),
+            Instr::Branch { .. } => self.compute(word, i),
+            Instr::Load { .. } => self.access_memory(word, i),
+            Instr::Store { .. } => self.access_memory(word, i),
+            Instr::OpImm { .. } => self.compute(word, i),
+            Instr::Op { .. } => self.compute(word, i),
+            Instr::Mul { .. } => self.compute(word, i),
+            Instr::Fence { .. } => self.pass(word, i),
+            Instr::Ebreak => self.pass(word, i),
+            Instr::Ecall => self.serial(word, i, input, output),
+            Instr::FenceI { .. } => self.serial(word, i, input, output),
         }
     }
 
     #[inline(always)]
-    fn interpret<S: Source, K: Sink>(&mut self, word: u32, input: &mut S, output: &mut K) -> Stepped
+    fn interpret<S: Source, K: Sink>(
+        &mut self,
+        isa: Isa,
+        word: u32,
+        input: &mut S,
+        output: &mut K,
+    ) -> Stepped
         requires count { self.old.retired + 1 < 2 ^ 64 }
-        ensures acts { Acts (λ rest. interpretation self.old rest word (decoded word))
-            self.old self.new
+        ensures acts { Acts (decoded_as isa word ≡ Some Instr.Ecall)
+            (λ rest. interpretation self.old rest word (decoded_as isa word)) self.old self.new
             (streams_of (S.left input.old) (K.written output.old))
             (streams_of (S.left input.new) (K.written output.new)) result }
         ensures count { Counts self.old.retired self.new.retired result }
-        ensures no_faults { (result ≢ Stepped.ReadFault) × (result ≢ Stepped.WriteFault) }
+        ensures input { HasCause (S.faults input.old) (S.faults input.new) (input_stepped result) }
+        ensures output { HasCause (K.faults output.old) (K.faults output.new) (output_stepped result) }
     {
-        match decode(word) {
+        match decode_as(isa, word) {
             Some(i) => self.execute(word, i, input, output),
             None => self.trap(2, word),
         }
     }
 
-    /// Makes one step: the instruction at the program counter retires, traps or ends the program.
-    ///
-    /// After `Next` the machine is the one after the instruction; after a trap, an exit or a fault its program
-    /// counter, registers and count are what they were.
     #[inline(always)]
-    pub fn step<S: Source, K: Sink>(&mut self, input: &mut S, output: &mut K) -> Stepped
+    fn step_as<S: Source, K: Sink>(&mut self, isa: Isa, input: &mut S, output: &mut K) -> Stepped
         requires { self.old.retired + 1 < 2 ^ 64 }
-        ensures steps { Steps self.old self.new
+        ensures steps { Steps isa self.old self.new
             (streams_of (S.left input.old) (K.written output.old))
             (streams_of (S.left input.new) (K.written output.new)) result }
         ensures count { Counts self.old.retired self.new.retired result }
-        ensures no_faults { (result ≢ Stepped.ReadFault) × (result ≢ Stepped.WriteFault) }
+        ensures input { HasCause (S.faults input.old) (S.faults input.new) (input_stepped result) }
+        ensures output { HasCause (K.faults output.old) (K.faults output.new) (output_stepped result) }
     {
         let pc = self.pc();
         if pc % 4 != 0 {
             return self.trap(0, pc);
         }
         match self.fetch() {
-            Ok(word) => self.interpret(word, input, output),
+            Ok(word) => self.interpret(isa, word, input, output),
             Err(_) => self.trap(1, pc),
         }
+    }
+
+    /// Makes one step of an RV32I machine: the instruction at the program counter retires, traps or ends the program.
+    ///
+    /// After `Next` the machine is the one after the instruction; after a trap, an exit or a fault its program
+    /// counter, registers and count are what they were. A fault comes only of an environment call, as [`serve`] tells it.
+    #[inline(always)]
+    pub fn step<S: Source, K: Sink>(&mut self, input: &mut S, output: &mut K) -> Stepped
+        requires { self.old.retired + 1 < 2 ^ 64 }
+        ensures steps { Steps Isa.Rv32i self.old self.new
+            (streams_of (S.left input.old) (K.written output.old))
+            (streams_of (S.left input.new) (K.written output.new)) result }
+        ensures count { Counts self.old.retired self.new.retired result }
+        ensures input { HasCause (S.faults input.old) (S.faults input.new) (input_stepped result) }
+        ensures output { HasCause (K.faults output.old) (K.faults output.new) (output_stepped result) }
+    {
+        self.step_as(Isa::Rv32i, input, output)
+    }
+
+    /// Makes one step of an RV32IM machine, which also multiplies and divides: the rest is as in [`Machine::step`].
+    #[inline(always)]
+    pub fn step_m<S: Source, K: Sink>(&mut self, input: &mut S, output: &mut K) -> Stepped
+        requires { self.old.retired + 1 < 2 ^ 64 }
+        ensures steps { Steps Isa.Rv32im self.old self.new
+            (streams_of (S.left input.old) (K.written output.old))
+            (streams_of (S.left input.new) (K.written output.new)) result }
+        ensures count { Counts self.old.retired self.new.retired result }
+        ensures input { HasCause (S.faults input.old) (S.faults input.new) (input_stepped result) }
+        ensures output { HasCause (K.faults output.old) (K.faults output.new) (output_stepped result) }
+    {
+        self.step_as(Isa::Rv32im, input, output)
     }
 }

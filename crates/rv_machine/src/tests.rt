@@ -1,5 +1,5 @@
 use super::*;
-use cf_io::{Empty, MemSink, Nowhere};
+use cf_io::{Empty, MemSink, MemSource, Nowhere};
 use mem_regions::{Part, Regions};
 use std::process::Abort;
 use std::test::Fail;
@@ -7,7 +7,17 @@ use std::test::Fail;
 /// Where the words of a program stand.
 const BASE: u32 = 0x1_0000;
 
-/// A machine whose words stand at `BASE` in a region that may be read, written and executed, with a stack of 1 MiB.
+/// A stack of 1 MiB, zeroed.
+const STACK: Part = Part {
+    base: 0x7f00_0000,
+    start: 0,
+    len: 0,
+    size: 0x10_0000,
+    write: true,
+    exec: false,
+};
+
+/// A machine whose words stand at `BASE` in a region that may be read, written and executed, with a stack.
 fn machine_of(rt: &(impl Abort + AllocGlobal), words: &[u32], entry: u32) -> Result<Machine, Fail> {
     assert!(rt; words.len() <= 16);
     let mut file = Vec::new(rt.alloc());
@@ -24,15 +34,7 @@ fn machine_of(rt: &(impl Abort + AllocGlobal), words: &[u32], entry: u32) -> Res
         write: true,
         exec: true,
     };
-    let stack = Part {
-        base: 0x7f00_0000,
-        start: 0,
-        len: 0,
-        size: 0x10_0000,
-        write: true,
-        exec: false,
-    };
-    let memory = Regions::load(rt.alloc(), file.as_slice(), &[image, stack])?;
+    let memory = Regions::load(rt.alloc(), file.as_slice(), &[image, STACK])?;
     Ok(Machine::new(memory, entry))
 }
 
@@ -134,20 +136,80 @@ fn entry_is_no_multiple_of_four(rt: HostRuntime) -> Result<(), Fail> {
 }
 
 #[test]
-fn serves_exit_and_refuses_other_numbers(rt: HostRuntime) -> Result<(), Fail> {
-    let machine = machine_of(&rt, &[], BASE)?;
-    let mut regs = *machine.regs();
-    regs[10] = 0x107;
-    let mut memory = Regions::load(rt.alloc(), b"", &[])?;
-    let mut output = MemSink::new(rt.alloc(), 1, Vec::new(rt.alloc()))?;
-    for (number, wanted) in [
-        (93, Served::Exit(7)),
-        (94, Served::Exit(7)),
-        (500, Served::Value(0xffff_ffda)),
+fn multiplies_with_the_m_extension(rt: HostRuntime) -> Result<(), Fail> {
+    // addi x6, x0, 6; addi x7, x0, 7; mul x10, x6, x7; addi x17, x0, 93; ecall
+    let words = [
+        0x0060_0313,
+        0x0070_0393,
+        0x0273_0533,
+        0x05d0_0893,
+        0x0000_0073,
+    ];
+    let mut machine = machine_of(&rt, &words, BASE)?;
+    let mut end = Stepped::ReadFault;
+    for _ in 0..words.len() {
+        assert!(rt; machine.retired() < 5);
+        end = machine.step_m(&mut Empty, &mut Nowhere);
+    }
+    assert_eq!(rt; end, Stepped::Exit(42));
+    assert_eq!(rt; machine.retired(), 4);
+    Ok(())
+}
+
+fn regs_of(number: u32, arguments: [u32; 3]) -> [u32; 32] {
+    let mut regs = [0; 32];
+    regs[17] = number;
+    regs[10] = arguments[0];
+    regs[11] = arguments[1];
+    regs[12] = arguments[2];
+    regs
+}
+
+#[test]
+fn serves(rt: HostRuntime) -> Result<(), Fail> {
+    let mut memory = Regions::load(rt.alloc(), b"", &[STACK])?;
+    let mut output = MemSink::new(rt.alloc(), 20, Vec::new(rt.alloc()))?;
+    for (number, arguments, wanted) in [
+        (64, [7, 0, 0], Served::Value(0xffff_fff7)),
+        (64, [1, 0, 0], Served::Value(0)),
+        // One byte beyond the region.
+        (64, [1, 0x7f0f_fff8, 9], Served::Value(0xffff_fff2)),
+        (64, [1, 0x7f0f_fff8, 8], Served::Value(8)),
+        (93, [0x107, 0, 0], Served::Exit(7)),
+        (94, [0x107, 0, 0], Served::Exit(7)),
+        (214, [0, 0, 0], Served::Value(0x7f00_0000)),
+        (214, [0x7f00_1000, 0, 0], Served::Value(0x7f00_1000)),
+        (214, [0x7f08_0001, 0, 0], Served::Value(0x7f00_1000)),
+        (214, [0x7f08_0000, 0, 0], Served::Value(0x7f08_0000)),
+        (500, [0, 0, 0], Served::Value(0xffff_ffda)),
     ] {
-        regs[17] = number;
+        let regs = regs_of(number, arguments);
         let served = serve(&regs, &mut memory, &mut Empty, &mut output);
         assert_eq!(rt; served, wanted);
+    }
+    assert_eq!(rt; output.bytes(), [0; 8].as_slice());
+    Ok(())
+}
+
+#[test]
+fn reads_into_the_buffer(rt: HostRuntime) -> Result<(), Fail> {
+    let regs = regs_of(63, [0, 0x7f00_0000, 8]);
+    let failing = [2u64];
+    for (fails, wanted, buffer) in [
+        (failing.as_slice(), Served::ReadFault, b"abc\0\0\0\0\0"),
+        ([].as_slice(), Served::Value(6), b"abcdef\0\0"),
+    ] {
+        let mut memory = Regions::load(rt.alloc(), b"", &[STACK])?;
+        let bytes = b"abcdef".to_vec(rt.alloc())?;
+        let mut input = MemSource::new(bytes, 3, fails.to_vec(rt.alloc())?);
+        let served = serve(&regs, &mut memory, &mut input, &mut Nowhere);
+        assert_eq!(rt; served, wanted);
+        match memory.part(0x7f00_0000, 8) {
+            Some(bytes) => {
+                assert_eq!(rt; bytes, buffer.as_slice());
+            }
+            None => assert!(rt; false, "the stack is there"),
+        }
     }
     Ok(())
 }

@@ -1,4 +1,4 @@
-use Rattle.std.proofs.Common.{◌≡◌, ◌+◌}
+use Rattle.std.proofs.Common.{◌≡◌, ◌+◌, ◌≤◌}
 use Rattle.rv_machine.specs.Streams.{streams_of}
 use Rattle.cfpp_cli.proofs.Runs.{Reached}
 use Rattle.cfpp_cli.proofs.running.run.Given as goal
@@ -12,4 +12,6 @@ invariant-loop-done g l =
           (streams_of (left l.initial.input) (written l.initial.output))
           (streams_of (left l.input) (written l.output)) l.done;
       counted : l.machine.retired ≡ l.initial.machine.retired + l.done;
+      input : g.S.Source.faults l.initial.input ≤ g.S.Source.faults l.input;
+      output : g.K.Sink.faults l.initial.output ≤ g.K.Sink.faults l.output;
     }
