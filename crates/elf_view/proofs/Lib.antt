@@ -1,0 +1,10 @@
+pub mod Accepted
+pub mod Causes
+pub mod Executables
+pub mod Groups
+pub mod Lists
+pub mod Names
+pub mod Positions
+pub mod Readable
+pub mod Tables
+pub mod Views

@@ -1,0 +1,9 @@
+pub mod Causes
+pub mod Executables
+pub mod Fields
+pub mod Headers
+pub mod Left
+pub mod Refusal
+pub mod Sections
+pub mod Segments
+pub mod Symbols

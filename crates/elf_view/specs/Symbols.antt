@@ -1,0 +1,38 @@
+-- The symbols of a file (Tool Interface Standard, Executable and Linking Format Specification, "Symbol Table" and "String Table").
+use Rattle.std.specs.Prelude.{ℕ, List, [], map, drop, ◌==◌, Option, Some, None}
+use Rattle.std.specs.List.{before_first}
+use Rattle.elf_view.specs.Sections.{first_symbol_table, section_at, content_of, entries_of}
+use Rattle.elf_view.specs.declared.headers.SectionHeader.{SectionHeader}
+use Rattle.elf_view.specs.declared.headers.SymbolEntry.{SymbolEntry}
+use Rattle.elf_view.specs.declared.symbols.Symbol.{Symbol}
+
+-- a symbol: the bytes of its name, its value and its size
+pub record NamedSymbol : Type 0 where
+  pub name : List ℕ
+  pub value : ℕ
+  pub size : ℕ
+
+-- the bytes from an index on up to the first NUL
+abbrev pub text_at : List ℕ → ℕ → List ℕ
+text_at names at = before_first (λ b. b == 0) (drop at names)
+
+-- the symbol of an entry, whose name stands in the names
+abbrev pub symbol_of : List ℕ → SymbolEntry → NamedSymbol
+symbol_of names e = record { name = text_at names e.name; value = e.value; size = e.size }
+
+-- the symbols of a symbol table, with their names from the section that it links to
+abbrev pub symbols_in : List ℕ → SectionHeader → List NamedSymbol
+symbols_in file table = map (symbol_of (content_of file (section_at file table.link))) (entries_of file table)
+
+-- the symbols of the section of an index, or none
+abbrev pub symbols_at : List ℕ → Option ℕ → List NamedSymbol
+symbols_at file None = []
+symbols_at file (Some index) = symbols_in file (section_at file index)
+
+-- the symbols of a file: the entries of its first symbol table, in their order
+unfoldable pub symbols_of : List ℕ → List NamedSymbol
+symbols_of file = symbols_at file (first_symbol_table file)
+
+-- what a symbol shows of itself
+abbrev pub shown_symbol : Symbol → NamedSymbol
+shown_symbol s = record { name = s.name.now; value = s.value; size = s.size }

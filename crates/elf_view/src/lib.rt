@@ -1,0 +1,21 @@
+//! A little-endian 32-bit ELF executable for RISC-V, seen in lent parts of its file.
+#![tactic(auto)]
+
+mod elf;
+mod entries;
+mod fields;
+mod headers;
+mod refusal;
+mod sections;
+mod segment;
+mod segments;
+mod symbols;
+
+pub use elf::Elf;
+pub use refusal::ElfErr;
+pub use segment::Segment;
+pub use segments::Segments;
+pub use symbols::{Symbol, Symbols};
+
+#[cfg(test)]
+mod tests;
