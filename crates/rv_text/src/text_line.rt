@@ -1,0 +1,93 @@
+//! The buffer that an instruction's text is written into.
+#![tactic(auto)]
+
+ghost use Rattle.std.specs.Prelude.{◌≡◌, ◌+◌, ◌<◌, ◌≤◌, ◌++◌, [], length};
+ghost use Rattle.std.specs.Char.{digit_char};
+ghost use Rattle.rv_text.specs.Writing.{hex8};
+
+use crate::operands::Operand;
+use arrayvec::ArrayVec;
+use std::marker::Model;
+
+/// A buffer of 80 bytes, which every instruction's text fits.
+#[derive(Drop)]
+pub struct TextLine {
+    letters: ArrayVec<u8, 80>,
+}
+
+impl Model for TextLine {
+    ghost use Rattle.std.specs.Prelude.{ℕ, List};
+
+    ghost Value = { List ℕ };
+
+    ghost view = { λ line. line.letters.items };
+}
+
+fn hex_digit(digit: u32) -> u8
+    requires { digit < 16 }
+    ensures { result ≡ digit_char digit }
+{
+    if digit < 10 {
+        48 + digit as u8
+    } else {
+        87 + digit as u8
+    }
+}
+
+/// A word in eight hexadecimal digits.
+pub(crate) fn hex8(word: u32) -> [u8; 8]
+    ensures { result ≡ hex8 word }
+{
+    [
+        hex_digit(word / 0x1000_0000 % 16),
+        hex_digit(word / 0x100_0000 % 16),
+        hex_digit(word / 0x10_0000 % 16),
+        hex_digit(word / 0x1_0000 % 16),
+        hex_digit(word / 0x1000 % 16),
+        hex_digit(word / 0x100 % 16),
+        hex_digit(word / 0x10 % 16),
+        hex_digit(word % 16),
+    ]
+}
+
+fn push_all(letters: &mut ArrayVec<u8, 80>, text: &[u8])
+    requires { length letters.old.items + length text.now ≤ 80 }
+    ensures { letters.new.items ≡ letters.old.items ++ text.now }
+{
+    for byte in text {
+        letters.push(*byte);
+    }
+}
+
+impl TextLine {
+    /// An empty line.
+    pub fn new() -> TextLine
+        ensures { result ≡ [] }
+    {
+        TextLine {
+            letters: ArrayVec::new(),
+        }
+    }
+
+    /// The bytes that stand in the line.
+    pub fn bytes(&self) -> &[u8]
+        ensures { result.now ≡ self.now }
+    {
+        self.letters.as_slice()
+    }
+
+    /// Empties the line.
+    pub(crate) fn clear(&mut self)
+        ensures { self.new ≡ [] }
+    {
+        self.letters.clear();
+    }
+
+    /// Appends bytes, for which there is room.
+    pub(crate) fn put(&mut self, text: &[u8])
+        requires { length self.old + length text.now ≤ 80 }
+        ensures { self.new ≡ self.old ++ text.now }
+    {
+        push_all(&mut self.letters, text);
+    }
+}
