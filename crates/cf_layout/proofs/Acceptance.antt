@@ -1,0 +1,106 @@
+-- Parts that are not refused describe a layout that is accepted.
+use Rattle.std.proofs.Common.{◌≡◌, ℕ, ◌≤◌, [], All, Bool, true, false, Option, Some, None, find, refl, arith}
+use Rattle.std.specs.Prelude.{not, nat_lt, ◌||◌}
+use Rattle.std.proofs.lemmas.Bool.Decides.{nat_tests}
+use Rattle.rv_inst.specs.declared.classes.Class.{Class}
+use Rattle.rv_inst.specs.declared.classes.Class.TheVariants.{Add, Logic, Shift, Compare, Branch, Jump, Memory, Serial, Free, Mul, Div}
+use Rattle.cf_layout.specs.declared.parts.Parts.{Parts}
+use Rattle.cf_layout.specs.Asked.{natural, is_asked, listed, ascending, plan_of}
+use Rattle.cf_layout.specs.Accepted.{is_needed, is_control, IsAccepted}
+use Rattle.cf_layout.specs.Acceptable.{AreComputed, IsAcceptable}
+use Rattle.cf_layout.specs.Refusal.{refusal, missing, missing_refusal, needed_classes, above, turn_refusal, control_refusal, turns_in, siding_for, memory_launch_in}
+use Rattle.cf_layout.proofs.Control.{described}
+use Rattle.cf_layout.proofs.Passing.{first_passes, next_passes, holds, none_found, all_fail, limits_hold, units_hold, sidings_hold, all_once}
+
+-- no class is missing
+none_missing : (o : Option Class) → missing o ≡ None → o ≡ None
+none_missing None e = refl
+none_missing (Some c) e = cc
+
+-- the classes that every processor computes, one by one
+needed_by : (parts : Parts) → All (λ c. is_asked parts c ≡ true) needed_classes → (c : Class) → is_needed c ≡ true → is_asked parts c ≡ true
+needed_by parts all Add n = all 0 Add (omega arith)
+needed_by parts all Logic n = all 1 Add (omega arith)
+needed_by parts all Shift n = all 2 Add (omega arith)
+needed_by parts all Compare n = all 3 Add (omega arith)
+needed_by parts all Branch n = all 4 Add (omega arith)
+needed_by parts all Jump n = all 5 Add (omega arith)
+needed_by parts all Memory n = all 6 Add (omega arith)
+needed_by parts all Serial n = cc
+needed_by parts all Free n = cc
+needed_by parts all Mul n = cc
+needed_by parts all Div n = cc
+
+-- a number that is tested not to be above is not
+not_above : (a b : ℕ) → nat_lt a b ≡ false → b ≤ a
+not_above a b e = grind (arith, nat_tests)
+
+-- a class that every processor computes is found among them
+needed_asked : (parts : Parts) → find (λ c. not (is_asked parts c)) needed_classes ≡ None → (c : Class) → is_needed c ≡ true → is_asked parts c ≡ true
+needed_asked parts e c n = needed_by parts (none_found (is_asked parts) needed_classes e) c n
+
+-- of two classes both or neither
+pair_asked : (m d : Bool) → (m || not d) ≡ true → (d || not m) ≡ true → m ≡ d
+pair_asked true true p q = refl
+pair_asked true false p q = cc
+pair_asked false true p q = cc
+pair_asked false false p q = refl
+
+-- nothing is above
+none_above : (c : Class) (launch : ℕ) (o : Option ℕ) → above c launch o ≡ None → o ≡ None
+none_above c launch None e = refl
+none_above c launch (Some stage) e = cc
+
+-- no stage where the class turns control is above
+turns_low : (parts : Parts) (c : Class) → turn_refusal parts c ≡ None → All (λ stage. stage ≤ memory_launch_in parts.sidings) (turns_in (ascending (listed parts.units c)) (siding_for parts.sidings c))
+unfolding turn_refusal
+turns_low parts c e = λ k d within. not_above _ _ (all_fail (nat_lt (memory_launch_in parts.sidings)) _ (none_above c _ _ e) k d within)
+
+-- the classes that turn control
+control_low : (parts : Parts) → control_refusal parts ≡ None → (c : Class) → is_control c ≡ true → All (λ stage. stage ≤ memory_launch_in parts.sidings) (turns_in (ascending (listed parts.units c)) (siding_for parts.sidings c))
+unfolding control_refusal
+control_low parts e Branch t = turns_low parts Branch (first_passes _ _ e)
+control_low parts e Jump t = turns_low parts Jump (next_passes _ _ e)
+control_low parts e Add t = cc
+control_low parts e Logic t = cc
+control_low parts e Shift t = cc
+control_low parts e Compare t = cc
+control_low parts e Memory t = cc
+control_low parts e Serial t = cc
+control_low parts e Free t = cc
+control_low parts e Mul t = cc
+control_low parts e Div t = cc
+
+-- the tests for what is missing
+missing_hold : (parts : Parts) → missing_refusal parts ≡ None → ((c : Class) → is_needed c ≡ true → is_asked parts c ≡ true) × (is_asked parts Mul ≡ is_asked parts Div)
+unfolding missing_refusal
+missing_hold parts e =
+    let f = next_passes _ _ e in
+    (needed_asked parts (none_missing _ (first_passes _ _ e)), pair_asked _ _ (holds _ _ (first_passes _ _ f)) (holds _ _ (next_passes _ _ f)))
+
+-- parts that are not refused are acceptable
+pub acceptable : (parts : Parts) → refusal parts ≡ None → IsAcceptable parts
+unfolding refusal
+acceptable parts e =
+    let limits = limits_hold parts (first_passes _ _ e) in
+    let f = next_passes _ _ e in
+    let units = first_passes _ _ f in
+    let g = next_passes _ _ f in
+    let sidings = first_passes _ _ g in
+    let h = next_passes _ _ g in
+    let there = missing_hold parts (first_passes _ _ h) in
+    record {
+      stages = limits.0;
+      lane = limits.1;
+      few_sidings = limits.2;
+      units = units_hold (natural parts.stages) [] parts.units units;
+      sidings = sidings_hold (natural parts.stages) parts.units [] parts.sidings sidings;
+      once = all_once (natural parts.stages) parts.units parts.sidings units sidings;
+      needed = there.0;
+      pair = there.1;
+      control = control_low parts (next_passes _ _ h);
+    }
+
+-- so what parts that are not refused describe is accepted
+pub accepted : (parts : Parts) → AreComputed parts → refusal parts ≡ None → IsAccepted (plan_of parts)
+accepted parts computed e = described parts computed (acceptable parts e)

@@ -1,0 +1,13 @@
+pub mod Words
+pub mod Reading
+pub mod Tests
+pub mod Places
+pub mod Counts
+pub mod Passing
+pub mod Described
+pub mod Control
+pub mod Unrefused
+pub mod Acceptance
+pub mod PlainLayout
+pub mod Telling
+pub mod Facts

@@ -1,0 +1,67 @@
+-- What has to hold of the parts of a layout, so that they describe one that is accepted.
+use Rattle.std.specs.Prelude.{◌≡◌, ◌≢◌, ℕ, ℤ, ◌≤◌, ◌<◌, ◌<ℤ◌, List, [], ◌∷◌, ◌++◌, length, map, filter, All, true}
+use Rattle.rv_inst.specs.declared.classes.Class.{Class}
+use Rattle.rv_inst.specs.declared.classes.Class.TheVariants.{Memory, Mul, Div}
+use Rattle.cf_layout.specs.declared.parts.Siding.{Siding}
+use Rattle.cf_layout.specs.declared.parts.Parts.{Parts}
+use Rattle.cf_layout.specs.Layout.{place_of, same_class}
+use Rattle.cf_layout.specs.Accepted.{is_needed, is_control}
+use Rattle.cf_layout.specs.Asked.{natural, is_within, names, is_asked, listed, ascending}
+use Rattle.cf_layout.specs.Refusal.{siding_for, turns_in, memory_launch_in}
+
+-- units or sidings can compute the class
+abbrev pub IsComputed : Class → Type 0
+IsComputed c = place_of c < 9
+
+-- each class that the parts name is such a one
+pub record AreComputed (parts : Parts) : Type 0 where
+  pub units : All (λ unit. IsComputed unit.0) parts.units
+  pub sidings : All (λ siding. All IsComputed siding.classes) parts.sidings
+
+-- the classes of the sidings, one after the other
+abbrev pub sided_classes : List Siding → List Class
+sided_classes [] = []
+sided_classes (siding ∷ sidings) = siding.classes ++ sided_classes sidings
+
+-- the classes of all units and sidings
+abbrev pub asked_classes : Parts → List Class
+asked_classes parts = map (λ unit. unit.0) parts.units ++ sided_classes parts.sidings
+
+-- how often a class stands in a list
+unfoldable pub times : List Class → Class → ℕ
+times classes c = length (filter (same_class c) classes)
+
+-- what has to hold of a unit in a pipeline of n stages
+pub record IsUnit (n : ℕ) (unit : Class × List ℤ) : Type 0 where
+  -- memory is reached through a siding
+  pub beside_memory : unit.0 ≢ Memory
+  -- it is at one stage at least, and only at stages that the pipeline has
+  pub some : 0 < length unit.1
+  pub stages : All (λ stage. is_within 1 n stage ≡ true) unit.1
+
+-- what has to hold of a siding
+pub record IsSiding (n : ℕ) (siding : Siding) : Type 0 where
+  -- it is for a class at least
+  pub some : 0 < length siding.classes
+  pub cells : is_within 1 8 siding.cells ≡ true
+  -- it launches from a stage of the pipeline, and recovers at a higher one
+  pub launch : is_within 1 n siding.launch ≡ true
+  pub recover : is_within 1 n siding.recover ≡ true
+  pub order : siding.launch <ℤ siding.recover
+  -- what goes to memory shares it with nothing else
+  pub memory_alone : names siding.classes Memory ≡ true → length siding.classes ≡ 1
+
+-- what has to hold of all parts
+pub record IsAcceptable (parts : Parts) : Type 0 where
+  pub stages : is_within 2 32 parts.stages ≡ true
+  pub lane : is_within 2 64 parts.lane ≡ true
+  pub few_sidings : length parts.sidings ≤ 8
+  pub units : All (IsUnit (natural parts.stages)) parts.units
+  pub sidings : All (IsSiding (natural parts.stages)) parts.sidings
+  -- no class stands twice, be it in units or in sidings
+  pub once : (c : Class) → times (asked_classes parts) c ≤ 1
+  -- each class that every processor computes is there, and of multiplication and division both or neither
+  pub needed : (c : Class) → is_needed c ≡ true → is_asked parts c ≡ true
+  pub pair : is_asked parts Mul ≡ is_asked parts Div
+  -- control turns at or below the stage from which memory is reached, be it at a unit or at a recovery
+  pub control : (c : Class) → is_control c ≡ true → All (λ stage. stage ≤ memory_launch_in parts.sidings) (turns_in (ascending (listed parts.units c)) (siding_for parts.sidings c))

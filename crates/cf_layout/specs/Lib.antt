@@ -1,0 +1,10 @@
+pub mod Layout
+pub mod Accepted
+pub mod Plain
+pub mod Asked
+pub mod Words
+pub mod Kept
+pub mod Held
+pub mod Refusal
+pub mod Acceptable
+pub mod Causes

@@ -1,0 +1,13 @@
+//! The built-in layout.
+
+ghost use Rattle.std.specs.Prelude.{◌≡◌};
+ghost use Rattle.cf_layout.specs.Plain.{plain};
+
+use crate::Layout;
+
+/// The built-in layout: eight stages and no register cache, with memory behind a siding of two cells.
+pub fn plain() -> Layout
+    ensures { result ≡ plain }
+{
+    Layout::builtin()
+}

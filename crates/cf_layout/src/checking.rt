@@ -1,0 +1,352 @@
+//! The tests of a layout, in their order.
+
+ghost use Rattle.std.specs.Prelude.{◌≡◌, All, IfOk, IfErr, OnOk, true, Some, None, ◌≤◌, ◌||◌, [], ◌∷◌, find, not, nat_lt, length, is_some};
+ghost use Rattle.std.specs.Option.{option_copied};
+ghost use Rattle.cf_layout.specs.Asked.{plan_of, is_within, IsSmall, natural, is_unit, is_sided, is_asked, names, listed, ascending};
+ghost use Rattle.cf_layout.specs.Acceptable.{AreComputed, IsAcceptable};
+ghost use Rattle.cf_layout.specs.Causes.{IsCause};
+ghost use Rattle.cf_layout.specs.Refusal.{refusal, told, unless, outside, limits_refusal, unit_refusal, units_refusal, first_repeated, stages_refusal, classes_refusal, filled_refusal, siding_refusal, sidings_refusal, missing_refusal, memory_launch_in, siding_for, launch_in, turns_in, turn_refusal, control_refusal, needed_classes};
+
+use crate::asked::{
+    first_outside, is_asked, is_sided, is_unit, is_within, listed, names, natural, siding_for,
+};
+use crate::classes::is_same;
+use crate::stage_set::StageSet;
+use crate::{Layout, LayoutErr, Listed, Parts, Siding};
+use rv_inst::Class;
+
+/// The classes that every processor computes, in class order.
+const NEEDED: [Class; 7] = [
+    Class::Add,
+    Class::Logic,
+    Class::Shift,
+    Class::Compare,
+    Class::Branch,
+    Class::Jump,
+    Class::Memory,
+];
+
+/// The refusal, unless the test holds.
+fn require(holds: bool, error: LayoutErr) -> Result<(), LayoutErr>
+    ensures { result ≡ told (unless holds error) }
+{
+    if holds { Ok(()) } else { Err(error) }
+}
+
+/// Tests how many stages, entries of the lane and sidings there are.
+#[tactic(auto, unfolding(crate::specs::Refusal::limits_refusal))]
+fn check_limits(parts: &Parts) -> Result<(), LayoutErr>
+    ensures answer { result ≡ told (limits_refusal parts.now) }
+    ensures stages { OnOk result (is_within 2 32 parts.now.stages ≡ true) }
+    ensures lane { OnOk result (is_within 2 64 parts.now.lane ≡ true) }
+    ensures few { OnOk result (length parts.now.sidings ≤ 8) }
+{
+    let count = parts.sidings.as_slice().len();
+    let told = u32::try_from(count).unwrap_or(u32::MAX);
+    require(
+        is_within(2, 32, parts.stages),
+        LayoutErr::StagesOutOfRange(parts.stages),
+    )?;
+    require(
+        is_within(2, 64, parts.lane),
+        LayoutErr::LaneOutOfRange(parts.lane),
+    )?;
+    require(count <= 8, LayoutErr::TooManySidings(told))
+}
+
+/// Tests that the stages of a class are from 1 to `most`.
+fn check_stages(most: u32, class: Class, stages: &[i64]) -> Result<(), LayoutErr>
+    ensures { result ≡ told (outside class (find (λ stage. not (is_within 1 most stage)) stages.now)) }
+{
+    match first_outside(most, stages) {
+        Some(stage) => Err(LayoutErr::StageOutOfRange(class, *stage)),
+        None => Ok(()),
+    }
+}
+
+/// Tests a unit behind the others.
+#[tactic(auto, unfolding(crate::specs::Refusal::unit_refusal))]
+fn check_unit(
+    most: u32,
+    before: &[(Class, Listed<i64>)],
+    unit: &(Class, Listed<i64>),
+) -> Result<(), LayoutErr>
+    ensures { result ≡ told (unit_refusal most before.now unit.now) }
+{
+    let class = unit.0;
+    let stages = unit.1.as_slice();
+    require(!is_same(class, Class::Memory), LayoutErr::MemoryNotSiding)?;
+    require(!stages.is_empty(), LayoutErr::EmptyUnit(class))?;
+    check_stages(most, class, stages)?;
+    require(!is_unit(before, class), LayoutErr::ClassTwice(class))
+}
+
+/// Tests each unit in order.
+#[tactic(auto, using(crate::proofs::Tests::units_step))]
+fn check_units(most: u32, units: &[(Class, Listed<i64>)]) -> Result<(), LayoutErr>
+    ensures { result ≡ told (units_refusal most [] units.now) }
+{
+    for (index, unit) in units.iter().enumerate() {
+        check_unit(most, &units[..index], unit)?;
+    }
+    Ok(())
+}
+
+/// Whether the class stands in a unit, in one of the sidings or among the classes before it.
+fn stands_before(
+    units: &[(Class, Listed<i64>)],
+    before: &[Siding],
+    earlier: &[Class],
+    class: Class,
+) -> bool
+    ensures { result ≡ ((is_unit units.now class || is_sided before.now class) || names earlier.now class) }
+{
+    is_unit(units, class) || is_sided(before, class) || names(earlier, class)
+}
+
+/// The first of the classes that stands before it, in a unit, in one of the sidings or among them.
+#[tactic(auto, using(crate::proofs::Tests::repeated_step))]
+fn first_repeated(
+    units: &[(Class, Listed<i64>)],
+    before: &[Siding],
+    classes: &[Class],
+) -> Option<Class>
+    ensures { result ≡ first_repeated (λ c. is_unit units.now c || is_sided before.now c) [] classes.now }
+{
+    for (index, class) in classes.iter().enumerate() {
+        if stands_before(units, before, &classes[..index], *class) {
+            return Some(*class);
+        }
+    }
+    None
+}
+
+/// Tests the cells and the stages of a siding whose first class this is.
+#[tactic(auto, unfolding(crate::specs::Refusal::stages_refusal))]
+fn check_siding_stages(most: u32, siding: &Siding, first: Class) -> Result<(), LayoutErr>
+    ensures { result ≡ told (stages_refusal most siding.now first) }
+{
+    require(
+        is_within(1, 8, siding.cells),
+        LayoutErr::CellsOutOfRange(siding.cells),
+    )?;
+    require(
+        is_within(1, most, siding.launch),
+        LayoutErr::StageOutOfRange(first, siding.launch),
+    )?;
+    require(
+        is_within(1, most, siding.recover),
+        LayoutErr::StageOutOfRange(first, siding.recover),
+    )?;
+    require(
+        siding.launch < siding.recover,
+        LayoutErr::SidingOrder(siding.launch, siding.recover),
+    )
+}
+
+/// Tests the classes of a siding behind the units and the other sidings.
+#[tactic(auto, unfolding(crate::specs::Refusal::classes_refusal))]
+fn check_siding_classes(
+    units: &[(Class, Listed<i64>)],
+    before: &[Siding],
+    classes: &[Class],
+) -> Result<(), LayoutErr>
+    ensures { result ≡ told (classes_refusal (λ c. is_unit units.now c || is_sided before.now c) classes.now) }
+{
+    if let Some(class) = first_repeated(units, before, classes) {
+        return Err(LayoutErr::ClassTwice(class));
+    }
+    require(
+        !(names(classes, Class::Memory) && classes.len() > 1),
+        LayoutErr::MemorySharesSiding,
+    )
+}
+
+/// Tests a siding behind the units and the other sidings.
+#[tactic(auto, unfolding(crate::specs::Refusal::siding_refusal))]
+fn check_siding(
+    most: u32,
+    units: &[(Class, Listed<i64>)],
+    before: &[Siding],
+    siding: &Siding,
+) -> Result<(), LayoutErr>
+    requires { length before.now ≤ 8 }
+    ensures { result ≡ told (siding_refusal most units.now before.now siding.now) }
+{
+    let classes = siding.classes.as_slice();
+    match classes {
+        [] => Err(LayoutErr::EmptySiding(before.len() as u32)),
+        [first, ..] => {
+            check_siding_stages(most, siding, *first)?;
+            check_siding_classes(units, before, classes)
+        }
+    }
+}
+
+/// Tests each siding in order.
+#[tactic(auto, using(crate::proofs::Tests::sidings_step))]
+fn check_each_siding(
+    most: u32,
+    units: &[(Class, Listed<i64>)],
+    sidings: &[Siding],
+) -> Result<(), LayoutErr>
+    requires { length sidings.now ≤ 8 }
+    ensures { result ≡ told (sidings_refusal most units.now [] sidings.now) }
+{
+    for (index, siding) in sidings.iter().enumerate() {
+        check_siding(most, units, &sidings[..index], siding)?;
+    }
+    Ok(())
+}
+
+/// Tests each siding in order, in a pipeline that is not too long.
+fn check_sidings(
+    most: u32,
+    units: &[(Class, Listed<i64>)],
+    sidings: &[Siding],
+) -> Result<(), LayoutErr>
+    requires eight { length sidings.now ≤ 8 }
+    requires tall { most ≤ 32 }
+    ensures answer { result ≡ told (sidings_refusal most units.now [] sidings.now) }
+    ensures small { OnOk result (All IsSmall sidings.now) }
+{
+    check_each_siding(most, units, sidings)
+}
+
+/// The first class that every processor computes and that is not asked for.
+fn first_missing(parts: &Parts) -> Option<&Class>
+    ensures { option_copied result ≡ find (λ c. not (is_asked parts.now c)) needed_classes }
+{
+    NEEDED.iter().find(|class| !is_asked(parts, **class))
+}
+
+/// Tests that each class that every processor computes is there, and of multiplication and division both or neither.
+#[tactic(auto, unfolding(crate::specs::Refusal::missing_refusal))]
+fn check_missing(parts: &Parts) -> Result<(), LayoutErr>
+    ensures { result ≡ told (missing_refusal parts.now) }
+{
+    if let Some(class) = first_missing(parts) {
+        return Err(LayoutErr::MissingUnit(*class));
+    }
+    let multiplies = is_asked(parts, Class::Mul);
+    let divides = is_asked(parts, Class::Div);
+    require(multiplies || !divides, LayoutErr::MissingUnit(Class::Mul))?;
+    require(divides || !multiplies, LayoutErr::MissingUnit(Class::Div))
+}
+
+/// The stage from which the siding launches.
+fn launch_of(siding: &Siding) -> u32
+    requires { IsSmall siding.now }
+    ensures { result ≡ natural siding.now.launch }
+{
+    natural(siding.launch)
+}
+
+/// The stage at which the siding recovers.
+fn recovery_of(siding: &Siding) -> u32
+    requires { IsSmall siding.now }
+    ensures { result ≡ natural siding.now.recover }
+{
+    natural(siding.recover)
+}
+
+/// The stage from which memory is reached.
+#[tactic(auto, unfolding(crate::specs::Refusal::memory_launch_in))]
+fn memory_launch(sidings: &[Siding]) -> u32
+    requires { All IsSmall sidings.now }
+    ensures { result ≡ memory_launch_in sidings.now }
+{
+    match siding_for(sidings, Class::Memory) {
+        Some(siding) => launch_of(siding),
+        None => 0,
+    }
+}
+
+/// The lowest stage above the other one where the class can turn control.
+fn turn_above(
+    units: &[(Class, Listed<i64>)],
+    sidings: &[Siding],
+    class: Class,
+    launch: u32,
+) -> Option<u32>
+    requires { All IsSmall sidings.now }
+    ensures { result ≡ find (nat_lt launch) (turns_in (ascending (listed units.now class)) (siding_for sidings.now class)) }
+{
+    match siding_for(sidings, class) {
+        Some(siding) => {
+            let stage = recovery_of(siding);
+            (stage > launch).then_some(stage)
+        }
+        None => StageSet::of(listed(units, class)).first_above(launch),
+    }
+}
+
+/// Tests that the class turns control at no stage above the one from which memory is reached.
+#[tactic(auto, unfolding(crate::specs::Refusal::turn_refusal))]
+fn check_turns(parts: &Parts, class: Class) -> Result<(), LayoutErr>
+    requires { All IsSmall parts.now.sidings }
+    ensures { result ≡ told (turn_refusal parts.now class) }
+{
+    let sidings = parts.sidings.as_slice();
+    let launch = memory_launch(sidings);
+    match turn_above(parts.units.as_slice(), sidings, class, launch) {
+        Some(stage) => Err(LayoutErr::ControlAboveMemory(class, stage, launch)),
+        None => Ok(()),
+    }
+}
+
+/// Tests where branches and jumps turn control.
+#[tactic(auto, unfolding(crate::specs::Refusal::control_refusal))]
+fn check_control(parts: &Parts) -> Result<(), LayoutErr>
+    requires { All IsSmall parts.now.sidings }
+    ensures { result ≡ told (control_refusal parts.now) }
+{
+    check_turns(parts, Class::Branch)?;
+    check_turns(parts, Class::Jump)
+}
+
+/// How many stages the pipeline has.
+#[tactic(auto, using(crate::proofs::Passing::within_word, crate::proofs::Passing::within_most))]
+fn count_stages(parts: &Parts) -> u32
+    requires { is_within 2 32 parts.now.stages ≡ true }
+    ensures number { result ≡ natural parts.now.stages }
+    ensures few { result ≤ 32 }
+{
+    natural(parts.stages)
+}
+
+/// The layout that the parts describe, if they pass the tests, and else the first that they fail.
+#[tactic(auto, using(crate::proofs::Acceptance::accepted), unfolding(crate::specs::Refusal::refusal))]
+fn lay_out(parts: &Parts) -> Result<Layout, LayoutErr>
+    requires { AreComputed parts.now }
+    ensures ok { IfOk result (λ layout. layout ≡ plan_of parts.now) }
+    ensures not_refused { IfOk result (λ layout. refusal parts.now ≡ None) }
+    ensures refused { IfErr result (λ error. refusal parts.now ≡ Some error) }
+{
+    let units = parts.units.as_slice();
+    let sidings = parts.sidings.as_slice();
+    check_limits(parts)?;
+    let most = count_stages(parts);
+    check_units(most, units)?;
+    check_sidings(most, units, sidings)?;
+    check_missing(parts)?;
+    check_control(parts)?;
+    Ok(Layout::lay(parts))
+}
+
+/// The layout that the parts describe, if that is accepted, and else the first test that they fail.
+///
+/// The tests are, in this order: the number of stages, of entries in the lane and of sidings; each unit; each siding;
+/// that no class is missing; and that control turns at or below the stage from which memory is reached. Each entry
+/// names a class that units or sidings compute.
+pub fn check(parts: &Parts) -> Result<Layout, LayoutErr>
+    requires { AreComputed parts.now }
+    ensures ok { IfOk result (λ layout. layout ≡ plan_of parts.now) }
+    ensures acceptable { IfOk result (λ layout. IsAcceptable parts.now) }
+    ensures not_refused { IfOk result (λ layout. refusal parts.now ≡ None) }
+    ensures refused { IfErr result (λ error. refusal parts.now ≡ Some error) }
+    ensures unacceptable { IfErr result (λ error. ¬ IsAcceptable parts.now) }
+    ensures cause { IfErr result (λ error. IsCause parts.now error) }
+{
+    lay_out(parts)
+}

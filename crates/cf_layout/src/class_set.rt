@@ -1,0 +1,79 @@
+//! Sets of classes.
+
+ghost use Rattle.std.specs.Prelude.{◌≡◌, [], ◌<◌, ◌^◌, ◌||◌};
+ghost use Rattle.rv_inst.specs.declared.classes.Class.{Class as Kind};
+ghost use Rattle.cf_layout.specs.Layout.{same_class, place_of};
+ghost use Rattle.cf_layout.specs.Words.{has_bit};
+ghost use Rattle.cf_layout.specs.Asked.{in_class_order, names};
+
+use crate::bits::{has_bit, with_bit};
+use crate::classes::place;
+use rv_inst::Class;
+use std::marker::Model;
+
+/// A set of classes that units or sidings compute: for each the bit of its place in class order.
+#[derive(Clone, Copy)]
+pub(crate) struct ClassSet {
+    word: u32,
+}
+
+impl Model for ClassSet {
+    ghost use Rattle.std.specs.Prelude.{List, ◌<◌, ◌^◌};
+    ghost use Rattle.rv_inst.specs.declared.classes.Class.{Class};
+    ghost use Rattle.cf_layout.specs.Layout.{place_of};
+    ghost use Rattle.cf_layout.specs.Words.{classes_of_word, word_of};
+    ghost use Rattle.cf_layout.specs.Kept.{classes_kept};
+
+    ghost Value = { List Class };
+
+    ghost view = { λ s. classes_of_word s.word };
+
+    ghost invariant = { λ s. s.word < 2 ^ 9 };
+
+    ghost inverse = { λ classes. record { word = word_of place_of classes } };
+
+    ghost inverse_ok = { λ s h i. record { word = classes_kept s.word h i } };
+}
+
+/// The word with the bit of the class, if that has one.
+#[tactic(auto, using(crate::proofs::Words::class_bit, crate::proofs::Words::no_class_bit))]
+fn with_class(word: u32, class: Class) -> u32
+    ensures small { word < 2 ^ 9 → result < 2 ^ 9 }
+    ensures bits { (c : Kind) → place_of c < 9 → has_bit result (place_of c) ≡ (has_bit word (place_of c) || same_class c class) }
+{
+    if place(class) < 9 {
+        with_bit(word, place(class) as u32)
+    } else {
+        word
+    }
+}
+
+impl ClassSet {
+    /// No class.
+    #[tactic(auto, using(crate::proofs::Words::no_classes))]
+    pub(crate) fn empty() -> ClassSet
+        ensures { result ≡ [] }
+    {
+        ClassSet { word: 0 }
+    }
+
+    /// The classes of the list that units or sidings compute.
+    #[tactic(auto, using(crate::proofs::Words::no_bits, std::proofs::lemmas::List::Folds::list_any_more, crate::proofs::Words::classes_by))]
+    pub(crate) fn of(classes: &[Class]) -> ClassSet
+        ensures { result ≡ in_class_order classes.now }
+    {
+        let mut word = 0;
+        for class in classes {
+            word = with_class(word, *class);
+        }
+        ClassSet { word }
+    }
+
+    /// Whether the class is one of the set.
+    #[tactic(auto, using(crate::proofs::Words::class_in))]
+    pub(crate) fn has(self, class: Class) -> bool
+        ensures { result ≡ names self class }
+    {
+        has_bit(self.word, place(class) as u32)
+    }
+}

@@ -1,0 +1,65 @@
+//! Laying out a layout that was asked for.
+
+ghost use Rattle.std.specs.Prelude.{◌≡◌, ◌≤◌, All, map, length};
+ghost use Rattle.cf_layout.specs.Asked.{IsSmall, units_plan, siding_plan};
+ghost use Rattle.cf_layout.specs.Held.{places_for};
+ghost use Rattle.cf_layout.specs.Layout.{no_siding};
+
+use crate::asked::{listed, natural};
+use crate::class_set::ClassSet;
+use crate::classes::CLASSES;
+use crate::laid::Laid;
+use crate::stage_set::StageSet;
+use crate::{Listed, Siding};
+use rv_inst::Class;
+
+/// What stands in a place that no siding takes.
+pub(crate) fn no_siding() -> Laid
+    ensures { result ≡ no_siding }
+{
+    Laid {
+        classes: ClassSet::empty(),
+        launch: 0,
+        recover: 0,
+        cells: 0,
+    }
+}
+
+/// The units that are asked for: for each class in class order their stages.
+#[tactic(auto, unfolding(crate::specs::Asked::units_plan))]
+pub(crate) fn lay_units(units: &[(Class, Listed<i64>)]) -> [StageSet; 9]
+    ensures { result ≡ units_plan units.now }
+{
+    let mut sets = [StageSet::empty(); 9];
+    for (place, class) in CLASSES.iter().enumerate() {
+        sets[place] = StageSet::of(listed(units, *class));
+    }
+    sets
+}
+
+/// The siding that is asked for.
+#[tactic(auto, unfolding(crate::specs::Asked::siding_plan))]
+fn lay_siding(siding: &Siding) -> Laid
+    requires { IsSmall siding.now }
+    ensures { result ≡ siding_plan siding.now }
+{
+    Laid {
+        classes: ClassSet::of(siding.classes.as_slice()),
+        launch: natural(siding.launch),
+        recover: natural(siding.recover),
+        cells: natural(siding.cells),
+    }
+}
+
+/// The sidings that are asked for, in eight places.
+pub(crate) fn lay_sidings(sidings: &[Siding]) -> [Laid; 8]
+    requires few { length sidings.now ≤ 8 }
+    requires small { All IsSmall sidings.now }
+    ensures { result ≡ places_for (map siding_plan sidings.now) }
+{
+    let mut places = [no_siding(); 8];
+    for (index, siding) in sidings.iter().enumerate() {
+        places[index] = lay_siding(siding);
+    }
+    places
+}

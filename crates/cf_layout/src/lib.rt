@@ -1,0 +1,27 @@
+//! Layouts of the processor: which stages compute which classes of instructions, and which of them are accepted.
+#![tactic(auto)]
+
+mod asked;
+mod bits;
+mod builtin;
+mod checking;
+mod class_set;
+mod classes;
+mod laid;
+pub mod laws;
+mod laying;
+mod layout;
+mod listed;
+mod parts;
+mod refusal;
+mod stage_set;
+
+pub use builtin::plain;
+pub use checking::check;
+pub use layout::Layout;
+pub use listed::Listed;
+pub use parts::{Parts, Siding};
+pub use refusal::LayoutErr;
+
+#[cfg(test)]
+mod tests;

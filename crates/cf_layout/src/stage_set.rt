@@ -1,0 +1,112 @@
+//! Sets of stages.
+
+ghost use Rattle.std.specs.Prelude.{◌≡◌, [], length, ◌<◌, ◌+◌, ℕ, pos, ◌||◌, find, nat_eq, nat_lt};
+ghost use Rattle.cf_layout.specs.Words.{has_bit};
+ghost use Rattle.std.specs.List.{list_any};
+ghost use Rattle.cf_layout.specs.Layout.{last_of};
+ghost use Rattle.cf_layout.specs.Asked.{ascending, is_number};
+
+use crate::bits::{has_bit, with_bit};
+use std::marker::Model;
+
+/// A set of stages: bit i - 1 for stage i.
+#[derive(Clone, Copy)]
+pub(crate) struct StageSet {
+    word: u32,
+}
+
+impl Model for StageSet {
+    ghost use Rattle.std.specs.Prelude.{ℕ, List, ◌<◌, ◌^◌};
+    ghost use Rattle.cf_layout.specs.Words.{stages_of_word, word_of, bit_of};
+    ghost use Rattle.cf_layout.specs.Kept.{stages_kept};
+
+    ghost Value = { List ℕ };
+
+    ghost view = { λ s. stages_of_word s.word };
+
+    ghost invariant = { λ s. s.word < 2 ^ 32 };
+
+    ghost inverse = { λ stages. record { word = word_of bit_of stages } };
+
+    ghost inverse_ok = { λ s h i. record { word = stages_kept s.word h i } };
+}
+
+/// The word with the bit of the stage, if that is from 1 to 32.
+#[tactic(auto, using(crate::proofs::Words::stage_bit))]
+fn with_stage(word: u32, stage: i64) -> u32
+    ensures { (i : ℕ) → i < 32 → has_bit result i ≡ (has_bit word i || is_number (i + 1) stage) }
+{
+    if 1 <= stage && stage <= 32 {
+        with_bit(word, (stage - 1) as u32)
+    } else {
+        word
+    }
+}
+
+impl StageSet {
+    /// No stage.
+    #[tactic(auto, using(crate::proofs::Words::no_stages))]
+    pub(crate) fn empty() -> StageSet
+        ensures { result ≡ [] }
+    {
+        StageSet { word: 0 }
+    }
+
+    /// The stages of the list from 1 to 32: the others were refused before.
+    #[tactic(auto, using(crate::proofs::Words::no_bits, std::proofs::lemmas::List::Folds::list_any_more, crate::proofs::Words::stages_by))]
+    pub(crate) fn of(stages: &[i64]) -> StageSet
+        ensures { result ≡ ascending stages.now }
+    {
+        let mut word = 0;
+        for stage in stages {
+            word = with_stage(word, *stage);
+        }
+        StageSet { word }
+    }
+
+    /// Whether the set has no stage.
+    #[tactic(auto, using(crate::proofs::Words::some_stage))]
+    pub(crate) fn is_empty(self) -> bool
+        ensures { result ≡ nat_eq (length self) 0 }
+    {
+        self.word == 0
+    }
+
+    /// Whether the stage is one of the set.
+    #[tactic(auto, using(crate::proofs::Words::stage_in, crate::proofs::Words::stage_below, crate::proofs::Words::stage_above))]
+    pub(crate) fn has(self, stage: u32) -> bool
+        ensures { result ≡ list_any (nat_eq stage) self }
+    {
+        match stage {
+            1..=32 => has_bit(self.word, stage - 1),
+            _ => false,
+        }
+    }
+
+    /// The lowest stage of the set above the other one.
+    #[tactic(auto, using(crate::proofs::Words::find_next, crate::proofs::Words::from_first, crate::proofs::Words::from_end))]
+    pub(crate) fn first_above(self, other: u32) -> Option<u32>
+        ensures { result ≡ find (nat_lt other) self }
+    {
+        for stage in 1..33 {
+            if other < stage && has_bit(self.word, stage - 1) {
+                return Some(stage);
+            }
+        }
+        None
+    }
+
+    /// The highest stage of the set, or else the other one.
+    #[tactic(auto, using(crate::proofs::Words::from_next, crate::proofs::Words::from_first, crate::proofs::Words::from_end))]
+    pub(crate) fn last_or(self, other: u32) -> u32
+        ensures { result ≡ last_of self other }
+    {
+        let mut last = other;
+        for stage in 1..33 {
+            if has_bit(self.word, stage - 1) {
+                last = stage;
+            }
+        }
+        last
+    }
+}
