@@ -1,5 +1,5 @@
 -- A meeting of an instruction and a result in one stage ("Counterflow Pipeline Processor Architecture", 1994: garnering, killing and updating).
-use Rattle.std.specs.Prelude.{ℕ, Option, Some, None, Bool, true, false, ◌==◌, if◌then◌else◌}
+use Rattle.std.specs.Prelude.{ℕ, Option, Some, None, true, ◌==◌, if◌then◌else◌}
 use Rattle.cf_bind.specs.declared.binding.Binding.{Binding}
 use Rattle.cf_bind.specs.declared.packet.Packet.{Packet}
 use Rattle.cf_bind.specs.declared.packet.Packet.TheVariants.{Value, Turn, Halt}

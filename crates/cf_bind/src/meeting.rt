@@ -1,0 +1,60 @@
+//! What an instruction and a result do when they meet in a stage.
+#![tactic(auto, unfolding(crate::specs::Meeting::meeting))]
+
+ghost use Rattle.std.specs.Prelude.{◌≡◌};
+ghost use Rattle.cf_bind.specs.Meeting.{garnered, passed, meeting as meeting_of};
+
+use crate::binding::Binding;
+use crate::packet::Packet;
+use crate::passenger::Passenger;
+
+/// A source of this register takes the value, unless it has one.
+#[inline(always)]
+fn garner(source: &mut Option<Binding>, reg: u8, value: u32)
+    ensures { source.new ≡ garnered reg value source.old }
+{
+    if let Some(binding) = source {
+        if binding.reg == reg && binding.value.is_none() {
+            binding.value = Some(value);
+        }
+    }
+}
+
+/// What is left of a value of this register behind an instruction with this destination: nothing where the new value is not
+/// known, and the new value where it is.
+#[inline(always)]
+fn pass(destination: Option<Binding>, reg: u8, value: u32) -> Option<Packet>
+    ensures { result ≡ passed reg value destination }
+{
+    match destination {
+        Some(binding) if binding.reg == reg => {
+            binding.value.map(|value| Packet::Value { reg, value })
+        }
+        _ => Some(Packet::Value { reg, value }),
+    }
+}
+
+/// The instruction and the result meet. A value goes to the sources that wait for it. Then it is killed where the instruction
+/// writes its register and has not yet done so, and updated where it has. A turn or a halt makes the instruction dead, and
+/// takes away what it owes. A dead instruction changes nothing and is not changed. What is left of the result is given back.
+#[inline(always)]
+pub fn meet(p: &mut Passenger, k: Packet) -> Option<Packet>
+    ensures passenger { p.new ≡ (meeting_of p.old k).passenger }
+    ensures packet { result ≡ (meeting_of p.old k).packet }
+{
+    if p.dead {
+        return Some(k);
+    }
+    match k {
+        Packet::Value { reg, value } => {
+            garner(&mut p.src1, reg, value);
+            garner(&mut p.src2, reg, value);
+            pass(p.dst, reg, value)
+        }
+        Packet::Turn(_) | Packet::Halt => {
+            p.dead = true;
+            p.owes = None;
+            Some(k)
+        }
+    }
+}

@@ -1,0 +1,94 @@
+ghost use Rattle.std.specs.Prelude.{◌≡◌, ◌+◌, ◌<◌, ◌≤◌, ◌++◌, [], length, decimal};
+ghost use Rattle.cf_bind.specs.MoveTexts.{hex_digit as digit_of, hex8};
+
+use arrayvec::ArrayVec;
+use itoa::Buffer;
+use std::marker::Model;
+
+/// A buffer of 32 bytes for the line of a move, without its line feed. Every move's text fits.
+#[derive(Drop)]
+pub struct MoveLine {
+    text: ArrayVec<u8, 32>,
+}
+
+impl Model for MoveLine {
+    ghost use Rattle.std.specs.Prelude.{ℕ, List};
+
+    ghost Value = { List ℕ };
+
+    ghost view = { λ line. line.text.items };
+}
+
+impl MoveLine {
+    /// An empty line.
+    pub fn new() -> MoveLine
+        ensures { result ≡ [] }
+    {
+        MoveLine {
+            text: ArrayVec::new(),
+        }
+    }
+
+    /// The line's bytes.
+    pub fn bytes(&self) -> &[u8]
+        ensures { result.now ≡ self.now }
+    {
+        self.text.as_slice()
+    }
+
+    /// Makes the line hold this text and nothing else.
+    pub(crate) fn set(&mut self, text: &[u8])
+        requires { length text.now ≤ 32 }
+        ensures { self.new ≡ text.now }
+    {
+        self.text = ArrayVec::new();
+        self.push(text);
+    }
+
+    pub(crate) fn push(&mut self, text: &[u8])
+        requires { length self.old + length text.now ≤ 32 }
+        ensures { self.new ≡ self.old ++ text.now }
+    {
+        for byte in text {
+            self.text.push(*byte);
+        }
+    }
+
+    pub(crate) fn push_decimal(&mut self, number: u32)
+        requires { length self.old + 10 ≤ 32 }
+        ensures text { self.new ≡ self.old ++ decimal number }
+        ensures size { length self.new ≤ length self.old + 10 }
+    {
+        let mut buffer = Buffer::new();
+        self.push(buffer.format(number).as_bytes());
+    }
+
+    /// A word as eight hexadecimal digits.
+    pub(crate) fn push_hex(&mut self, word: u32)
+        requires { length self.old + 8 ≤ 32 }
+        ensures { self.new ≡ self.old ++ hex8 word }
+    {
+        let digits = [
+            hex_digit(word / 0x1000_0000 % 16),
+            hex_digit(word / 0x100_0000 % 16),
+            hex_digit(word / 0x10_0000 % 16),
+            hex_digit(word / 0x1_0000 % 16),
+            hex_digit(word / 0x1000 % 16),
+            hex_digit(word / 0x100 % 16),
+            hex_digit(word / 0x10 % 16),
+            hex_digit(word % 16),
+        ];
+        self.push(&digits);
+    }
+}
+
+fn hex_digit(digit: u32) -> u8
+    requires { digit < 16 }
+    ensures { result ≡ digit_of digit }
+{
+    if digit < 10 {
+        48 + digit as u8
+    } else {
+        87 + digit as u8
+    }
+}
