@@ -1,0 +1,86 @@
+-- How a run ends in which Issue is held back and that cannot be extended: drained, or with the end of the program.
+use Rattle.std.specs.Prelude.{◌≡◌, ◌+◌, List, Some, None, Bool, true, false}
+use Rattle.rv_machine.specs.Machine.{Machine}
+use Rattle.rv_machine.specs.After.{after}
+use Rattle.cf_layout.specs.Layout.{Plan}
+use Rattle.cf_bind.specs.declared.passenger.End.{End}
+use Rattle.cf_bind.specs.declared.passenger.Guess.TheVariants.{Next}
+use Rattle.cf_bind.specs.declared.moves.Move.{Move}
+use Rattle.cf_bind.specs.declared.moves.Move.TheVariants.{Issue}
+use Rattle.cf_semantics.specs.Instructions.{Stops, step_here}
+use Rattle.cf_semantics.specs.State.{State, Moment}
+use Rattle.cf_semantics.specs.Layouts.{isa_of}
+use Rattle.cf_semantics.specs.Bars.{bar}
+use Rattle.cf_semantics.specs.Runs.{opened, IsRun, run}
+use Rattle.cf_semantics.specs.Refines.{gained}
+use Rattle.cf_semantics.specs.Right.{right, way}
+use Rattle.cf_semantics.specs.Weight.{issues}
+use Rattle.cf_semantics.specs.Drained.{is_drained, IsStuck}
+
+-- t is reached from m by moves without Issue, and no move but Issue is allowed there
+pub record Drains (plan : Plan) (m t : Moment) : Type 0 where
+  pub moves : List Move
+  pub allowed : IsRun plan m moves
+  pub held : issues moves ≡ 0
+  pub is : t ≡ run plan m moves
+  pub stuck : IsStuck plan t.state
+
+-- the two states are the same, but for what is kept at the bottom
+pub record IsSame (s t : State) : Type 0 where
+  pub cells : s.cells ≡ t.cells
+  pub sidings : s.sidings ≡ t.sidings
+  pub lane : s.lane ≡ t.lane
+  pub fetch : s.fetch ≡ t.fetch
+  pub regs : s.regs ≡ t.regs
+  pub mem : s.mem ≡ t.mem
+  pub retired : s.retired ≡ t.retired
+  pub ending : s.ending ≡ t.ending
+  pub failed : s.failed ≡ t.failed
+
+-- drained at the machine: but for what is kept at the bottom, the processor stands as one that starts on the machine
+pub record IsDrainedAt (plan : Plan) (x : Machine) (m : Moment) : Type 0 where
+  pub same : IsSame m.state (opened plan x)
+  pub rest : m.rest ≡ x.rest
+  pub output : m.output ≡ x.output
+
+-- drained after the steps that have retired, and the next instruction can be issued
+pub record Rests (plan : Plan) (start : Machine) (m : Moment) : Type 0 where
+  pub at : Machine
+  pub count : after (isa_of plan) start (gained start m.state) ≡ Some at
+  pub drained : is_drained m.state ≡ true
+  pub stands : IsDrainedAt plan at m
+  pub issue : bar plan m.state (Issue Next) ≡ None
+
+-- the program has ended with the machine's next step; count, registers, memory, input and output are the machine's
+pub record IsEndedAt (plan : Plan) (x : Machine) (m : Moment) : Type 0 where
+  pub end : End
+  pub ending : m.state.ending ≡ Some end
+  pub stops : step_here (isa_of plan) x ≡ Stops end
+  pub retired : m.state.retired ≡ x.hart.retired
+  pub regs : m.state.regs ≡ x.hart.regs
+  pub mem : m.state.mem ≡ x.hart.mem
+  pub rest : m.rest ≡ x.rest
+  pub output : m.output ≡ x.output
+
+-- ended at the machine where that is so, else drained there
+abbrev pub EndsAt : Bool → Plan → Machine → Moment → Type 0
+EndsAt true plan x t = IsEndedAt plan x t
+EndsAt false plan x t = IsDrainedAt plan x t
+
+-- how a run from m ends: the passengers on the path retire; and where the next sure passenger stands on the path too, the program ends with its step
+pub record EndsAs (plan : Plan) (start : Machine) (m t : Moment) : Type 0 where
+  pub at : Machine
+  pub count : after (isa_of plan) start (gained start m.state) ≡ Some at
+  pub final : Machine
+  pub more : after (isa_of plan) start (gained start m.state + right (isa_of plan) m.state at) ≡ Some final
+  pub ends : EndsAt (way (isa_of plan) m.state at).stop plan final t
+
+-- two ends are alike: they agree in all that is seen of them, and where the program goes on they are the same
+pub record EndAlike (t u : Moment) : Type 0 where
+  pub ending : t.state.ending ≡ u.state.ending
+  pub retired : t.state.retired ≡ u.state.retired
+  pub regs : t.state.regs ≡ u.state.regs
+  pub mem : t.state.mem ≡ u.state.mem
+  pub rest : t.rest ≡ u.rest
+  pub output : t.output ≡ u.output
+  pub same : t.state.ending ≡ None → IsSame t.state u.state

@@ -1,0 +1,181 @@
+-- What the pipes do with an instruction, each thing as the sequential machine does it (RISC-V Unprivileged ISA Manual; the step of rv_machine).
+use Rattle.std.specs.Prelude.{ℕ, ◌%◌, List, [], Option, Some, None, Bool, true, false, not, ◌&&◌, ◌==◌, if◌then◌else◌, Result, Ok, Err, slice_index, slice_set}
+use Rattle.mem_regions.specs.Memory.{Memory}
+use Rattle.mem_regions.specs.Fetching.{fetch_at, synced}
+use Rattle.mem_regions.specs.Access.{Bounds, permits_at}
+use Rattle.mem_regions.specs.Ranges.{load_at}
+use Rattle.mem_regions.specs.Writing.{stored}
+use Rattle.mem_regions.specs.declared.access.MemErr.{MemErr}
+use Rattle.mem_regions.specs.declared.access.MemErr.TheVariants.{Misaligned, NoAccess}
+use Rattle.rv_inst.specs.declared.accesses.Access.{Access}
+use Rattle.rv_inst.specs.declared.classes.Class.{Class}
+use Rattle.rv_inst.specs.declared.classes.Class.TheVariants.{Branch, Jump, Memory as MemoryClass, Serial, Free}
+use Rattle.rv_inst.specs.declared.instruction.Instr.{Instr}
+use Rattle.rv_inst.specs.declared.instruction.Instr.TheVariants.{Jal, Jalr, Branch as BranchInstr}
+use Rattle.rv_inst.specs.declared.isa.Isa.{Isa}
+use Rattle.rv_inst.specs.Words.{word_sum, word_of}
+use Rattle.rv_inst.specs.Decoding.{decoded_as}
+use Rattle.rv_inst.specs.Operands.{class_of, sources_of, dest_of}
+use Rattle.rv_inst.specs.Arithmetic.{next_pc}
+use Rattle.rv_inst.specs.Accesses.{access_made, extended}
+use Rattle.rv_machine.specs.Machine.{Machine}
+use Rattle.rv_machine.specs.Outcome as outcome
+use Rattle.rv_machine.specs.Call.{Called, call}
+use Rattle.rv_machine.specs.Call as called
+use Rattle.rv_machine.specs.Step.{synchronizes, breaks, step}
+use Rattle.cf_bind.specs.declared.passenger.End.{End}
+use Rattle.cf_bind.specs.declared.passenger.End.TheVariants.{Trap, Exit}
+
+-- the class of an instruction; no proof about a move looks into it
+unfoldable pub kind_of : Instr → Class
+kind_of i = class_of i
+
+-- the classes that turn control
+abbrev pub is_control : Class → Bool
+is_control Branch = true
+is_control Jump = true
+is_control _ = false
+
+-- loads and stores
+abbrev pub is_memory : Class → Bool
+is_memory MemoryClass = true
+is_memory _ = false
+
+-- ECALL and FENCE.I, which need the whole machine
+abbrev pub is_serial : Class → Bool
+is_serial Serial = true
+is_serial _ = false
+
+-- FENCE and EBREAK, which need no unit
+abbrev pub is_free : Class → Bool
+is_free Free = true
+is_free _ = false
+
+-- the register of this number; x0 holds no value
+abbrev pub register : ℕ → Option ℕ
+register r = if r == 0 then None else Some r
+
+-- the registers that an instruction reads and writes, x0 left out
+unfoldable pub src1_of : Instr → Option ℕ
+src1_of i = register (sources_of i).0
+
+unfoldable pub src2_of : Instr → Option ℕ
+src2_of i = register (sources_of i).1
+
+unfoldable pub dst_of : Instr → Option ℕ
+dst_of i = register (dest_of i)
+
+-- the value of a source; where there is none, 0
+abbrev pub value_read : List ℕ → Option ℕ → ℕ
+value_read regs None = 0
+value_read regs (Some r) = slice_index regs r
+
+-- the registers once a destination is written, where there is one
+abbrev pub value_written : List ℕ → Option ℕ → ℕ → List ℕ
+value_written regs None v = regs
+value_written regs (Some r) v = slice_set regs r v
+
+-- the address of the next word
+abbrev pub word_after : ℕ → ℕ
+word_after pc = word_sum pc 4
+
+-- the target of a branch or of JAL; of other instructions nothing is meant
+unfoldable pub target_of : Instr → ℕ → ℕ
+target_of (Jal rd imm) pc = word_sum pc (word_of imm)
+target_of (BranchInstr c rs1 rs2 imm) pc = word_sum pc (word_of imm)
+target_of _ pc = word_after pc
+
+-- JALR, whose target is not in the instruction
+unfoldable pub is_indirect : Instr → Bool
+is_indirect (Jalr rd rs1 imm) = true
+is_indirect _ = false
+
+-- the instruction at an address, or the trap of that address
+pub data Fetched : Type 0 where
+  Got : Instr → Fetched
+  Bad : End → Fetched
+
+-- what a word is, once it was fetched: cause 2 where it is no instruction
+abbrev pub read_as : ℕ → ℕ → Option Instr → Fetched
+read_as pc word None = Bad (Trap 2 pc word)
+read_as pc word (Some i) = Got i
+
+-- what was fetched: cause 1 where that failed
+abbrev pub word_read : Isa → ℕ → Result ℕ MemErr → Fetched
+word_read isa pc (Ok word) = read_as pc word (decoded_as isa word)
+word_read isa pc (Err e) = Bad (Trap 1 pc pc)
+
+-- what the code of memory has at an address: cause 0 where 4 does not divide it
+unfoldable pub fetched : Isa → Memory → ℕ → Fetched
+fetched isa mem pc = if pc % 4 == 0 then word_read isa pc (fetch_at mem pc) else Bad (Trap 0 pc pc)
+
+-- a branch or a jump whose next address is no multiple of 4 traps
+unfoldable pub finish_trap : Instr → ℕ → ℕ → ℕ → Option End
+finish_trap i pc a b = if is_control (kind_of i) && not (next_pc i pc a b % 4 == 0) then Some (Trap 0 pc (next_pc i pc a b)) else None
+
+-- EBREAK traps; FENCE does not
+unfoldable pub free_trap : Instr → ℕ → Option End
+free_trap i pc = if breaks i then Some (Trap 3 pc pc) else None
+
+-- the trap of a load or a store whose access was answered so
+abbrev pub refused : ℕ → Access → Result (Unit {0}) MemErr → Option End
+refused pc access (Ok done) = None
+refused pc access (Err Misaligned) = Some (Trap (if access.write then 6 else 4) pc access.addr)
+refused pc access (Err NoAccess) = Some (Trap (if access.write then 7 else 5) pc access.addr)
+
+-- the trap of a load or a store, whose first source is a, that memory of these bounds does not permit
+unfoldable pub access_trap : Instr → ℕ → ℕ → List Bounds → Option End
+access_trap i pc a bounds =
+    let access = access_made i a 0 in
+    refused pc access (permits_at bounds access.addr access.width access.write)
+
+-- memory after a load or a store
+unfoldable pub mem_after : Instr → ℕ → ℕ → Memory → Memory
+mem_after i a b mem =
+    let access = access_made i a b in
+    if access.write then stored mem access.addr access.width access.value else mem
+
+-- the number that was loaded
+abbrev pub number : Result ℕ MemErr → ℕ
+number (Ok n) = n
+number (Err e) = 0
+
+-- the answer of memory: a load's value, extended, and 0 for a store
+unfoldable pub answer_of : Instr → ℕ → ℕ → Memory → ℕ
+answer_of i a b mem =
+    let access = access_made i a b in
+    if access.write then 0 else extended i (number (load_at mem access.addr access.width))
+
+-- what ECALL and FENCE.I come to, of the registers, the memory and the rest of the input; FENCE.I answers nothing, and code is fetched from memory as it now is
+unfoldable pub serve_of : Instr → List ℕ → Memory → List ℕ → Called
+serve_of i regs mem rest =
+    if synchronizes i
+    then called.Value (record { value = 0; mem = synced mem; rest = rest; output = [] })
+    else call regs mem rest
+
+-- a step goes on to a machine, or it ends the program
+pub data Stepped : Type 0 where
+  Goes : Machine → Stepped
+  Stops : End → Stepped
+
+abbrev pub stepped : outcome.Outcome Machine → Stepped
+stepped (outcome.Next m line) = Goes m
+stepped (outcome.Trap cause pc detail) = Stops (Trap cause pc detail)
+stepped (outcome.Exit status) = Stops (Exit status)
+
+-- the machine at another address
+abbrev pub at_pc : Machine → ℕ → Machine
+at_pc x pc = record x { hart = record x.hart { pc = pc } }
+
+-- the step of the machine at this address
+unfoldable pub step_at : Isa → Machine → ℕ → Stepped
+step_at isa x pc = stepped (step isa (at_pc x pc))
+
+-- the step of the machine where it is
+abbrev pub step_here : Isa → Machine → Stepped
+step_here isa x = step_at isa x x.hart.pc
+
+-- the machine after a step, or as it was where that ends the program
+abbrev pub behind : Stepped → Machine → Machine
+behind (Goes n) m = n
+behind (Stops e) m = m

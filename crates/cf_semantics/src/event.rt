@@ -1,0 +1,21 @@
+use cf_bind::End;
+use rv_machine::Retired;
+
+/// What a move did that is seen from outside.
+#[derive(Clone, Copy, PartialEq, Eq)]
+pub enum Event {
+    /// Nothing.
+    Plain,
+
+    /// A meeting killed the result.
+    Killed,
+
+    /// A meeting made the instruction dead.
+    Died,
+
+    /// An instruction retired.
+    Retired(Retired),
+
+    /// The program ended.
+    Ended(End),
+}
