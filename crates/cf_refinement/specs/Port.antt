@@ -1,0 +1,95 @@
+-- The order of memory operations, and what memory, input and output have come to.
+use Rattle.std.specs.Prelude.{◌≡◌, ℕ, List, Option, Some, None, Bool, true, false, ◌&&◌, ◌||◌, not, if◌then◌else◌, slice_index}
+use Rattle.mem_regions.specs.Memory.{Memory}
+use Rattle.mem_regions.specs.Access.{bounds_of}
+use Rattle.rv_inst.specs.declared.isa.Isa.{Isa}
+use Rattle.rv_inst.specs.declared.classes.Class.{Class}
+use Rattle.rv_inst.specs.declared.classes.Class.TheVariants.{Branch, Jump, Serial}
+use Rattle.rv_machine.specs.Machine.{Machine}
+use Rattle.cf_layout.specs.Layout.{Plan}
+use Rattle.cf_bind.specs.declared.binding.Binding.{Binding}
+use Rattle.cf_bind.specs.declared.passenger.Passenger.{Passenger}
+use Rattle.cf_semantics.specs.Options.{is_some}
+use Rattle.cf_semantics.specs.Instructions.{is_memory, step_at, behind, access_trap}
+use Rattle.cf_semantics.specs.State.{State}
+use Rattle.cf_semantics.specs.Column.{Item, Up, Down}
+use Rattle.cf_semantics.specs.Passengers.{instruction, kind, value_in}
+use Rattle.cf_semantics.specs.Ahead.{has_served, flies, has_ported, answer_there}
+use Rattle.cf_semantics.specs.Path as path
+use Rattle.cf_semantics.specs.Fetches.{Text, code_of}
+
+-- what is known on the way down, besides the path: whether memory may not be touched further down; what memory, code, input and output have come to; and the answer at the end of Memory's siding, while no passenger so far is its own
+pub record Dock : Type 0 where
+  pub path : path.Walk
+  pub risky : Bool
+  pub mem : Memory
+  pub code : List Text
+  pub rest : List ℕ
+  pub out : List ℕ
+  pub answer : Option ℕ
+
+-- the classes that decide where the program goes on
+abbrev pub steers : Class → Bool
+steers Branch = true
+steers Jump = true
+steers Serial = true
+steers _ = false
+
+-- no memory operation may be launched below it
+abbrev pub risks : Passenger → Bool
+risks p = (not p.dead && ((not p.done && steers (kind p)) || is_some p.ending)) || path.turns p.owes
+
+-- the answer is the destination's value
+abbrev pub Answers : Option Binding → List ℕ → ℕ → Type 0
+Answers None regs a = Unit {0}
+Answers (Some b) regs a = slice_index regs b.reg ≡ a
+
+pub record IsDocked (isa : Isa) (p : Passenger) (x : Machine) (risky : Bool) (answer : Option ℕ) : Type 0 where
+  pub live : is_memory (kind p) ≡ true → (p.launched || p.recovered) ≡ true → p.dead ≡ false
+  pub order : is_memory (kind p) ≡ true → (p.launched || p.recovered) ≡ true → risky ≡ false
+  pub served : has_served p ≡ true → risky ≡ false
+  pub permitted : is_memory (kind p) ≡ true → (p.launched || p.recovered) ≡ true → access_trap (instruction p) p.pc (value_in p.src1) (bounds_of x.hart.mem) ≡ None
+  pub answered : flies p ≡ true → (a : ℕ) → answer ≡ Some a → Answers p.dst (behind (step_at isa x p.pc) x).hart.regs a
+
+unfoldable pub DockedAt : Isa → Passenger → Dock → Type 0
+DockedAt isa p w = IsDocked isa p w.path.machine w.risky w.answer
+
+-- an item, with what is known above it
+unfoldable pub Fits : Isa → Item → Dock → Type 0
+Fits isa (Up i p) w = DockedAt isa p w
+Fits isa (Down i k) w = Unit {0}
+
+abbrev pub past_passenger : Isa → Passenger → path.Walk → Dock → Dock
+past_passenger isa p q w = let y = behind (step_at isa w.path.machine p.pc) w.path.machine in record {
+  path = q;
+  risky = w.risky || risks p;
+  mem = if has_ported p w.answer then y.hart.mem else w.mem;
+  code = if has_served p then code_of y.hart.mem else w.code;
+  rest = if has_served p then y.rest else w.rest;
+  out = if has_served p then y.output else w.out;
+  answer = if flies p then None else w.answer;
+}
+
+-- one item further down
+unfoldable pub past : Isa → Item → Dock → Dock
+past isa (Up i p) w = past_passenger isa p (path.past isa (Up i p) w.path) w
+past isa (Down i k) w = record w { path = path.past isa (Down i k) w.path; risky = w.risky || path.turns (Some k) }
+
+-- at the top
+abbrev pub top : Plan → State → Machine → Dock
+top plan s x = record {
+  path = path.top s x;
+  risky = false;
+  mem = x.hart.mem;
+  code = code_of x.hart.mem;
+  rest = x.rest;
+  out = x.output;
+  answer = answer_there plan s;
+}
+
+-- below all: memory, code, input and output are these
+pub record Ends (w : Dock) (mem : Memory) (rest out : List ℕ) : Type 0 where
+  pub is_mem : mem ≡ w.mem
+  pub is_code : code_of mem ≡ w.code
+  pub is_rest : rest ≡ w.rest
+  pub is_out : out ≡ w.out

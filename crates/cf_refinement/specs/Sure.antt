@@ -1,0 +1,97 @@
+-- What holds of each passenger and packet on the path of the program: their values, addresses and endings are those of the sequential machine.
+use Rattle.std.specs.Prelude.{◌≡◌, ℕ, List, Option, Some, None, Bool, true, false, not, slice_index}
+use Rattle.rv_inst.specs.declared.isa.Isa.{Isa}
+use Rattle.rv_inst.specs.declared.instruction.Instr.{Instr}
+use Rattle.rv_machine.specs.Machine.{Machine}
+use Rattle.cf_bind.specs.declared.binding.Binding.{Binding}
+use Rattle.cf_bind.specs.declared.packet.Packet.{Packet}
+use Rattle.cf_bind.specs.declared.packet.Packet.TheVariants.{Value, Turn, Halt}
+use Rattle.cf_bind.specs.declared.packet.Fetch.{Fetch}
+use Rattle.cf_bind.specs.declared.passenger.Passenger.{Passenger}
+use Rattle.cf_bind.specs.declared.passenger.End.{End}
+use Rattle.cf_semantics.specs.Options.{When}
+use Rattle.cf_semantics.specs.Instructions.{src1_of, src2_of, dst_of, Fetched, Got, Bad, fetched, Stepped, Goes, Stops, step_at, behind}
+use Rattle.cf_semantics.specs.Column.{Item, Up, Down}
+use Rattle.cf_semantics.specs.Passengers.{reg_in, cached}
+use Rattle.cf_semantics.specs.Moves.{fetch_at}
+use Rattle.cf_semantics.specs.Path.{Walk, is_trap, is_sure}
+
+-- a known value is that of the registers
+abbrev pub Agrees : Option Binding → List ℕ → Type 0
+Agrees None regs = Unit {0}
+Agrees (Some b) regs = (v : ℕ) → b.value ≡ Some v → v ≡ slice_index regs b.reg
+
+-- the value is known
+abbrev pub Known : Option Binding → Type 0
+Known None = Unit {0}
+Known (Some b) = (v : ℕ) × (b.value ≡ Some v)
+
+-- a value that is not known is on its way
+abbrev pub Comes : Option Binding → (ℕ → Bool) → Type 0
+Comes None coming = Unit {0}
+Comes (Some b) coming = b.value ≡ None → coming b.reg ≡ true
+
+-- what is owed is the destination's value, or a turn to where the program goes, or a halt for a trap
+abbrev pub Owed : Option Packet → Passenger → Type 0
+Owed None p = Unit {0}
+Owed (Some (Value r v)) p = (p.dst ≡ Some (record { reg = r; value = Some v })) × (p.ending ≡ None)
+Owed (Some (Turn pc)) p = (p.next ≡ Some pc) × (p.ending ≡ None)
+Owed (Some Halt) p = is_trap p.ending ≡ true
+
+-- it holds what stands at its address
+abbrev pub Reads : Passenger → Fetched → Type 0
+Reads p (Got i) = p.what ≡ Some i
+Reads p (Bad e) = (p.what ≡ None) × (p.ending ≡ Some e)
+
+-- its bindings are the registers of its instruction
+pub record IsShaped (p : Passenger) (i : Instr) : Type 0 where
+  pub one : reg_in p.src1 ≡ src1_of i
+  pub two : reg_in p.src2 ≡ src2_of i
+  pub three : reg_in p.dst ≡ dst_of i
+
+-- a sure passenger: x is the machine before it, s the step there, and the program goes on at g
+pub record IsSure (isa : Isa) (p : Passenger) (x : Machine) (s : Stepped) (g : Option ℕ) : Type 0 where
+  pub path : g ≡ Some p.pc
+  pub reads : Reads p (fetched isa x.hart.mem p.pc)
+  pub shape : (i : Instr) → p.what ≡ Some i → IsShaped p i
+  pub value1 : Agrees p.src1 x.hart.regs
+  pub value2 : Agrees p.src2 x.hart.regs
+  pub value3 : Agrees p.dst (behind s x).hart.regs
+  pub goes : p.done ≡ true → p.ending ≡ None → s ≡ Goes (behind s x)
+  pub next : p.done ≡ true → p.ending ≡ None → p.next ≡ Some (behind s x).hart.pc
+  pub known : p.done ≡ true → p.ending ≡ None → Known p.dst
+  pub ends : (e : End) → p.ending ≡ Some e → s ≡ Stops e
+  pub unended : p.done ≡ false → p.ending ≡ None
+  pub unowing : p.done ≡ false → p.owes ≡ None
+  pub owed : Owed p.owes p
+
+-- each of its values that is not known is on its way
+pub record IsSourced (p : Passenger) (coming : ℕ → Bool) : Type 0 where
+  pub source1 : Comes p.src1 coming
+  pub source2 : Comes p.src2 coming
+
+-- a value is the register's; the first barrier turns to where the program goes, or halts what traps
+abbrev pub Packet_fits : Packet → Walk → Type 0
+Packet_fits (Value r v) w = v ≡ slice_index w.machine.hart.regs r
+Packet_fits (Turn pc) w = (w.goto ≡ Some pc) × (w.settled ≡ true)
+Packet_fits Halt w = (w.goto ≡ None) × (w.trapped ≡ true)
+
+unfoldable pub SureAt : Isa → Passenger → Walk → Type 0
+SureAt isa p w = IsSure isa p w.machine (step_at isa w.machine p.pc) w.goto × IsSourced p w.coming
+
+-- an item, with what is known above it
+unfoldable pub Fits : Isa → Item → Walk → Type 0
+Fits isa (Up i p) w = (p.dead ≡ true → p.owes ≡ None) × When (is_sure p w) (SureAt isa p w)
+Fits isa (Down i k) w = When (not w.barred) (Packet_fits k w)
+
+-- below all, with no barrier: fetch runs where the program goes
+abbrev pub Ends : Walk → Fetch → Type 0
+Ends w f = When (not w.barred) (f ≡ fetch_at w.goto)
+
+-- each value that is kept is the register's
+abbrev pub Holds : List (Option ℕ) → List ℕ → Type 0
+Holds cache regs = (r v : ℕ) → cached cache r ≡ Some v → v ≡ slice_index regs r
+
+-- below all, with no barrier
+abbrev pub Keeps : Walk → List (Option ℕ) → Type 0
+Keeps w cache = When (not w.barred) (Holds cache w.machine.hart.regs)

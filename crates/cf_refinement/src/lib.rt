@@ -1,0 +1,2 @@
+//! Proofs alone: whatever order the moves are made in, what retires is what the sequential machine does.
+#![tactic(auto)]
