@@ -1,0 +1,49 @@
+//! The values that are kept at the bottom, so that a later instruction need not request them.
+
+ghost use Rattle.std.specs.Prelude.{◌≡◌, ◌≢◌, ◌<◌, Some, None, slice_set};
+ghost use Rattle.cf_semantics.specs.Passengers.{cached as kept_value, forgets, cleared};
+
+use crate::ends::Ends;
+
+impl Ends {
+    /// The value that is kept for the register, if one is.
+    #[inline(always)]
+    #[tactic(auto, using(crate::proofs::Keeping::reading))]
+    pub fn cached(&self, r: u8) -> Option<u32>
+        requires { r < 32 }
+        ensures value { result ≡ kept_value self.now.cache r }
+        ensures zero { r ≡ 0 → result ≡ None }
+    {
+        self.cache[r as usize]
+    }
+
+    /// Keeps the value for a register other than x0.
+    #[inline(always)]
+    pub fn keep(&mut self, r: u8, value: u32)
+        requires register { r < 32 }
+        requires other { r ≢ 0 }
+        ensures ends { self.new ≡ record self.old { cache = slice_set self.old.cache r (Some value) } }
+        ensures kept { kept_value self.new.cache r ≡ Some value }
+    {
+        self.cache[r as usize] = Some(value);
+    }
+
+    /// Keeps no value for the register any more.
+    #[inline(always)]
+    pub fn forget(&mut self, r: u8)
+        requires { r < 32 }
+        ensures ends { self.new ≡ record self.old { cache = forgets (Some r) self.old.cache } }
+        ensures forgotten { kept_value self.new.cache r ≡ None }
+    {
+        self.cache[r as usize] = None;
+    }
+
+    /// Keeps no value any more.
+    #[inline(always)]
+    #[tactic(auto, using(crate::proofs::Keeping::clearing))]
+    pub fn clear(&mut self)
+        ensures { self.new ≡ record self.old { cache = cleared self.old.cache } }
+    {
+        self.cache = [None; 32];
+    }
+}

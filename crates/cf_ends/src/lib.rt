@@ -1,0 +1,10 @@
+//! What stands beside the pipes: the register file with its lane of requests, fetch, and the values that are kept at the bottom.
+#![tactic(auto)]
+
+mod cache;
+mod ends;
+mod lane;
+#[cfg(test)]
+mod tests;
+
+pub use ends::Ends;

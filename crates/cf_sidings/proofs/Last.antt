@@ -1,0 +1,51 @@
+-- The last cell of a siding, by its index.
+use Rattle.std.proofs.Common.{◌≡◌, ℕ, zero, suc, ◌<◌, ◌-◌, List, [], ◌∷◌, Option, None, IsSome, length, refl, ap, arith}
+use Rattle.std.specs.Prelude.{slice_index_or, slice_set}
+use Rattle.cf_bind.specs.declared.cell.Op.{Op}
+use Rattle.mem_regions.specs.Memory.{Memory}
+use Rattle.cf_sidings.specs.Sidings.{CanAccess}
+use Rattle.cf_semantics.specs.Bars.{last_op}
+use Rattle.cf_semantics.specs.Moves.{set_last}
+
+-- the number of cells is one more than the index of the last
+last_index : (cells : List (Option Op)) (n : ℕ) → length cells ≡ suc n → last_op cells ≡ slice_index_or cells n None
+last_index [] n e = absurd (omega arith)
+last_index (o ∷ []) zero e = refl
+last_index (o ∷ []) (suc n) e = absurd (omega arith)
+last_index (o ∷ p ∷ cells) zero e = absurd (omega arith)
+last_index (o ∷ p ∷ cells) (suc n) e = last_index (p ∷ cells) n (omega arith)
+
+set_index : (cells : List (Option Op)) (n : ℕ) (q : Option Op) → length cells ≡ suc n → set_last cells q ≡ slice_set cells n q
+set_index [] n q e = absurd (omega arith)
+set_index (o ∷ []) zero q e = refl
+set_index (o ∷ []) (suc n) q e = absurd (omega arith)
+set_index (o ∷ p ∷ cells) zero q e = absurd (omega arith)
+set_index (o ∷ p ∷ cells) (suc n) q e = ap (λ (l : List (Option Op)). o ∷ l) (set_index (p ∷ cells) n q (omega arith))
+
+-- what stands in the last cell
+pub last_op-index : (cells : List (Option Op)) → 0 < length cells → last_op cells ≡ slice_index_or cells (length cells - 1) None
+last_op-index cells h = last_index cells (length cells - 1) (omega arith)
+
+-- something else in the last cell
+pub set_last-index : (cells : List (Option Op)) (q : Option Op) → 0 < length cells → set_last cells q ≡ slice_set cells (length cells - 1) q
+set_last-index cells q h = set_index cells (length cells - 1) q (omega arith)
+
+-- a siding without cells has no operation at its end
+pub last-within : (cells : List (Option Op)) → IsSome (last_op cells) → 0 < length cells
+last-within [] e = absurd (cc)
+last-within (o ∷ cells) e = omega arith
+
+-- nor one that can be made
+pub access-within : (cells : List (Option Op)) (mem : Memory) → CanAccess (last_op cells) mem → 0 < length cells
+access-within [] mem e = absurd e
+access-within (o ∷ cells) mem e = omega arith
+
+-- it keeps its number of cells
+pub length-set_last : (cells : List (Option Op)) (q : Option Op) → length (set_last cells q) ≡ length cells
+length-set_last [] q = refl
+length-set_last (o ∷ []) q = refl
+length-set_last (o ∷ p ∷ cells) q = ap suc (length-set_last (p ∷ cells) q)
+
+pub ruleset last_cell = (last_op-index, set_last-index, length-set_last)
+
+pub ruleset there = (last-within, access-within)

@@ -1,0 +1,4 @@
+pub mod Last
+pub mod Empty
+pub mod Permitted
+pub mod Shape

@@ -1,0 +1,11 @@
+//! The sidings, in which operations stand while they are computed beside the pipes.
+#![tactic(auto)]
+
+mod access;
+mod siding;
+mod sidings;
+#[cfg(test)]
+mod tests;
+
+pub use cf_bind::Op;
+pub use sidings::Sidings;

@@ -1,0 +1,128 @@
+//! One siding.
+
+ghost use Rattle.std.specs.Prelude.{◌≡◌, ◌+◌, ◌<◌, IfOk, IsSome, None, Some, length, replicate, slice_get, slice_set};
+ghost use Rattle.cf_semantics.specs.Bars.{last_op};
+ghost use Rattle.cf_semantics.specs.Moves.{set_last};
+ghost use Rattle.cf_sidings.specs.Sidings.{CanAccess, moved_on, after_access, mem_after_access};
+
+use crate::access::make;
+use cf_bind::Op;
+use mem_regions::Regions;
+use std::alloc::{AllocError, Global};
+use std::marker::Model;
+
+/// A siding, seen as the list of its cells from the one that operations enter by.
+#[derive(Drop)]
+pub(crate) struct Siding {
+    cells: Vec<Option<Op>>,
+}
+
+impl Model for Siding {
+    ghost use Rattle.std.specs.Prelude.{List, Option};
+    ghost use Rattle.cf_bind.specs.declared.cell.Op.{Op};
+
+    ghost Value = { List (Option Op) };
+
+    ghost view = { λ s. s.cells.items };
+}
+
+impl Siding {
+    /// A siding of this many empty cells.
+    pub(crate) fn new(alloc: Global, count: u32) -> Result<Siding, AllocError>
+        ensures { IfOk result (λ siding. siding ≡ replicate count None) }
+    {
+        let mut cells = Vec::new(alloc);
+        cells.resize(count as usize, None)?;
+        Ok(Siding { cells })
+    }
+
+    /// What stands in the cell.
+    #[inline(always)]
+    pub(crate) fn cell(&self, c: usize) -> Option<Op>
+        requires { c < length self.now }
+        ensures { Some result ≡ slice_get self.now c }
+    {
+        self.cells[c]
+    }
+
+    /// Puts an operation into the first cell.
+    #[inline(always)]
+    pub(crate) fn enter(&mut self, op: Op)
+        requires { 0 < length self.old }
+        ensures cells { self.new ≡ slice_set self.old 0 (Some op) }
+        ensures count { length self.new ≡ length self.old }
+    {
+        self.cells[0] = Some(op);
+    }
+
+    /// Moves what stands in the cell to the next one.
+    #[inline(always)]
+    #[tactic(auto, unfolding(crate::specs::Sidings::moved_on))]
+    pub(crate) fn move_on(&mut self, c: usize)
+        requires { c + 1 < length self.old }
+        ensures cells { self.new ≡ moved_on self.old c }
+        ensures count { length self.new ≡ length self.old }
+    {
+        let op = self.cells[c];
+        self.cells[c] = None;
+        self.cells[c + 1] = op;
+    }
+
+    /// The operation in the last cell.
+    #[inline(always)]
+    #[tactic(auto, using(crate::proofs::Last::last_cell))]
+    fn last(&self) -> Option<Op>
+        requires { 0 < length self.now }
+        ensures { result ≡ last_op self.now }
+    {
+        self.cells[self.cells.len() - 1]
+    }
+
+    /// Puts something else into the last cell.
+    #[inline(always)]
+    #[tactic(auto, using(crate::proofs::Last::last_cell))]
+    fn set_last(&mut self, op: Option<Op>)
+        requires { 0 < length self.old }
+        ensures cells { self.new ≡ set_last self.old op }
+        ensures count { length self.new ≡ length self.old }
+    {
+        let last = self.cells.len() - 1;
+        self.cells[last] = op;
+    }
+
+    /// Takes the operation out of the last cell.
+    #[inline(always)]
+    #[tactic(auto, using(crate::proofs::Last::there))]
+    pub(crate) fn take_last(&mut self) -> Op
+        requires { IsSome (last_op self.old) }
+        ensures op { Some result ≡ last_op self.old }
+        ensures cells { self.new ≡ set_last self.old None }
+        ensures count { length self.new ≡ length self.old }
+    {
+        match self.last() {
+            Some(op) => {
+                self.set_last(None);
+                op
+            }
+            None => unreachable!(),
+        }
+    }
+
+    /// Makes the load or store in the last cell.
+    #[inline(always)]
+    #[tactic(auto, using(crate::proofs::Last::there), unfolding(crate::specs::Sidings::after_access, crate::specs::Sidings::mem_after_access))]
+    pub(crate) fn make_last(&mut self, mem: &mut Regions)
+        requires { CanAccess (last_op self.old) mem.old }
+        ensures cells { self.new ≡ after_access self.old mem.old }
+        ensures memory { mem.new ≡ mem_after_access self.old mem.old }
+        ensures count { length self.new ≡ length self.old }
+    {
+        match self.last() {
+            Some(mut op) => {
+                op.answer = Some(make(op, mem));
+                self.set_last(Some(op));
+            }
+            None => unreachable!(),
+        }
+    }
+}

@@ -1,0 +1,97 @@
+//! The sidings of a layout.
+
+ghost use Rattle.std.specs.Prelude.{◌≡◌, ◌+◌, ◌<◌, IfOk, IsSome, IsTrue, None, Some, length, map, slice_get, slice_set};
+ghost use Rattle.cf_semantics.specs.Bars.{is_taken};
+ghost use Rattle.cf_semantics.specs.Moves.{set_last};
+ghost use Rattle.cf_sidings.specs.Sidings.{empty_sidings, cells_in, last_in, with_cells, moved_on, after_access, mem_after_access, CanAccess};
+
+use crate::siding::Siding;
+use cf_bind::Op;
+use cf_layout::Layout;
+use mem_regions::Regions;
+use std::alloc::{AllocError, Global};
+use std::marker::Model;
+
+/// The sidings of a layout, seen as the lists of their cells, each from the one that operations enter by. No call but `new`
+/// takes memory.
+#[derive(Drop)]
+pub struct Sidings {
+    list: Vec<Siding>,
+}
+
+impl Model for Sidings {
+    ghost use Rattle.std.specs.Prelude.{List, Option};
+    ghost use Rattle.cf_bind.specs.declared.cell.Op.{Op};
+
+    ghost Value = { List (List (Option Op)) };
+
+    ghost view = { λ s. s.list.items };
+}
+
+impl Sidings {
+    /// The sidings of the layout, in which no operation stands; or an error where there is no memory for them.
+    #[tactic(auto, using(crate::proofs::Empty::emptying), unfolding(crate::specs::Sidings::empty_sidings))]
+    pub fn new(alloc: Global, layout: &Layout) -> Result<Sidings, AllocError>
+        ensures { IfOk result (λ sidings. sidings ≡ empty_sidings layout.now) }
+    {
+        let mut list = Vec::new(alloc);
+        for k in 0..layout.siding_count() {
+            list.push(Siding::new(alloc, layout.cells_of(k))?)?;
+        }
+        Ok(Sidings { list })
+    }
+
+    /// What stands in a cell of a siding.
+    #[inline(always)]
+    pub fn cell(&self, k: u32, c: u32) -> Option<Op>
+        requires siding { k < length self.now }
+        requires cell { c < length (cells_in self.now k) }
+        ensures { Some result ≡ slice_get (cells_in self.now k) c }
+    {
+        self.list[k as usize].cell(c as usize)
+    }
+
+    /// Puts an operation into the first cell of a siding, which is empty.
+    #[inline(always)]
+    pub fn launch(&mut self, k: u32, op: Op)
+        requires { slice_get (cells_in self.old k) 0 ≡ Some None }
+        ensures sidings { self.new ≡ with_cells self.old k (slice_set (cells_in self.old k) 0 (Some op)) }
+        ensures cells { map length self.new ≡ map length self.old }
+    {
+        self.list[k as usize].enter(op);
+    }
+
+    /// Moves the operation of a cell to the next one, which is empty.
+    #[inline(always)]
+    pub fn slide(&mut self, k: u32, c: u32)
+        requires there { IsTrue (is_taken (slice_get (cells_in self.old k) c)) }
+        requires room { slice_get (cells_in self.old k) (c + 1) ≡ Some None }
+        ensures sidings { self.new ≡ with_cells self.old k (moved_on (cells_in self.old k) c) }
+        ensures cells { map length self.new ≡ map length self.old }
+    {
+        self.list[k as usize].move_on(c as usize);
+    }
+
+    /// Makes the load or store in the last cell of a siding, which memory permits and which has no answer yet. The answer is
+    /// the value that a load writes to its register, and 0 for a store.
+    #[inline(always)]
+    pub fn access(&mut self, k: u32, mem: &mut Regions)
+        requires { CanAccess (last_in self.old k) mem.old }
+        ensures sidings { self.new ≡ with_cells self.old k (after_access (cells_in self.old k) mem.old) }
+        ensures memory { mem.new ≡ mem_after_access (cells_in self.old k) mem.old }
+        ensures cells { map length self.new ≡ map length self.old }
+    {
+        self.list[k as usize].make_last(mem);
+    }
+
+    /// Takes out the operation in the last cell of a siding.
+    #[inline(always)]
+    pub fn recover(&mut self, k: u32) -> Op
+        requires { IsSome (last_in self.old k) }
+        ensures op { Some result ≡ last_in self.old k }
+        ensures sidings { self.new ≡ with_cells self.old k (set_last (cells_in self.old k) None) }
+        ensures cells { map length self.new ≡ map length self.old }
+    {
+        self.list[k as usize].take_last()
+    }
+}

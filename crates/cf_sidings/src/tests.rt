@@ -1,0 +1,36 @@
+//! What no clause says: that there is memory for the sidings of a layout, and that an operation passes through one.
+
+use crate::{Op, Sidings};
+use cf_layout::plain;
+use rv_inst::{Instr, LoadKind};
+use std::process::Abort;
+use std::test::Fail;
+
+/// LB x1, 1(x0).
+fn load() -> Op {
+    let instr = Instr::Load {
+        kind: LoadKind::Byte,
+        rd: 1,
+        rs1: 0,
+        imm: 1,
+    };
+    Op {
+        pc: 0x1_0000,
+        instr,
+        a: 0,
+        b: 0,
+        answer: None,
+    }
+}
+
+#[test]
+#[tactic(auto, unfolding(crate::specs::Sidings::empty_sidings, crate::specs::Sidings::moved_on))]
+fn an_operation_passes_through(rt: HostRuntime) -> Result<(), Fail> {
+    let mut sidings = Sidings::new(rt.alloc(), &plain())?;
+    sidings.launch(0, load());
+    sidings.slide(0, 0);
+    assert!(rt; sidings.cell(0, 0).is_none());
+    assert!(rt; sidings.recover(0) == load());
+    assert!(rt; sidings.cell(0, 1).is_none());
+    Ok(())
+}

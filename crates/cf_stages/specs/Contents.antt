@@ -1,0 +1,20 @@
+-- What stands in the pipes from the top down, wherever it stands. No move up or down changes it ("Counterflow Pipeline Processor Architecture", 1994: the order of instructions and results).
+use Rattle.std.specs.Prelude.{List, map}
+use Rattle.cf_bind.specs.declared.cell.Cell.{Cell}
+use Rattle.cf_bind.specs.declared.packet.Packet.{Packet}
+use Rattle.cf_bind.specs.declared.passenger.Passenger.{Passenger}
+use Rattle.cf_semantics.specs.Column.{Item, Up, Down, column_from}
+
+-- an instruction or a result
+pub data Content : Type 0 where
+  Instruction : Passenger → Content
+  Outcome : Packet → Content
+
+-- an item of the column without the stage where it stands
+abbrev pub content : Item → Content
+content (Up i p) = Instruction p
+content (Down i k) = Outcome k
+
+-- the column of the stages, from the top down, without the stages
+unfoldable pub contents : List Cell → List Content
+contents cells = map content (column_from 1 cells)
