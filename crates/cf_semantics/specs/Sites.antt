@@ -1,6 +1,7 @@
 -- The sites of a moment, and which of them each move reads and may write. Moves at different sites can be made in either order.
-use Rattle.std.specs.Prelude.{◌≡◌, ℕ, ◌+◌, ◌-◌, List, [], ◌∷◌, length, map, Option, Some, None, Bool, true, false, ◌==◌, ◌&&◌, ◌||◌, not, slice_get}
+use Rattle.std.specs.Prelude.{◌≡◌, ℕ, ◌+◌, ◌-◌, List, [], ◌∷◌, length, map, Option, None, Bool, true, false, ◌==◌, ◌&&◌, ◌||◌, not, slice_get}
 use Rattle.mem_regions.specs.Memory as regions
+use Rattle.mem_regions.specs.Access.{bounds_of}
 use Rattle.cf_layout.specs.Layout.{Plan, launch_stage, recover_stage}
 use Rattle.cf_bind.specs.declared.cell.Cell.{Cell}
 use Rattle.cf_bind.specs.declared.cell.Op.{Op}
@@ -8,9 +9,13 @@ use Rattle.cf_bind.specs.declared.packet.Fetch.{Fetch}
 use Rattle.cf_bind.specs.declared.passenger.End.{End}
 use Rattle.cf_bind.specs.declared.moves.Move.{Move}
 use Rattle.cf_bind.specs.declared.moves.Move.TheVariants.{Issue, Emit, Climb, Fall, Meet, Execute, Send, Launch, Slide, Access, Recover, Leave, Exit, Serve}
+use Rattle.cf_semantics.specs.declared.event.Event.{Event}
 use Rattle.cf_semantics.specs.Options.{on, is_some}
 use Rattle.cf_semantics.specs.State.{State, Moment, cell_at, siding_at}
 use Rattle.cf_semantics.specs.Layouts.{port}
+use Rattle.cf_semantics.specs.Bars.{bar}
+use Rattle.cf_semantics.specs.Moves.{next}
+use Rattle.cf_semantics.specs.Events.{IsEvent}
 
 -- a stage by its number; a cell of a siding, by the numbers of both; and the rest of a moment, part by part
 pub data Site : Type 0 where
@@ -144,3 +149,21 @@ writes plan s mv x = uses plan s mv x || only_writes plan s mv x
 pub record AreIndependent (plan : Plan) (s : State) (a b : Move) : Type 0 where
   pub first : (x : Site) → writes plan s a x ≡ true → (reads plan s b x || writes plan s b x) ≡ false
   pub second : (x : Site) → writes plan s b x ≡ true → (reads plan s a x || writes plan s a x) ≡ false
+
+-- what no move changes, and what so is at no site: the bounds of the regions, and how many cells each siding has
+pub record HasFrame (s t : State) : Type 0 where
+  pub bounds : bounds_of s.mem ≡ bounds_of t.mem
+  pub sizes : (k : ℕ) → length (siding_at s k) ≡ length (siding_at t k)
+
+-- the two moments have the same at these sites
+pub record AreAlike (at : Site → Bool) (m t : Moment) : Type 0 where
+  pub frame : HasFrame m.state t.state
+  pub sites : (x : Site) → at x ≡ true → content m x ≡ content t x
+
+-- the move leaves the frame, and every site that it does not write; and its bar, its event and what it writes depend on the sites that it reads alone
+pub record IsLocal (plan : Plan) (m : Moment) (mv : Move) : Type 0 where
+  pub frame : bar plan m.state mv ≡ None → HasFrame m.state (next plan m mv).state
+  pub leaves : bar plan m.state mv ≡ None → (x : Site) → writes plan m.state mv x ≡ false → content (next plan m mv) x ≡ content m x
+  pub bars : (t : Moment) → AreAlike (reads plan m.state mv) m t → bar plan m.state mv ≡ bar plan t.state mv
+  pub events : (t : Moment) (e : Event) → AreAlike (reads plan m.state mv) m t → IsEvent plan m.state mv e → IsEvent plan t.state mv e
+  pub makes : (t : Moment) → AreAlike (reads plan m.state mv) m t → bar plan m.state mv ≡ None → (x : Site) → writes plan m.state mv x ≡ true → content (next plan m mv) x ≡ content (next plan t mv) x

@@ -4,3 +4,4 @@ pub mod Values
 pub mod Turns
 pub mod Sidings
 pub mod Cache
+pub mod Orders
