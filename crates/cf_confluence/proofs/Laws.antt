@@ -1,6 +1,6 @@
 -- Drain and confluence: what every order of moves comes to, of each accepted layout and each machine with its 32 registers.
 use Rattle.std.proofs.Common.{◌≡◌, ℕ, ◌+◌, ◌*◌, ◌≤◌, suc, List, ◌∷◌, Option, Some, None, true, refl, sym, subst, ◌∙◌, length}
-use Rattle.std.specs.Prelude.{slice_index}
+use Rattle.std.specs.Prelude.{slice_get, slice_index}
 use Rattle.rv_machine.specs.Machine.{Machine}
 use Rattle.cf_layout.specs.Layout.{Plan}
 use Rattle.cf_layout.specs.Accepted.{IsAccepted}
@@ -15,14 +15,19 @@ use Rattle.cf_semantics.specs.Weight.{counts, is_issue, issues, moves_per_issue,
 use Rattle.cf_semantics.specs.Drained.{IsStuck, is_drained}
 use Rattle.cf_semantics.specs.Determined.{Drains, EndAlike, EndsAs, Rests}
 use Rattle.cf_semantics.specs.Sites.{AreIndependent, IsLocal}
-use Rattle.cf_refinement.specs.Invariant.{HoldsAfter}
+use Rattle.cf_refinement.specs.Invariant.{HoldsAfter, HoldsAt, Sound}
 use Rattle.cf_refinement.proofs.Accepted.{accepted_suits}
 use Rattle.cf_refinement.proofs.Runs.{holds_after}
 use Rattle.cf_confluence.proofs.Apart.{all_retired, first_move, run_keeps}
 use Rattle.cf_confluence.proofs.Bound.{bounded_drain, bounded_run, costs, sound_at}
+use Rattle.cf_semantics.specs.Policies.{candidates, held_back}
+use Rattle.cf_confluence.proofs.Candidates.{HasShape, has_some, held_stuck as candidates_held, some_pick as candidates_there}
 use Rattle.cf_confluence.proofs.Confluent.{agree, halted_alike, kept_true}
 use Rattle.cf_confluence.proofs.Determined.{ends_as}
 use Rattle.cf_confluence.proofs.Independent.{bar_after, same_moment, turned_round}
+use Rattle.cf_semantics.specs.Paced.{IsPaced}
+use Rattle.cf_semantics.specs.Refines.{gained}
+use Rattle.cf_confluence.proofs.Paced.{paced_bounded}
 use Rattle.cf_confluence.proofs.Rested.{after_gained, drained_is, rested}
 use Rattle.cf_confluence.proofs.Sites.{local}
 use Rattle.cf_confluence.proofs.Tidy.{IsTidy, tidy_opened, tidy_run}
@@ -73,6 +78,26 @@ drained_apart plan x m mv moves acc wide reached drained allowed going rests =
     let suits = accepted_suits plan acc in
     let first = first_move plan x m mv suits allowed.0 (reached_holds plan x m acc wide reached) drained in
     all_retired plan x (run plan (next plan m mv) moves) (suc m.state.retired) (run_keeps plan x (next plan m mv) moves (suc m.state.retired) suits allowed.1 first) going rests
+
+-- under the hold rule a run from the beginning has at most 4 N K (r + 1) moves, where r instructions have retired
+pub paced_run_bounded : (plan : Plan) (x : Machine) (moves : List Move) → IsAccepted plan → length x.hart.regs ≡ 32 → IsPaced plan 0 (start plan x) moves → length moves ≤ 4 * plan.stages * moves_per_issue plan * (gained x (run plan (start plan x) moves).state + 1)
+paced_run_bounded plan x moves acc wide allowed = paced_bounded plan x moves (accepted_suits plan acc) wide allowed
+
+reached_shape : (plan : Plan) (x : Machine) (m : Moment) → IsAccepted plan → length x.hart.regs ≡ 32 → IsReached plan x m → m.state.ending ≡ None → HasShape plan m.state
+reached_shape plan x m acc wide reached going =
+    let h = reached_holds plan x m acc wide reached in
+    let s : Sound plan m.state m.rest m.output h.machine = subst (HoldsAt plan m.state m.rest m.output h.machine) going h.stage in
+    record { cells = s.size; sidings = s.moored.berths }
+
+-- where the candidates are held, an Issue is one of them only if no other move is allowed, as the hold rule asks
+pub held_stuck : (plan : Plan) (x : Machine) (m : Moment) (k : ℕ) (mv : Move) → IsAccepted plan → length x.hart.regs ≡ 32 → IsReached plan x m → m.state.ending ≡ None → slice_get (held_back (candidates plan m.state)) k ≡ Some mv → is_issue mv ≡ true → IsStuck plan m.state
+held_stuck plan x m k mv acc wide reached going there issue = candidates_held plan m.state k mv (reached_shape plan x m acc wide reached going) there issue
+
+-- while the program goes on there is a candidate, held or not
+pub some_pick : (plan : Plan) (x : Machine) (m : Moment) → IsAccepted plan → length x.hart.regs ≡ 32 → IsReached plan x m → m.state.ending ≡ None → (1 ≤ length (candidates plan m.state)) × (1 ≤ length (held_back (candidates plan m.state)))
+some_pick plan x m acc wide reached going =
+    let p = candidates_there plan m.state (reached_shape plan x m acc wide reached going) (λ stuck. (stuck_rests plan x m acc wide reached going stuck).issue) in
+    (has_some (candidates plan m.state) p.0.0 p.0.1, has_some (held_back (candidates plan m.state)) p.1.0 p.1.1)
 
 -- in a drained state that has not ended, each value that is kept at the bottom is its register's
 pub kept_is_true : (plan : Plan) (x : Machine) (m : Moment) → IsAccepted plan → length x.hart.regs ≡ 32 → IsReached plan x m → m.state.ending ≡ None → is_drained m.state ≡ true → (r v : ℕ) → cached m.state.cache r ≡ Some v → v ≡ slice_index m.state.regs r

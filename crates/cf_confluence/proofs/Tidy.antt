@@ -177,7 +177,7 @@ serve_stays l m = (grind arith, grind arith)
 tidy_moved : (l : Plan) (s : State) (mv : Move) → bar l s mv ≡ None → IsTidy l s → IsTidy l (moved l s mv)
 tidy_moved l s mv b h = record { neat = move_neat l s mv b h.neat; sidings = move_sidings l s mv ∙ h.sidings; failed = move_failed l s mv ∙ h.failed }
 
-tidy_next : (l : Plan) (m : Moment) (mv : Move) → bar l m.state mv ≡ None → IsTidy l m.state → IsTidy l (next l m mv).state
+pub tidy_next : (l : Plan) (m : Moment) (mv : Move) → bar l m.state mv ≡ None → IsTidy l m.state → IsTidy l (next l m mv).state
 unfolding next
 tidy_next l m Serve b h = record { neat = serve_neat l m h.neat; sidings = ap length (serve_stays l m).0 ∙ h.sidings; failed = (serve_stays l m).1 ∙ h.failed }
 tidy_next l m (Issue g) b h = tidy_moved l m.state (Issue g) b h

@@ -27,3 +27,4 @@ pub mod Policies
 pub mod Places
 pub mod Soundness
 pub mod SoundAfter
+pub mod Paced
