@@ -1,5 +1,5 @@
 -- Sets as bits of a word.
-use Rattle.std.proofs.Common.{◌≡◌, ◌≢◌, ◌≤◌, ◌⊎◌, inl, inr, ap, ℕ, ℤ, pos, suc, zero, ◌+◌, ◌-◌, ◌*◌, ◌/◌, ◌%◌, ◌^◌, ◌<◌, List, [], ◌∷◌, length, take, Bool, true, false, cond, refl, arith, ◌∙◌, sym}
+use Rattle.std.proofs.Common.{◌++◌, append_assoc, append-nil, get_or, drop, drop-cons, add-one, ◌≡◌, ◌≢◌, ◌≤◌, ◌⊎◌, inl, inr, ap, ℕ, ℤ, pos, suc, zero, ◌+◌, ◌-◌, ◌*◌, ◌/◌, ◌%◌, ◌^◌, ◌<◌, List, [], ◌∷◌, length, take, Bool, true, false, cond, refl, arith, ◌∙◌, sym}
 use Rattle.std.specs.Prelude.{filter, find, Some, nat_eq, nat_lt, nat_le, ◌||◌, ◌&&◌}
 use Rattle.std.specs.Int.RustNames.{bit_or}
 use Rattle.std.specs.List.{range_with_len, list_any}
@@ -8,7 +8,7 @@ use Rattle.std.proofs.lemmas.Nat.{one_shl, or_lt}
 use Rattle.std.proofs.Math.Pow.{pow-lt}
 use Rattle.std.proofs.Math.Nat.{div-eq_of_lt, pow-le-pow_right}
 use Rattle.std.proofs.Math.Bool.{and-true, and-false}
-use Rattle.std.proofs.lemmas.List.{take_all}
+use Rattle.std.proofs.lemmas.List.{take_all, drop_all}
 use Rattle.rv_inst.specs.declared.classes.Class.TheVariants.{Add, Logic, Shift, Compare, Branch, Jump, Memory, Serial, Free, Mul, Div}
 use Rattle.std.specs.List.{AllByRecursion}
 use Rattle.std.proofs.lemmas.Map.Views.{any-filter_same}
@@ -193,3 +193,30 @@ some_stage w small = some_case w (nat_eq (length (stages_of_word w)) 0) (nat_eq 
 pub no_classes : classes_of_word 0 ≡ []
 unfolding members has_bit
 no_classes = refl
+
+-- the members of a list from an index on
+pub members_next : {X : Type 0} (bit : X → ℕ) (w : ℕ) (xs : List X) (i : ℕ) (d : X) → i < length xs → members bit (drop i xs) w ≡ cond (has_bit w (bit (get_or xs i d))) (get_or xs i d ∷ members bit (drop (i + 1) xs) w) (members bit (drop (i + 1) xs) w)
+unfolding members
+members_next bit w xs i d within = rw (drop-cons xs i d, add-one) refl
+
+-- a list that may begin with one element more
+split : {X : Type 0} (has : Bool) (x : X) (xs : List X) → cond has (x ∷ xs) xs ≡ cond has (x ∷ []) [] ++ xs
+split true x xs = refl
+split false x xs = refl
+
+-- a list of stages with the next one
+pub stage_listed : (w s : ℕ) (list before all : List ℕ) → 1 ≤ s → s < 33 → list ≡ before ++ cond (has_bit w (s - 1)) (s ∷ []) [] → before ++ stages_from w s ≡ all → list ++ stages_from w (s + 1) ≡ all
+stage_listed w s list before all low high e so_far = rw (e, append_assoc, ← so_far, from_next w s low high, split (has_bit w (s - 1)) s (stages_from w (s + 1))) refl
+
+-- a list of all stages
+pub stages_listed : (w s : ℕ) (list : List ℕ) → 33 ≤ s → s ≤ 33 → list ++ stages_from w s ≡ stages_from w 1 → list ≡ stages_of_word w
+stages_listed w s list low high e = let at : s ≡ 33 = omega arith in let f = rw (at, from_end w, append-nil) at e in f ∙ from_first w
+
+-- a list of classes with the next one
+pub class_listed : (w i : ℕ) (d : Class) (xs list before all : List Class) → i < length xs → list ≡ before ++ cond (has_bit w (place_of (get_or xs i d))) (get_or xs i d ∷ []) [] → before ++ members place_of (drop i xs) w ≡ all → list ++ members place_of (drop (i + 1) xs) w ≡ all
+class_listed w i d xs list before all within e so_far = rw (e, append_assoc, ← so_far, members_next place_of w xs i d within, split (has_bit w (place_of (get_or xs i d))) (get_or xs i d) (members place_of (drop (i + 1) xs) w)) refl
+
+-- a list of all classes
+pub classes_listed : (w i : ℕ) (xs list : List Class) → length xs ≤ i → list ++ members place_of (drop i xs) w ≡ members place_of xs w → list ≡ members place_of xs w
+unfolding members
+classes_listed w i xs list behind e = rw (drop_all i xs behind, append-nil) at e

@@ -1,14 +1,15 @@
 //! Sets of classes.
 
-ghost use Rattle.std.specs.Prelude.{◌≡◌, [], ◌<◌, ◌^◌, ◌||◌};
+ghost use Rattle.std.specs.Prelude.{◌≡◌, ◌∷◌, ◌++◌, if◌then◌else◌, IfOk, [], ◌<◌, ◌^◌, ◌||◌};
 ghost use Rattle.rv_inst.specs.declared.classes.Class.{Class as Kind};
 ghost use Rattle.cf_layout.specs.Layout.{same_class, place_of};
 ghost use Rattle.cf_layout.specs.Words.{has_bit};
 ghost use Rattle.cf_layout.specs.Asked.{in_class_order, names};
 
 use crate::bits::{has_bit, with_bit};
-use crate::classes::place;
+use crate::classes::{CLASSES, place};
 use rv_inst::Class;
+use std::alloc::{AllocError, Global};
 use std::marker::Model;
 
 /// A set of classes that units or sidings compute: for each the bit of its place in class order.
@@ -48,6 +49,16 @@ fn with_class(word: u32, class: Class) -> u32
     }
 }
 
+/// Adds the class, if the word has its bit.
+fn add_class(list: &mut Vec<Class>, word: u32, class: Class) -> Result<(), AllocError>
+    ensures { IfOk result (λ done. list.new.items ≡ list.old.items ++ (if has_bit word (place_of class) then class ∷ [] else [])) }
+{
+    if has_bit(word, place(class) as u32) {
+        list.push(class)?;
+    }
+    Ok(())
+}
+
 impl ClassSet {
     /// No class.
     #[tactic(auto, using(crate::proofs::Words::no_classes))]
@@ -75,5 +86,16 @@ impl ClassSet {
         ensures { result ≡ names self class }
     {
         has_bit(self.word, place(class) as u32)
+    }
+
+    /// The classes of the set, in class order.
+    pub(crate) fn list(self, alloc: Global) -> Result<Vec<Class>, AllocError>
+        ensures { IfOk result (λ list. list.items ≡ self) }
+    {
+        let mut list = Vec::new(alloc);
+        for class in &CLASSES {
+            add_class(&mut list, self.word, *class)?;
+        }
+        Ok(list)
     }
 }

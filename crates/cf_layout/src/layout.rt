@@ -1,6 +1,6 @@
 //! An accepted layout.
 
-ghost use Rattle.std.specs.Prelude.{◌≡◌, ◌<◌, ◌≤◌, true, All, IfSome, length};
+ghost use Rattle.std.specs.Prelude.{◌≡◌, ◌<◌, ◌≤◌, true, All, IfOk, IfSome, length};
 ghost use Rattle.cf_layout.specs.Asked.{is_within, IsSmall, plan_of};
 ghost use Rattle.cf_layout.specs.Layout.{stages_of, unit_at, siding_of, recovers_by, is_homed, launch_stage, recover_stage, cells_of, serves, siding_at, has_mul, last_stage};
 ghost use Rattle.cf_layout.specs.Accepted.{IsAccepted};
@@ -13,6 +13,7 @@ use crate::laid::Laid;
 use crate::laying::{lay_sidings, lay_units, no_siding};
 use crate::stage_set::StageSet;
 use rv_inst::Class;
+use std::alloc::{AllocError, Global};
 use std::marker::Model;
 
 /// An accepted layout.
@@ -87,6 +88,13 @@ impl Layout {
         self.stages_of(class).has(stage)
     }
 
+    /// The stages with a unit for the class, ascending.
+    pub fn unit_stages(&self, alloc: Global, class: Class) -> Result<Vec<u32>, AllocError>
+        ensures { IfOk result (λ list. list.items ≡ stages_of self.now class) }
+    {
+        self.stages_of(class).list(alloc)
+    }
+
     /// How many sidings there are: at most 8.
     pub fn siding_count(&self) -> u32
         ensures { result ≡ length self.now.sidings }
@@ -138,6 +146,14 @@ impl Layout {
         ensures { result ≡ serves (siding_at self.now siding) class }
     {
         self.siding(siding).classes.has(class)
+    }
+
+    /// The classes that go through the siding of that number, in class order.
+    pub fn siding_classes(&self, alloc: Global, siding: u32) -> Result<Vec<Class>, AllocError>
+        requires { siding < length self.now.sidings }
+        ensures { IfOk result (λ list. list.items ≡ (siding_at self.now siding).classes) }
+    {
+        self.siding(siding).classes.list(alloc)
     }
 
     /// The stage from which the siding of that number launches.

@@ -1,12 +1,13 @@
 //! Sets of stages.
 
-ghost use Rattle.std.specs.Prelude.{◌≡◌, [], length, ◌<◌, ◌+◌, ℕ, pos, ◌||◌, find, nat_eq, nat_lt};
+ghost use Rattle.std.specs.Prelude.{◌≡◌, ◌≤◌, ◌-◌, ◌∷◌, ◌++◌, if◌then◌else◌, IfOk, [], length, ◌<◌, ◌+◌, ℕ, pos, ◌||◌, find, nat_eq, nat_lt};
 ghost use Rattle.cf_layout.specs.Words.{has_bit};
 ghost use Rattle.std.specs.List.{list_any};
 ghost use Rattle.cf_layout.specs.Layout.{last_of};
 ghost use Rattle.cf_layout.specs.Asked.{ascending, is_number};
 
 use crate::bits::{has_bit, with_bit};
+use std::alloc::{AllocError, Global};
 use std::marker::Model;
 
 /// A set of stages: bit i - 1 for stage i.
@@ -41,6 +42,18 @@ fn with_stage(word: u32, stage: i64) -> u32
     } else {
         word
     }
+}
+
+/// Adds the stage, if the word has its bit.
+fn add_stage(list: &mut Vec<u32>, word: u32, stage: u32) -> Result<(), AllocError>
+    requires low { 1 ≤ stage }
+    requires high { stage < 33 }
+    ensures { IfOk result (λ done. list.new.items ≡ list.old.items ++ (if has_bit word (stage - 1) then stage ∷ [] else [])) }
+{
+    if has_bit(word, stage - 1) {
+        list.push(stage)?;
+    }
+    Ok(())
 }
 
 impl StageSet {
@@ -108,5 +121,16 @@ impl StageSet {
             }
         }
         last
+    }
+
+    /// The stages of the set, ascending.
+    pub(crate) fn list(self, alloc: Global) -> Result<Vec<u32>, AllocError>
+        ensures { IfOk result (λ list. list.items ≡ self) }
+    {
+        let mut list = Vec::new(alloc);
+        for stage in 1..33 {
+            add_stage(&mut list, self.word, stage)?;
+        }
+        Ok(list)
     }
 }

@@ -1,0 +1,74 @@
+-- What a document asks for names computed classes alone.
+use Rattle.std.proofs.Common.{◌≡◌, ℕ, ℤ, ◌<◌, List, [], ◌∷◌, ◌++◌, All, Bool, true, false, cond, Option, Some, None, codes, length, map, refl, arith}
+use Rattle.std.specs.Prelude.{unwrap_or, ◌&&◌}
+use Rattle.std.proofs.lemmas.List.Elements.{All-cons, All-nil, All-from_recursion}
+use Rattle.toml.specs.Data.{Data, Items, no_items, item, Members, get_member, as_table}
+use Rattle.rv_inst.specs.declared.classes.Class.{Class}
+use Rattle.rv_inst.specs.declared.classes.Class.TheVariants.{Add, Logic, Shift, Compare, Branch, Jump, Memory, Mul, Div}
+use Rattle.cf_layout.specs.declared.parts.Siding.{Siding}
+use Rattle.cf_layout.specs.declared.parts.Parts.{Parts}
+use Rattle.cf_layout.specs.Layout.{place_of, computed_classes}
+use Rattle.cf_layout.specs.Acceptable.{IsComputed, AreComputed}
+use Rattle.layout_file.specs.Names.{class_name, same_text, class_of}
+use Rattle.layout_file.specs.Reading.{classes_of, items_at, members_at, unit_in, units_among, siding_in, sidings_of, sidings_in, parts_in, asked_by, is_second, text_in, integers_of, items_in}
+
+-- a class, or what is behind it, is computed where both are
+either : (b : Bool) (c : Class) (rest : Option Class) → IsComputed c → IsComputed (unwrap_or rest Add) → IsComputed (unwrap_or (cond b (Some c) rest) Add)
+either true c rest here behind = here
+either false c rest here behind = behind
+
+-- each word names a computed class
+word_computed : (second : Bool) (word : List ℕ) → IsComputed (unwrap_or (class_of second word) Add)
+unfolding class_of
+word_computed second word =
+    either (same_text word (codes "add")) Add _ (omega arith)
+    (either (same_text word (codes "logic")) Logic _ (omega arith)
+    (either (same_text word (codes "shift")) Shift _ (omega arith)
+    (either (same_text word (codes "compare")) Compare _ (omega arith)
+    (either (same_text word (codes "branch")) Branch _ (omega arith)
+    (either (same_text word (codes "jump")) Jump _ (omega arith)
+    (either (same_text word (codes "memory")) Memory _ (omega arith)
+    (either (second && same_text word (codes "mul")) Mul _ (omega arith)
+    (either (second && same_text word (codes "div")) Div None (omega arith) (omega arith)))))))))
+
+-- so does each text of an array
+classes_computed : (second : Bool) (ds : Items) → All IsComputed (classes_of second ds)
+classes_computed second no_items = All-nil IsComputed
+classes_computed second (item d ds) = All-cons IsComputed (unwrap_or (class_of second (text_in d)) Add) (classes_of second ds) (word_computed second (text_in d)) (classes_computed second ds)
+
+-- the entries of computed classes
+entry_computed : (c : Class) (o : Option Data) (rest : List (Class × List ℤ)) → IsComputed c → All (λ (unit : Class × List ℤ). IsComputed unit.0) rest → All (λ (unit : Class × List ℤ). IsComputed unit.0) (unit_in c o ++ rest)
+entry_computed c None rest here all = all
+entry_computed c (Some d) rest here all = All-cons (λ (unit : Class × List ℤ). IsComputed unit.0) (c, integers_of (items_in d)) rest here all
+
+abbrev AllSmall : List Class → Type 0
+AllSmall [] = Unit {0}
+AllSmall (c ∷ cs) = IsComputed c × AllSmall cs
+
+units_computed : (cs : List Class) (ms : Members) → AllSmall cs → All (λ (unit : Class × List ℤ). IsComputed unit.0) (units_among cs ms)
+units_computed [] ms small = All-nil (λ (unit : Class × List ℤ). IsComputed unit.0)
+units_computed (c ∷ cs) ms small = entry_computed c (get_member (class_name c) ms) (units_among cs ms) small.0 (units_computed cs ms small.1)
+
+-- the sidings
+abbrev HasComputed : Siding → Type 0
+HasComputed siding = All IsComputed siding.classes
+
+siding_computed : (second : Bool) (ms : Members) → HasComputed (siding_in second ms)
+unfolding siding_in
+siding_computed second ms = classes_computed second (items_at (codes "classes") ms)
+
+sidings_step : (second : Bool) (o : Option Members) (rest : List Siding) → All HasComputed rest → All HasComputed (sidings_of second o ++ rest)
+sidings_step second None rest all = all
+sidings_step second (Some ms) rest all = All-cons HasComputed (siding_in second ms) rest (siding_computed second ms) all
+
+sidings_computed : (second : Bool) (ds : Items) → All HasComputed (sidings_in second ds)
+sidings_computed second no_items = All-nil HasComputed
+sidings_computed second (item d ds) = sidings_step second (as_table d) (sidings_in second ds) (sidings_computed second ds)
+
+-- all parts
+pub asked_computed : (second : Bool) (ms : Members) → AreComputed (parts_in second ms)
+unfolding parts_in
+asked_computed second ms = record {
+  units = units_computed computed_classes (members_at (codes "units") ms) (omega arith, (omega arith, (omega arith, (omega arith, (omega arith, (omega arith, (omega arith, (omega arith, (omega arith, tt)))))))));
+  sidings = sidings_computed second (items_at (codes "siding") ms);
+}

@@ -1,0 +1,7 @@
+use Rattle.std.proofs.Common.{◌≡◌}
+use Rattle.layout_file.specs.Tables.{first_misfit}
+use Rattle.toml.specs.View.{members_view}
+use Rattle.layout_file.proofs.tables.misfit_key.Given as goal
+
+abbrev pub invariant-loop-key : goal.invariant-loop-key
+invariant-loop-key l = first_misfit l.form (members_view l.key-iterator) ≡ first_misfit l.form (members_view l.table.entries)

@@ -1,0 +1,33 @@
+-- What reading a layout file answers.
+use Rattle.std.specs.Prelude.{◌≡◌, ◌⊎◌, ℕ, ◌<◌, ◌≤◌, List, length, Option, Some, None, Result, Ok, Err, IsUtf8}
+use Rattle.toml.specs.Data.{Members}
+use Rattle.toml.specs.Parse.{parse_document}
+use Rattle.cf_layout.specs.Layout.{Plan}
+use Rattle.cf_layout.specs.Asked.{plan_of}
+use Rattle.layout_file.specs.declared.fault.FileErr.{FileErr}
+use Rattle.layout_file.specs.declared.fault.FileErr.TheVariants.{TooLong, NotToml, NoMemory}
+use Rattle.layout_file.specs.Reading.{asked_by, fault_of}
+
+-- the error is this fault, or memory ran out
+abbrev pub Tells : FileErr → Option FileErr → Type 0
+Tells e fault = (e ≡ NoMemory) ⊎ (fault ≡ Some e)
+
+-- the file is no TOML document: it is not UTF-8, or not in the grammar
+abbrev pub IsNotToml : List ℕ → Type 0
+IsNotToml file = IsUtf8 file → parse_document file ≡ None
+
+-- the file is a document with a fault
+abbrev pub HasFault : List ℕ → FileErr → Type 0
+HasFault file e = (ms : Members) × (parse_document file ≡ Some ms) × (fault_of ms ≡ Some e)
+
+-- why reading a file of at most 65,536 bytes fails: want of memory, no document, or a document with a fault
+abbrev pub FailsWithin : List ℕ → FileErr → Type 0
+FailsWithin file e = (e ≡ NoMemory) ⊎ (((e ≡ NotToml) × IsNotToml file) ⊎ HasFault file e)
+
+-- why reading fails
+abbrev pub Fails : List ℕ → FileErr → Type 0
+Fails file e = ((e ≡ TooLong) × (65536 < length file)) ⊎ ((length file ≤ 65536) × FailsWithin file e)
+
+-- the file is a document without a fault, and describes the layout
+abbrev pub Describes : List ℕ → Plan → Type 0
+Describes file plan = (length file ≤ 65536) × ((ms : Members) × (parse_document file ≡ Some ms) × (fault_of ms ≡ None) × (plan ≡ plan_of (asked_by ms)))

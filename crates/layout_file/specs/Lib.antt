@@ -1,0 +1,5 @@
+pub mod Names
+pub mod Tables
+pub mod Reading
+pub mod Answers
+pub mod Text

@@ -1,0 +1,18 @@
+//! Layout files: the TOML text of a layout, read and written.
+#![tactic(auto)]
+
+mod classes;
+mod fault;
+mod form;
+mod name;
+mod reading;
+mod tables;
+mod writing;
+
+pub use fault::FileErr;
+pub use name::Name;
+pub use reading::read_layout;
+pub use writing::write_layout;
+
+#[cfg(test)]
+mod tests;

@@ -1,0 +1,270 @@
+//! Reading a layout file.
+
+ghost use Rattle.std.specs.Prelude.{◌≡◌, ◌++◌, ◌≤◌, All, IfOk, IfErr, Some, None, codes, option_map, unwrap_or};
+ghost use Rattle.std.specs.Option.{option_or};
+ghost use Rattle.layout_file.specs.Names.{class_name};
+ghost use Rattle.layout_file.specs.Tables.{form_fault};
+ghost use Rattle.layout_file.specs.Reading.{integer_at, truth_at, items_in, items_at, members_at, integers_of, classes_of, first_nameless, unit_in, units_among, siding_fault, siding_in, sidings_fault, sidings_in, is_second, format_fault, tables_fault, parts_in, asked_by, fault_of};
+ghost use Rattle.layout_file.specs.Answers.{Tells, Fails, Describes};
+ghost use Rattle.layout_file.specs.declared.form.Form.TheVariants.{Units as TheUnits};
+ghost use Rattle.layout_file.specs.declared.fault.FileErr.TheVariants.{UnknownClass as NoClass};
+ghost use Rattle.cf_layout.specs.Layout.{computed_classes};
+ghost use Rattle.cf_layout.specs.Asked.{plan_of};
+ghost use Rattle.cf_layout.specs.Acceptable.{IsComputed, AreComputed};
+ghost use Rattle.cf_layout.specs.Refusal.{refusal};
+ghost use Rattle.toml.specs.Data.{get_member, no_members};
+ghost use Rattle.toml.specs.View.{view, table_view, items_view};
+
+use crate::classes::{CLASSES, class_name, class_of};
+use crate::form::Form;
+use crate::tables::{check_form, value_at};
+use crate::{FileErr, Name};
+use cf_layout::{Layout, Listed, Parts, Siding, check};
+use rv_inst::Class;
+use std::alloc::{AllocError, Global};
+use toml::{Table, Value};
+
+/// The integer at a key.
+fn integer_at(table: &Table, key: &str) -> i64
+    ensures { result ≡ integer_at key.now (table_view table.now) }
+{
+    match value_at(table, key) {
+        Some(value) => value.as_integer().unwrap_or(0),
+        None => 0,
+    }
+}
+
+/// The truth value at a key.
+fn truth_at(table: &Table, key: &str) -> bool
+    ensures { result ≡ truth_at key.now (table_view table.now) }
+{
+    match value_at(table, key) {
+        Some(value) => value.as_bool().unwrap_or(false),
+        None => false,
+    }
+}
+
+/// The elements of a value that is an array.
+fn elements_of(value: &Value) -> &[Value]
+    ensures { items_view result.now ≡ items_in (view value.now) }
+{
+    match value.as_array() {
+        Some(array) => array.as_slice(),
+        None => &[],
+    }
+}
+
+/// The elements of the array at a key.
+fn elements<'a>(table: &'a Table, key: &str) -> &'a [Value]
+    ensures { items_view result.now ≡ items_at key.now (table_view table.now) }
+{
+    match value_at(table, key) {
+        Some(value) => elements_of(value),
+        None => &[],
+    }
+}
+
+/// The table at a key.
+fn table_at<'a>(table: &'a Table, key: &str) -> Option<&'a Table>
+    ensures { unwrap_or (option_map (λ t. table_view t.now) result) no_members ≡ members_at key.now (table_view table.now) }
+{
+    match value_at(table, key) {
+        Some(value) => value.as_table(),
+        None => None,
+    }
+}
+
+/// The integers of an array.
+fn integers(alloc: Global, array: &[Value]) -> Result<Vec<i64>, AllocError>
+    ensures { IfOk result (λ list. list.items ≡ integers_of (items_view array.now)) }
+{
+    let mut list = Vec::new(alloc);
+    for value in array {
+        list.push(value.as_integer().unwrap_or(0))?;
+    }
+    Ok(list)
+}
+
+/// The classes that an array names.
+fn class_list(alloc: Global, second: bool, array: &[Value]) -> Result<Vec<Class>, FileErr>
+    ensures named { IfOk result (λ list. first_nameless second (items_view array.now) ≡ None) }
+    ensures classes { IfOk result (λ list. list.items ≡ classes_of second (items_view array.now)) }
+    ensures refused { IfErr result (λ error. Tells error (option_map NoClass (first_nameless second (items_view array.now)))) }
+{
+    let mut list = Vec::new(alloc);
+    for value in array {
+        let word = value.as_str().unwrap_or("");
+        match class_of(second, word) {
+            Some(class) => list.push(class)?,
+            None => return Err(FileErr::UnknownClass(Name::new(String::from_str(alloc, word)?))),
+        }
+    }
+    Ok(list)
+}
+
+/// The siding of a table.
+#[tactic(auto, unfolding(crate::specs::Reading::siding_fault, crate::specs::Reading::siding_in))]
+fn siding(alloc: Global, second: bool, table: &Table) -> Result<Siding, FileErr>
+    ensures right { IfOk result (λ siding. siding_fault second (table_view table.now) ≡ None) }
+    ensures siding { IfOk result (λ siding. siding ≡ siding_in second (table_view table.now)) }
+    ensures refused { IfErr result (λ error. Tells error (siding_fault second (table_view table.now))) }
+{
+    check_form(alloc, Form::Siding, table)?;
+    let classes = class_list(alloc, second, elements(table, "classes"))?;
+    Ok(Siding {
+        classes: Listed::new(classes),
+        launch: integer_at(table, "launch"),
+        recover: integer_at(table, "recover"),
+        cells: integer_at(table, "cells"),
+    })
+}
+
+/// The sidings of an array.
+fn siding_list(alloc: Global, second: bool, array: &[Value]) -> Result<Vec<Siding>, FileErr>
+    ensures right { IfOk result (λ list. sidings_fault second (items_view array.now) ≡ None) }
+    ensures sidings { IfOk result (λ list. list.items ≡ sidings_in second (items_view array.now)) }
+    ensures refused { IfErr result (λ error. Tells error (sidings_fault second (items_view array.now))) }
+{
+    let mut list = Vec::new(alloc);
+    for value in array {
+        match value.as_table() {
+            Some(table) => list.push(siding(alloc, second, table)?)?,
+            None => {}
+        }
+    }
+    Ok(list)
+}
+
+/// Adds the entry of a class, where the table has one.
+fn add_unit(
+    alloc: Global,
+    list: &mut Vec<(Class, Listed<i64>)>,
+    class: Class,
+    table: &Table,
+) -> Result<(), AllocError>
+    ensures { IfOk result (λ done. list.new.items ≡ list.old.items ++ unit_in class (get_member (class_name class) (table_view table.now))) }
+{
+    if let Some(value) = value_at(table, class_name(class)) {
+        let stages = integers(alloc, elements_of(value))?;
+        list.push((class, Listed::new(stages)))?;
+    }
+    Ok(())
+}
+
+/// The entries of a table, in the order of these classes.
+fn unit_list(
+    alloc: Global,
+    classes: &[Class],
+    table: &Table,
+) -> Result<Vec<(Class, Listed<i64>)>, AllocError>
+    ensures { IfOk result (λ list. list.items ≡ units_among classes.now (table_view table.now)) }
+{
+    let mut list = Vec::new(alloc);
+    for class in classes {
+        add_unit(alloc, &mut list, *class, table)?;
+    }
+    Ok(list)
+}
+
+/// The units of a document.
+#[tactic(auto, unfolding(crate::specs::Tables::form_fault))]
+fn checked_units(
+    alloc: Global,
+    second: bool,
+    table: &Table,
+) -> Result<Vec<(Class, Listed<i64>)>, FileErr>
+    ensures right { IfOk result (λ list. form_fault (TheUnits second) (members_at (codes "units") (table_view table.now)) ≡ None) }
+    ensures units { IfOk result (λ list. list.items ≡ units_among computed_classes (members_at (codes "units") (table_view table.now))) }
+    ensures refused { IfErr result (λ error. Tells error (form_fault (TheUnits second) (members_at (codes "units") (table_view table.now)))) }
+{
+    match table_at(table, "units") {
+        Some(units) => {
+            check_form(alloc, Form::Units(second), units)?;
+            Ok(unit_list(alloc, &CLASSES, units)?)
+        }
+        None => Ok(Vec::new(alloc)),
+    }
+}
+
+/// Whether the document is of format 2.
+#[tactic(auto, unfolding(crate::specs::Reading::is_second))]
+fn is_second(table: &Table) -> bool
+    ensures { result ≡ is_second (table_view table.now) }
+{
+    match value_at(table, "format") {
+        Some(value) => match value.as_integer() {
+            Some(format) => format == 2,
+            None => false,
+        },
+        None => false,
+    }
+}
+
+/// Tests that the format is 1 or 2.
+fn check_format(second: bool, format: i64) -> Result<(), FileErr>
+    ensures ok { IfOk result (λ done. format_fault second format ≡ None) }
+    ensures refused { IfErr result (λ error. format_fault second format ≡ Some error) }
+{
+    if second || format == 1 {
+        Ok(())
+    } else {
+        Err(FileErr::UnknownFormat(format))
+    }
+}
+
+/// What the tables of a document ask for, in a format.
+#[tactic(auto, unfolding(crate::specs::Reading::tables_fault, crate::specs::Reading::parts_in))]
+fn read_tables(alloc: Global, second: bool, table: &Table) -> Result<Parts, FileErr>
+    ensures right { IfOk result (λ parts. tables_fault second (table_view table.now) ≡ None) }
+    ensures parts { IfOk result (λ parts. parts ≡ parts_in second (table_view table.now)) }
+    ensures refused { IfErr result (λ error. Tells error (tables_fault second (table_view table.now))) }
+{
+    check_form(alloc, Form::Top(second), table)?;
+    check_format(second, integer_at(table, "format"))?;
+    let units = checked_units(alloc, second, table)?;
+    let sidings = siding_list(alloc, second, elements(table, "siding"))?;
+    Ok(Parts {
+        stages: integer_at(table, "stages"),
+        lane: integer_at(table, "lane"),
+        cache: second && truth_at(table, "cache"),
+        units: Listed::new(units),
+        sidings: Listed::new(sidings),
+    })
+}
+
+/// The layout that a document describes.
+#[tactic(auto, unfolding(crate::specs::Reading::fault_of))]
+fn layout_in(alloc: Global, table: &Table) -> Result<Layout, FileErr>
+    ensures right { IfOk result (λ layout. fault_of (table_view table.now) ≡ None) }
+    ensures layout { IfOk result (λ layout. layout ≡ plan_of (asked_by (table_view table.now))) }
+    ensures refused { IfErr result (λ error. Tells error (fault_of (table_view table.now))) }
+{
+    let parts = read_tables(alloc, is_second(table), table)?;
+    match check(&parts) {
+        Ok(layout) => Ok(layout),
+        Err(error) => Err(FileErr::Refused(error)),
+    }
+}
+
+/// Reads a layout file of format 1 or 2: a TOML document with the keys `format`, `stages`, `lane`, the table `units`,
+/// and the array of tables `siding`; format 2 has the key `cache` besides, and the classes `mul` and `div`.
+///
+/// The tables are tested in this order: the document, `units`, each siding. In each a key that is unknown is looked for
+/// first, then one that is missing, then one whose value is of a wrong type, each the first in byte order; then the
+/// format, or the first word of a siding that names no class. What the tables ask for is tested last.
+pub fn read_layout(alloc: Global, file: &[u8]) -> Result<Layout, FileErr>
+    ensures ok { IfOk result (λ layout. Describes file.now layout) }
+    ensures refused { IfErr result (λ error. Fails file.now error) }
+{
+    if file.len() > 65_536 {
+        return Err(FileErr::TooLong);
+    }
+    match toml::table_from_slice(alloc, file) {
+        Ok(table) => layout_in(alloc, &table),
+        Err(error) => Err(if error.is_memory() {
+            FileErr::NoMemory
+        } else {
+            FileErr::NotToml
+        }),
+    }
+}

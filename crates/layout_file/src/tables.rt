@@ -1,0 +1,191 @@
+//! The keys and the types of one table.
+
+ghost use Rattle.std.specs.Prelude.{◌≡◌, ◌∷◌, [], IfOk, IfErr, Some, None, codes, option_map, find, not, string_bytes};
+ghost use Rattle.std.specs.Option.{option_copied};
+ghost use Rattle.std.specs.BTreeMap.{keys};
+ghost use Rattle.std.specs.List.{list_all};
+ghost use Rattle.layout_file.specs.Tables.{knows, needed, fits, has_shape, is_list_of, all_have, first_unknown, first_absent, first_misfit, form_fault};
+ghost use Rattle.layout_file.specs.Answers.{Tells};
+ghost use Rattle.toml.specs.Data.{get_member};
+ghost use Rattle.toml.specs.View.{view, table_view, items_view};
+
+use crate::classes::class_of;
+use crate::form::{Form, Shape};
+use crate::{FileErr, Name};
+use std::alloc::Global;
+use toml::{Table, Value};
+
+/// Whether the table may have the key.
+#[tactic(auto, unfolding(crate::specs::Tables::knows))]
+fn is_known(form: Form, key: &str) -> bool
+    ensures { result ≡ knows form key.now }
+{
+    match form {
+        Form::Top(second) => key == "format"
+            || key == "stages"
+            || key == "lane"
+            || key == "units"
+            || key == "siding"
+            || (second && key == "cache"),
+        Form::Units(second) => class_of(second, key).is_some(),
+        Form::Siding => key == "classes" || key == "launch" || key == "recover" || key == "cells",
+    }
+}
+
+/// Whether the value is of the type.
+fn has_shape(shape: Shape, value: &Value) -> bool
+    ensures { result ≡ has_shape shape (view value.now) }
+{
+    match shape {
+        Shape::Integer => value.is_integer(),
+        Shape::Text => value.is_str(),
+        Shape::Truth => value.is_bool(),
+        Shape::Table => value.is_table(),
+    }
+}
+
+fn each_has_shape(shape: Shape, array: &[Value]) -> bool
+    ensures { result ≡ list_all (λ v. has_shape shape (view v)) array.now }
+{
+    array.iter().all(|value| has_shape(shape, value))
+}
+
+/// Whether each element is of the type.
+#[tactic(auto, using(crate::proofs::Views::all_have_view))]
+fn all_have(shape: Shape, array: &[Value]) -> bool
+    ensures { result ≡ all_have shape (items_view array.now) }
+{
+    each_has_shape(shape, array)
+}
+
+/// Whether the value is an array of at most 1,000 elements of the type.
+#[tactic(auto, using(crate::proofs::Views::item_count_view))]
+fn is_list_of(shape: Shape, value: &Value) -> bool
+    ensures { result ≡ is_list_of shape (view value.now) }
+{
+    match value.as_array() {
+        Some(array) => array.len() <= 1000 && all_have(shape, array),
+        None => false,
+    }
+}
+
+/// Whether the value at the key is of its type.
+#[tactic(auto, unfolding(crate::specs::Tables::fits))]
+fn is_fit(form: Form, key: &str, value: &Value) -> bool
+    ensures { result ≡ fits form key.now (view value.now) }
+{
+    match form {
+        Form::Top(_) => {
+            if key == "units" {
+                has_shape(Shape::Table, value)
+            } else if key == "siding" {
+                is_list_of(Shape::Table, value)
+            } else if key == "cache" {
+                has_shape(Shape::Truth, value)
+            } else {
+                has_shape(Shape::Integer, value)
+            }
+        }
+        Form::Units(_) => is_list_of(Shape::Integer, value),
+        Form::Siding => {
+            if key == "classes" {
+                is_list_of(Shape::Text, value)
+            } else {
+                has_shape(Shape::Integer, value)
+            }
+        }
+    }
+}
+
+/// The value at a key.
+pub(crate) fn value_at<'a>(table: &'a Table, key: &str) -> Option<&'a Value>
+    ensures { option_map (λ v. view v.now) result ≡ get_member key.now (table_view table.now) }
+{
+    table.get(key)
+}
+
+fn unknown_name(form: Form, table: &Table) -> Option<&String>
+    ensures { option_copied result ≡ find (λ k. not (knows form (string_bytes k))) (keys table.now) }
+{
+    table.keys().find(|key| !is_known(form, key.as_str()))
+}
+
+/// The first key in byte order that the table may not have.
+fn unknown_key(form: Form, table: &Table) -> Option<&String>
+    ensures { option_map (λ k. string_bytes k.now) result ≡ first_unknown form (table_view table.now) }
+{
+    unknown_name(form, table)
+}
+
+fn first_missing(
+    table: &Table,
+    a: &'static str,
+    b: &'static str,
+    c: &'static str,
+    d: &'static str,
+) -> Option<&'static str>
+    ensures { option_map (λ k. k.now) result ≡ first_absent (a.now ∷ b.now ∷ c.now ∷ d.now ∷ []) (table_view table.now) }
+{
+    if value_at(table, a).is_none() {
+        Some(a)
+    } else if value_at(table, b).is_none() {
+        Some(b)
+    } else if value_at(table, c).is_none() {
+        Some(c)
+    } else if value_at(table, d).is_none() {
+        Some(d)
+    } else {
+        None
+    }
+}
+
+/// The first key in byte order that the table lacks.
+fn missing_key(form: Form, table: &Table) -> Option<&'static str>
+    ensures { option_map (λ k. k.now) result ≡ first_absent (needed form) (table_view table.now) }
+{
+    match form {
+        Form::Top(second) => {
+            if second && value_at(table, "cache").is_none() {
+                Some("cache")
+            } else {
+                first_missing(table, "format", "lane", "stages", "units")
+            }
+        }
+        Form::Units(_) => None,
+        Form::Siding => first_missing(table, "cells", "classes", "launch", "recover"),
+    }
+}
+
+/// The first key in byte order whose value has a wrong type.
+fn misfit_key(form: Form, table: &Table) -> Option<&String>
+    ensures { option_map (λ k. string_bytes k.now) result ≡ first_misfit form (table_view table.now) }
+{
+    for (key, value) in table {
+        if !is_fit(form, key.as_str(), value) {
+            return Some(key);
+        }
+    }
+    None
+}
+
+/// Tests the keys and the types of one table.
+#[tactic(auto, unfolding(crate::specs::Tables::form_fault))]
+pub(crate) fn check_form(alloc: Global, form: Form, table: &Table) -> Result<(), FileErr>
+    ensures ok { IfOk result (λ done. form_fault form (table_view table.now) ≡ None) }
+    ensures refused { IfErr result (λ error. Tells error (form_fault form (table_view table.now))) }
+{
+    if let Some(key) = unknown_key(form, table) {
+        let name = Name::new(key.clone()?);
+        return match form {
+            Form::Units(_) => Err(FileErr::UnknownClass(name)),
+            Form::Top(_) | Form::Siding => Err(FileErr::UnknownKey(name)),
+        };
+    }
+    if let Some(key) = missing_key(form, table) {
+        return Err(FileErr::MissingKey(Name::new(String::from_str(alloc, key)?)));
+    }
+    if let Some(key) = misfit_key(form, table) {
+        return Err(FileErr::WrongType(Name::new(key.clone()?)));
+    }
+    Ok(())
+}

@@ -1,0 +1,221 @@
+//! Writing a layout file.
+#![tactic(auto, using(std::proofs::lemmas::List::append_assoc), unfolding(crate::specs::Text::pair_line))]
+
+ghost use Rattle.std.specs.Prelude.{◌≡◌, ◌<◌, ◌≤◌, ◌++◌, IfOk, codes, decimal, drop, length, map, string_bytes};
+ghost use Rattle.layout_file.specs.Names.{class_name};
+ghost use Rattle.layout_file.specs.Text.{pair_line, rest_text, array_text, quoted_name, unit_line, unit_lines, numbers_text, siding_text, siding_lines, needs_second, truth_text, cache_line, format_text, head_text, body_text, text_of};
+ghost use Rattle.cf_layout.specs.Layout.{computed_classes, siding_at, stages_of};
+
+use crate::classes::{CLASSES, class_name};
+use cf_layout::Layout;
+use itoa::Buffer;
+use rv_inst::Class;
+use std::alloc::{AllocError, Global};
+
+fn push_number(text: &mut String, number: u32) -> Result<(), AllocError>
+    ensures { IfOk result (λ done. string_bytes text.new ≡ string_bytes text.old ++ decimal number) }
+{
+    let mut buffer = Buffer::new();
+    text.push_str(buffer.format(number))
+}
+
+fn push_pair(text: &mut String, key: &str, number: u32) -> Result<(), AllocError>
+    ensures { IfOk result (λ done. string_bytes text.new ≡ string_bytes text.old ++ pair_line key.now (decimal number)) }
+{
+    text.push_str(key)?;
+    text.push_str(" = ")?;
+    push_number(text, number)?;
+    text.push_str("\n")
+}
+
+fn push_rest(text: &mut String, numbers: &[u32]) -> Result<(), AllocError>
+    ensures { IfOk result (λ done. string_bytes text.new ≡ string_bytes text.old ++ rest_text (map decimal numbers.now)) }
+{
+    for number in numbers {
+        text.push_str(", ")?;
+        push_number(text, *number)?;
+    }
+    text.push_str("]")
+}
+
+fn push_numbers(text: &mut String, numbers: &[u32]) -> Result<(), AllocError>
+    ensures { IfOk result (λ done. string_bytes text.new ≡ string_bytes text.old ++ array_text (map decimal numbers.now)) }
+{
+    match numbers {
+        [] => text.push_str("[]"),
+        [first, rest @ ..] => {
+            text.push_str("[")?;
+            push_number(text, *first)?;
+            push_rest(text, rest)
+        }
+    }
+}
+
+fn push_name(text: &mut String, class: Class) -> Result<(), AllocError>
+    ensures { IfOk result (λ done. string_bytes text.new ≡ string_bytes text.old ++ quoted_name class) }
+{
+    text.push_str("\"")?;
+    text.push_str(class_name(class))?;
+    text.push_str("\"")
+}
+
+fn push_more_names(text: &mut String, classes: &[Class]) -> Result<(), AllocError>
+    ensures { IfOk result (λ done. string_bytes text.new ≡ string_bytes text.old ++ rest_text (map quoted_name classes.now)) }
+{
+    for class in classes {
+        text.push_str(", ")?;
+        push_name(text, *class)?;
+    }
+    text.push_str("]")
+}
+
+fn push_names(text: &mut String, classes: &[Class]) -> Result<(), AllocError>
+    ensures { IfOk result (λ done. string_bytes text.new ≡ string_bytes text.old ++ array_text (map quoted_name classes.now)) }
+{
+    match classes {
+        [] => text.push_str("[]"),
+        [first, rest @ ..] => {
+            text.push_str("[")?;
+            push_name(text, *first)?;
+            push_more_names(text, rest)
+        }
+    }
+}
+
+fn push_stages(text: &mut String, class: Class, stages: &[u32]) -> Result<(), AllocError>
+    ensures { IfOk result (λ done. string_bytes text.new ≡ string_bytes text.old ++ pair_line (class_name class) (array_text (map decimal stages.now))) }
+{
+    text.push_str(class_name(class))?;
+    text.push_str(" = ")?;
+    push_numbers(text, stages)?;
+    text.push_str("\n")
+}
+
+/// The line of a unit, unless it has no stage.
+#[tactic(auto, using(crate::proofs::Lines::some_line))]
+fn push_unit(text: &mut String, class: Class, stages: &[u32]) -> Result<(), AllocError>
+    ensures { IfOk result (λ done. string_bytes text.new ≡ string_bytes text.old ++ unit_line class stages.now) }
+{
+    match stages {
+        [] => Ok(()),
+        [_, ..] => push_stages(text, class, stages),
+    }
+}
+
+fn push_units(
+    text: &mut String,
+    alloc: Global,
+    layout: &Layout,
+    classes: &[Class],
+) -> Result<(), AllocError>
+    ensures { IfOk result (λ done. string_bytes text.new ≡ string_bytes text.old ++ unit_lines layout.now classes.now) }
+{
+    for class in classes {
+        let stages = layout.unit_stages(alloc, *class)?;
+        push_unit(text, *class, &stages)?;
+    }
+    Ok(())
+}
+
+fn push_classes(text: &mut String, classes: &[Class]) -> Result<(), AllocError>
+    ensures { IfOk result (λ done. string_bytes text.new ≡ string_bytes text.old ++ pair_line (codes "classes") (array_text (map quoted_name classes.now))) }
+{
+    text.push_str("classes = ")?;
+    push_names(text, classes)?;
+    text.push_str("\n")
+}
+
+#[tactic(auto, using(std::proofs::lemmas::List::append_assoc), unfolding(crate::specs::Text::numbers_text, cf_layout::specs::Layout::launch_stage, cf_layout::specs::Layout::recover_stage, cf_layout::specs::Layout::cells_of))]
+fn push_siding_numbers(text: &mut String, layout: &Layout, siding: u32) -> Result<(), AllocError>
+    requires { siding < length layout.now.sidings }
+    ensures { IfOk result (λ done. string_bytes text.new ≡ string_bytes text.old ++ numbers_text (siding_at layout.now siding)) }
+{
+    push_pair(text, "launch", layout.launch_stage(siding))?;
+    push_pair(text, "recover", layout.recover_stage(siding))?;
+    push_pair(text, "cells", layout.cells_of(siding))?;
+    Ok(())
+}
+
+#[tactic(auto, using(std::proofs::lemmas::List::append_assoc), unfolding(crate::specs::Text::siding_text))]
+fn push_siding(
+    text: &mut String,
+    alloc: Global,
+    layout: &Layout,
+    siding: u32,
+) -> Result<(), AllocError>
+    requires { siding < length layout.now.sidings }
+    ensures { IfOk result (λ done. string_bytes text.new ≡ string_bytes text.old ++ siding_text (siding_at layout.now siding)) }
+{
+    let classes = layout.siding_classes(alloc, siding)?;
+    text.push_str("\n[[siding]]\n")?;
+    push_classes(text, &classes)?;
+    push_siding_numbers(text, layout, siding)?;
+    Ok(())
+}
+
+#[tactic(auto, using(std::proofs::lemmas::List::append_assoc, crate::proofs::Lines::next_siding, crate::proofs::Lines::no_siding_left))]
+fn push_sidings(text: &mut String, alloc: Global, layout: &Layout) -> Result<(), AllocError>
+    ensures { IfOk result (λ done. string_bytes text.new ≡ string_bytes text.old ++ siding_lines layout.now.sidings) }
+{
+    for siding in 0..layout.siding_count() {
+        push_siding(text, alloc, layout, siding)?;
+    }
+    Ok(())
+}
+
+fn push_format(text: &mut String, second: bool) -> Result<(), AllocError>
+    ensures { IfOk result (λ done. string_bytes text.new ≡ string_bytes text.old ++ pair_line (codes "format") (format_text second)) }
+{
+    if second {
+        text.push_str("format = 2\n")
+    } else {
+        text.push_str("format = 1\n")
+    }
+}
+
+fn push_cache(text: &mut String, second: bool, cache: bool) -> Result<(), AllocError>
+    ensures { IfOk result (λ done. string_bytes text.new ≡ string_bytes text.old ++ cache_line second cache) }
+{
+    if !second {
+        return Ok(());
+    }
+    if cache {
+        text.push_str("cache = true\n")
+    } else {
+        text.push_str("cache = false\n")
+    }
+}
+
+#[tactic(auto, using(std::proofs::lemmas::List::append_assoc), unfolding(crate::specs::Text::head_text))]
+fn push_head(text: &mut String, layout: &Layout, second: bool) -> Result<(), AllocError>
+    ensures { IfOk result (λ done. string_bytes text.new ≡ string_bytes text.old ++ head_text second layout.now) }
+{
+    push_format(text, second)?;
+    push_pair(text, "stages", layout.stages())?;
+    push_pair(text, "lane", layout.lane())?;
+    push_cache(text, second, layout.cache())?;
+    Ok(())
+}
+
+#[tactic(auto, using(std::proofs::lemmas::List::append_assoc), unfolding(crate::specs::Text::body_text))]
+fn push_body(text: &mut String, alloc: Global, layout: &Layout) -> Result<(), AllocError>
+    ensures { IfOk result (λ done. string_bytes text.new ≡ string_bytes text.old ++ body_text layout.now) }
+{
+    text.push_str("\n[units]\n")?;
+    push_units(text, alloc, layout, &CLASSES)?;
+    push_sidings(text, alloc, layout)?;
+    Ok(())
+}
+
+/// Writes the one text of a layout: in format 1, or in format 2 where the layout has the cache or multiplies and
+/// divides.
+#[tactic(auto, using(std::proofs::lemmas::List::append_assoc), unfolding(crate::specs::Text::text_of))]
+pub fn write_layout(alloc: Global, layout: &Layout) -> Result<Vec<u8>, AllocError>
+    ensures { IfOk result (λ file. file.items ≡ text_of layout.now) }
+{
+    let second = layout.cache() || layout.has_mul();
+    let mut text = String::new(alloc);
+    push_head(&mut text, layout, second)?;
+    push_body(&mut text, alloc, layout)?;
+    Ok(text.into_bytes())
+}
