@@ -1,11 +1,15 @@
--- A program that was read, and what it comes to, are what the top call answers.
-use Rattle.std.proofs.Common.{◌≡◌, ℕ, ◌+◌, List, take, Option, Some, None, Ok, refl}
+-- A program that was read, and what it comes to, are what `machine` answers.
+use Rattle.std.proofs.Common.{◌≡◌, ℕ, ◌+◌, List, ◌++◌, take, Option, Some, None, Result, Ok, Err, refl}
 use Rattle.std.specs.Prelude.{option_map, Vec}
 use Rattle.std.specs.Global.{Global}
 use Rattle.cf_io.specs.Reads.{Told, Reads}
-use Rattle.cfpp_cli.specs.Words.{IsMachine}
+use Rattle.cf_io.specs.declared.failed.Failed.{Failed}
+use Rattle.cfpp_cli.specs.Options.{Chosen}
 use Rattle.cfpp_cli.specs.Outside.{Outside}
-use Rattle.cfpp_cli.specs.Top.{most_bytes, IsFront, TellSame, ComesTo, Answers}
+use Rattle.cfpp_cli.specs.Image.{most_bytes}
+use Rattle.cfpp_cli.specs.Machine.{IsFront, TellSame, ComesTo, BreaksImage, AnswersMachine, BreaksProgram}
+use Rattle.cfpp_cli.specs.Deciding.{Decides}
+use Rattle.cfpp_cli.specs.declared.answer.Answer.{Answer}
 use Rattle.cfpp_cli.specs.declared.status.Status.{Status}
 use Rattle.cfpp_cli.specs.declared.status.Status.TheVariants as status
 use Rattle.cfpp_cli.specs.declared.status.Which.TheVariants as which
@@ -31,37 +35,50 @@ front-keeps None after name image front = tt
 front-keeps (Some told) after name image front = front.3
 
 -- what its image comes to is the answer
-pub answers-program : (words : List (List ℕ)) (before after : Outside) (answer : Status)
-    (text name image : List ℕ) → IsMachine words name →
+answers-program : (chosen : Chosen) (before after : Outside) (answer : Status)
+    (text name image : List ℕ) → IsFront before.files after.files name image →
+    ComesTo chosen image before.streams after.streams answer text →
+    AnswersMachine name chosen before after answer text
+answers-program chosen before after (status.Exit code) text name image front comes =
+    record { image = image; front = front; comes_to = comes }
+answers-program chosen before after (status.Trap cause pc detail) text name image front comes =
+    record { image = image; front = front; comes_to = comes }
+answers-program chosen before after (status.Limit limit) text name image front comes =
+    record { image = image; front = front; comes_to = comes }
+answers-program chosen before after (status.BadProgram error) text name image front comes =
+    record { image = image; front = front; comes_to = comes }
+answers-program chosen before after status.NoMemory text name image front comes = record {
+  files = front-keeps before.files after.files name image front;
+  reports = comes.0;
+  streams = comes.1;
+}
+answers-program chosen before after (status.BadWords index) text name image front comes = comes
+answers-program chosen before after status.WriteFault text name image front comes =
+    record { image = image; front = front; comes_to = comes }
+answers-program chosen before after (status.ReadFault which.Input) text name image front comes =
+    record { image = image; front = front; comes_to = comes }
+answers-program chosen before after (status.ReadFault which.Layout) text name image front comes =
+    comes
+answers-program chosen before after (status.ReadFault which.Program) text name image front comes =
+    absurd comes
+answers-program chosen before after (status.ReadFault which.Script) text name image front comes =
+    comes
+answers-program chosen before after (status.ReadFault which.Source) text name image front comes =
+    comes
+
+-- the same of the decision
+pub decides-program : (chosen : Chosen) (before after : Outside) (name image : List ℕ)
+    (blank full : Option (List ℕ)) (result : Result Answer Failed) →
     IsFront before.files after.files name image →
-    ComesTo image before.streams after.streams answer text → Answers words before after answer text
-answers-program words before after (status.Exit code) text name image is front comes =
-    record { name = name; image = image; words_are = is; front = front; comes_to = comes }
-answers-program words before after (status.Trap cause pc detail) text name image is front comes =
-    record { name = name; image = image; words_are = is; front = front; comes_to = comes }
-answers-program words before after (status.Limit limit) text name image is front comes =
-    record { name = name; image = image; words_are = is; front = front; comes_to = comes }
-answers-program words before after (status.BadProgram error) text name image is front comes =
-    record { name = name; image = image; words_are = is; front = front; comes_to = comes }
-answers-program words before after status.NoMemory text name image is front comes =
-    record {
-      name = name;
-      words_are = is;
-      files = front-keeps before.files after.files name image front;
-      reports = comes.0;
-      streams = comes.1;
-    }
-answers-program words before after (status.BadWords index) text name image is front comes =
-    absurd comes
-answers-program words before after status.WriteFault text name image is front comes =
-    record { name = name; image = image; words_are = is; front = front; comes_to = comes }
-answers-program words before after (status.ReadFault which.Input) text name image is front comes =
-    record { name = name; image = image; words_are = is; front = front; comes_to = comes }
-answers-program words before after (status.ReadFault which.Layout) text name image is front comes =
-    absurd comes
-answers-program words before after (status.ReadFault which.Program) text name image is front comes =
-    absurd comes
-answers-program words before after (status.ReadFault which.Script) text name image is front comes =
-    absurd comes
-answers-program words before after (status.ReadFault which.Source) text name image is front comes =
-    absurd comes
+    Decides (ComesTo chosen image before.streams after.streams)
+    (BreaksImage chosen image before.streams after.streams blank full) blank full result →
+    Decides (AnswersMachine name chosen before after)
+    (BreaksProgram name chosen before after blank full) blank full result
+decides-program chosen before after name image blank full (Ok answer) front (lines, put, comes) = (
+  lines,
+  put,
+  answers-program chosen before after answer.status (lines ++ answer.closing) name
+      image front comes,
+)
+decides-program chosen before after name image blank full (Err failed) front breaks =
+    record { image = image; front = front; breaks = breaks }

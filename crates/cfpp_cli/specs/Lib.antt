@@ -1,7 +1,13 @@
-pub mod Words
-pub mod Texts
+pub mod Options
 pub mod Outside
 pub mod Image
+pub mod Opening
+pub mod Refusals
+pub mod Lines
 pub mod Finish
+pub mod Closing
+pub mod Machine
+pub mod Causes
 pub mod Top
+pub mod Deciding
 pub mod Codes

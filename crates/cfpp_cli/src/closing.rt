@@ -1,35 +1,34 @@
-#![tactic(auto, unfolding(crate::specs::Finish::closing, crate::specs::Finish::first_line))]
+//! The report that closes a run.
+#![tactic(auto, unfolding(crate::specs::Closing::closing, crate::specs::Closing::first_line))]
 
-ghost use Rattle.std.specs.Prelude.{◌≡◌, ◌+◌, ◌≤◌, ◌++◌};
-ghost use Rattle.arrayvec.specs.ArrayVec.{array_vec_len};
-ghost use Rattle.cfpp_cli.specs.Finish.{closing, first_line};
+ghost use Rattle.std.specs.Prelude.{◌≡◌, ◌+◌, ◌≤◌, ◌++◌, length};
+ghost use Rattle.cfpp_cli.specs.Closing.{closing, first_line};
 
-use crate::page::{self, Page};
 use crate::running::Finish;
-use arrayvec::ArrayVec;
+use cf_texts::Page;
 use rv_machine::Machine;
 
 fn push_first_line(page: &mut Page, limit: u64, finish: Finish)
-    requires { array_vec_len page.old + 80 ≤ 640 }
-    ensures items { page.new.items ≡ page.old.items ++ first_line limit finish }
-    ensures len { array_vec_len page.new ≤ array_vec_len page.old + 80 }
+    requires { length page.old + 80 ≤ 640 }
+    ensures text { page.new ≡ page.old ++ first_line limit finish }
+    ensures size { length page.new ≤ length page.old + 80 }
 {
     match finish {
-        Finish::Exit(status) => page::push_counted(page, b"exit ", u64::from(status)),
-        Finish::Trap { cause, pc, detail } => page::push_trap(page, cause, pc, detail),
-        Finish::Limit => page::push_counted(page, b"limit ", limit),
-        Finish::ReadFault => page::push_line(page, b"read fault input"),
-        Finish::WriteFault => page::push_line(page, b"write fault output"),
+        Finish::Exit(status) => page.push_counted(b"exit ", u64::from(status)),
+        Finish::Trap { cause, pc, detail } => page.push_trap(cause, pc, detail),
+        Finish::Limit => page.push_counted(b"limit ", limit),
+        Finish::ReadFault => page.push_line(b"read fault input"),
+        Finish::WriteFault => page.push_line(b"write fault output"),
     }
 }
 
 /// The report that closes a run: how it finished, how many instructions retired, and the registers.
 pub fn closing_page(limit: u64, finish: Finish, machine: &Machine) -> Page
-    ensures { result.items ≡ closing limit finish machine.now }
+    ensures { result ≡ closing limit finish machine.now }
 {
-    let mut page = ArrayVec::new();
+    let mut page = Page::new();
     push_first_line(&mut page, limit, finish);
-    page::push_counted(&mut page, b"retired ", machine.retired());
-    page::push_registers(&mut page, machine.regs());
+    page.push_counted(b"retired ", machine.retired());
+    page.push_registers(machine.regs());
     page
 }

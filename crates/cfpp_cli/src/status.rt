@@ -1,5 +1,8 @@
 ghost use Rattle.std.specs.Prelude.{◌≡◌};
 
+use elf_view::ElfErr;
+use mem_regions::LoadErr;
+
 /// What could not be read.
 #[derive(Clone, Copy, Debug, PartialEq, Eq)]
 pub enum Which {
@@ -16,8 +19,12 @@ pub enum ProgramErr {
     /// It has over 33,554,432 bytes.
     TooLong,
 
-    /// It begins as an ELF file does, and ELF files are not read yet.
-    NotBuilt,
+    /// It begins as an ELF file does, and is none that can be viewed.
+    Elf(ElfErr),
+
+    /// The parts of memory that it describes cannot be loaded. A part is named by its index among the segments that
+    /// take room in memory, behind which the stack stands.
+    Load(LoadErr),
 }
 
 /// How a call of the simulator ended.

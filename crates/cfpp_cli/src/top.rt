@@ -1,127 +1,63 @@
-ghost use Rattle.std.specs.Prelude.{◌≡◌, ◌≤◌, ◌<◌, ◌++◌, map, string_bytes, length};
-ghost use Rattle.cf_io.specs.Causes.{HasCause};
-ghost use Rattle.rv_machine.specs.Streams.{streams_of};
-ghost use Rattle.cfpp_cli.specs.Outside.{outside_of, report_of};
-ghost use Rattle.cfpp_cli.specs.Top.{Answers, ComesTo, IsTop, status_of as status_for, input_answered, output_answered};
-ghost use Rattle.cfpp_cli.specs.Texts.{line as line_of, counted_line};
+//! The top call.
 
-use crate::closing::closing_page;
-use crate::image;
-use crate::page::{self, Page};
-use crate::running::{self, Finish};
-use crate::status::{ProgramErr, Status, Which};
-use crate::words::program_word;
-use arrayvec::ArrayVec;
-use cf_io::{Files, FilesErr, Sink, Source, put_all};
+ghost use Rattle.std.specs.Prelude.{map, string_bytes};
+ghost use Rattle.cf_io.specs.Causes.{HasCause};
+ghost use Rattle.cfpp_cli.specs.Deciding.{Decided, input_decided, output_decided};
+ghost use Rattle.cfpp_cli.specs.Outside.{outside_of, report_of};
+ghost use Rattle.cfpp_cli.specs.Top.{IsTop};
+
+use crate::answer::Answer;
+use crate::machine::run_program;
+use crate::refusals::bad_words;
+use crate::status::Status;
+use cf_io::{Failed, Files, Sink, Source, put_all};
+use cf_words::{Command, read_words};
 use std::alloc::Global;
 
-/// The greatest length of a program file, in bytes.
-const MOST_BYTES: u64 = 33_554_432;
-
-/// The retired instructions at which a run stops.
-const DEFAULT_LIMIT: u64 = 10_000_000;
-
-fn status_of(finish: Finish) -> Status
-    ensures { result ≡ status_for finish }
-{
-    match finish {
-        Finish::Exit(code) => Status::Exit(code),
-        Finish::Trap { cause, pc, detail } => Status::Trap { cause, pc, detail },
-        Finish::Limit => Status::Limit(Some(DEFAULT_LIMIT)),
-        Finish::ReadFault => Status::ReadFault(Which::Input),
-        Finish::WriteFault => Status::WriteFault,
-    }
-}
-
-/// A report of one line.
-fn line(text: &[u8]) -> Page
-    requires { length text.now ≤ 60 }
-    ensures { result.items ≡ line_of text.now }
-{
-    let mut page = ArrayVec::new();
-    page::push_line(&mut page, text);
-    page
-}
-
-/// A report of one line, of a name and a number.
-fn counted(name: &[u8], number: u64) -> Page
-    requires { length name.now ≤ 60 }
-    ensures { result.items ≡ counted_line name.now number }
-{
-    let mut page = ArrayVec::new();
-    page::push_counted(&mut page, name, number);
-    page
-}
-
-/// Runs a program that was read: its status and its report.
-fn run_image<S: Source, K: Sink>(
-    alloc: Global,
-    image: &[u8],
-    input: &mut S,
-    output: &mut K,
-) -> (Status, Page)
-    ensures comes { ComesTo image.now
-        (streams_of (S.left input.old) (K.written output.old))
-        (streams_of (S.left input.new) (K.written output.new)) result.0 result.1.items }
-    ensures input { HasCause (S.faults input.old) (S.faults input.new) (input_answered result.0) }
-    ensures output { HasCause (K.faults output.old) (K.faults output.new) (output_answered result.0) }
-{
-    if image.len() as u64 > MOST_BYTES {
-        let status = Status::BadProgram(ProgramErr::TooLong);
-        return (status, line(b"bad program: TooLong"));
-    }
-    if image::is_elf(image) {
-        let status = Status::BadProgram(ProgramErr::NotBuilt);
-        return (status, line(b"bad program: NotBuilt"));
-    }
-    let Ok(mut machine) = image::open(alloc, image) else {
-        return (Status::NoMemory, line(b"no memory"));
-    };
-    let finish = running::run(&mut machine, input, output, DEFAULT_LIMIT);
-    let report = closing_page(DEFAULT_LIMIT, finish, &machine);
-    (status_of(finish), report)
-}
-
-/// The status and the report that the words and the files give.
-fn decide<F: Files, S: Source, K: Sink>(
+/// Carries out what the words ask, but for the closing lines of the report.
+#[tactic(auto, using(crate::proofs::Commands::commands))]
+fn decide<F: Files, S: Source, K: Sink, R: Sink>(
     alloc: Global,
     words: &[String],
     files: &mut F,
     input: &mut S,
     output: &mut K,
-) -> (Status, Page)
-    ensures answers { Answers (map string_bytes words.now)
+    report: &mut R,
+) -> Result<Answer, Failed>
+    ensures decided { Decided (map string_bytes words.now)
         (outside_of (F.told files.old) (F.faults files.old) (S.left input.old) (S.faults input.old)
         (K.written output.old) (K.faults output.old))
         (outside_of (F.told files.new) (F.faults files.new) (S.left input.new) (S.faults input.new)
         (K.written output.new) (K.faults output.new))
-        result.0 result.1.items }
-    ensures input { HasCause (S.faults input.old) (S.faults input.new) (input_answered result.0) }
-    ensures output { HasCause (K.faults output.old) (K.faults output.new) (output_answered result.0) }
+        (R.written report.old) (R.written report.new) result }
+    ensures input { HasCause (S.faults input.old) (S.faults input.new) (input_decided result) }
+    ensures output { HasCause (K.faults output.old) (K.faults output.new) (output_decided result) }
+    ensures report { HasCause (R.faults report.old) (R.faults report.new) result }
 {
-    let program = match program_word(words) {
-        Ok(program) => program,
-        Err(index) => {
-            let report = counted(b"bad words at ", u64::from(index));
-            return (Status::BadWords(index), report);
+    match read_words(words) {
+        Ok(Command::Machine { program, options }) => {
+            run_program(alloc, program, options, files, input, output, report)
         }
-    };
-    match files.read(alloc, program, MOST_BYTES + 1) {
-        Ok(image) => run_image(alloc, image.as_slice(), input, output),
-        Err(FilesErr::Failed) => (
-            Status::ReadFault(Which::Program),
-            line(b"read fault program"),
-        ),
-        Err(FilesErr::NoMemory) => (Status::NoMemory, line(b"no memory")),
+        Ok(Command::Check { .. }) => unreachable!(),
+        Ok(Command::List { .. }) => unreachable!(),
+        Ok(Command::Asm { .. }) => unreachable!(),
+        Ok(Command::Run { .. }) => unreachable!(),
+        Err(index) => Ok(Answer {
+            status: Status::BadWords(index),
+            closing: bad_words(index),
+        }),
     }
 }
 
 /// Does what the words say: `machine PROGRAM` runs a program's file on the sequential machine.
 ///
-/// A flat image stands at 0x00010000, which is also its entry, in one region that may be read, written and executed;
-/// a zeroed stack of 1 MiB stands at 0x7f000000. The run stops at 10,000,000 retired instructions. `input` and
-/// `output` are the program's own. The report says how the run finished, how many instructions retired, and what the
-/// registers hold; where nothing was run, it is one line that says why.
+/// The file is an ELF executable for RISC-V, whose segments are loaded, or else a flat image, which stands at 0x00010000
+/// in one region that may be read, written and executed, and begins there; a zeroed stack of 1 MiB stands at 0x7f000000.
+/// `--limit N` sets the retired instructions at which the run stops, 10,000,000 without it; `--show retired` puts a line
+/// to the report for each instruction as it retires, and `--show report`, which is the default, none; with `--mul` the
+/// machine multiplies and divides. `input` and `output` are the program's own. The report closes with how the run
+/// finished, how many instructions retired, and what the registers hold; where nothing was run, it is one line that says
+/// why. After a report that failed nothing more is put to it, and the status is `WriteFault`.
 pub fn cfpp<F: Files, S: Source, K: Sink, R: Sink>(
     alloc: Global,
     words: &[String],
@@ -138,9 +74,11 @@ pub fn cfpp<F: Files, S: Source, K: Sink, R: Sink>(
         (report_of (R.written report.old) (R.faults report.old))
         (report_of (R.written report.new) (R.faults report.new)) result }
 {
-    let (status, page) = decide(alloc, words, files, input, output);
-    match put_all(report, page.as_slice()) {
-        Ok(()) => status,
+    match decide(alloc, words, files, input, output, report) {
+        Ok(answer) => match put_all(report, answer.closing.bytes()) {
+            Ok(()) => answer.status,
+            Err(_) => Status::WriteFault,
+        },
         Err(_) => Status::WriteFault,
     }
 }

@@ -1,0 +1,9 @@
+pub mod BadWords
+pub mod Completions
+pub mod Digits
+pub mod Grammar
+pub mod Loop
+pub mod Reached
+pub mod Settings
+pub mod Steps
+pub mod Texts

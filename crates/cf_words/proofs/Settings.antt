@@ -1,0 +1,351 @@
+-- The options behind the positional words: read in turn they are a list of which none stands twice, and give what stands in it.
+use Rattle.std.proofs.Common.{◌≡◌, ◌≢◌, ℕ, List, [], ◌∷◌, ◌++◌, Bool, true, false, refl, Option, Some, None, ◌&&◌, ◌||◌, sym, ◌∙◌, subst, ap}
+use Rattle.std.specs.Option.{option_or}
+use Rattle.std.specs.List.{list_all}
+use Rattle.cf_words.specs.declared.options.Key.{Key}
+use Rattle.cf_words.specs.declared.options.Key.TheVariants as keys
+use Rattle.cf_words.specs.Options.{key_word, show_word, key_of, value_words, written, takes_key, is_value, takes, Without, NoneTwice, Setting, limit_to, show_lines, script_from, with_mul, Given, given_in}
+use Rattle.cf_words.specs.Words.{Subject, name_of, Asked, asked_by}
+use Rattle.cf_words.specs.Reading.{State, options, valued, follow, behind_key, has_key, is_there, nothing_given, completed}
+use Rattle.cf_words.proofs.Steps.{put, option-read, value-read, option-follows, limit-follows, lines-follow, script-follows}
+
+-- all words in turn
+abbrev pub after : {A B : Type 0} → Option A → (A → Option B) → Option B
+after None f = None
+after (Some x) f = f x
+
+abbrev pub reads : State → List (List ℕ) → Option State
+reads state [] = Some state
+reads state (word ∷ words) = after (follow state word) (λ behind. reads behind words)
+
+pub record Split (state : State) (word : List ℕ) (words : List (List ℕ)) (last : State) : Type 0 where
+  pub behind : State
+  pub followed : follow state word ≡ Some behind
+  pub rest : reads behind words ≡ Some last
+
+split-at : (found : Option State) (state : State) (word : List ℕ) (words : List (List ℕ)) (last : State) →
+    follow state word ≡ found → after found (λ behind. reads behind words) ≡ Some last →
+    Split state word words last
+split-at None state word words last e h = absurd (cc)
+split-at (Some behind) state word words last e h = record { behind = behind; followed = e; rest = h }
+
+pub reads-split : (state : State) (word : List ℕ) (words : List (List ℕ)) (last : State) →
+    reads state (word ∷ words) ≡ Some last → Split state word words last
+reads-split state word words last h = split-at (follow state word) state word words last refl h
+
+pub reads-step : (state : State) (word : List ℕ) (words : List (List ℕ)) (behind : State) →
+    follow state word ≡ Some behind → reads state (word ∷ words) ≡ reads behind words
+reads-step state word words behind h = ap (λ (o : Option State). after o (λ behind. reads behind words)) h
+
+pub none-left : (state last : State) → reads state [] ≡ Some last → state ≡ last
+none-left state last h = cc
+
+-- none of the options stands already, nor twice
+abbrev pub Fresh : Given → List Setting → Type 0
+Fresh given [] = Unit {0}
+Fresh given (setting ∷ settings) = (has_key given (key_of setting) ≡ false) × Fresh (put given setting)
+    settings
+
+abbrev pub put_all : Given → List Setting → Given
+put_all given [] = given
+put_all given (setting ∷ settings) = put_all (put given setting) settings
+
+put-has : (given : Given) (setting : Setting) → has_key (put given setting) (key_of setting) ≡ true
+put-has given (limit_to digits) = refl
+put-has given (show_lines lines) = refl
+put-has given (script_from file) = refl
+put-has given with_mul = refl
+
+put-keeps : (given : Given) (setting : Setting) (key : Key) → has_key given key ≡ true →
+    has_key (put given setting) key ≡ true
+put-keeps given (limit_to digits) keys.Limit h = refl
+put-keeps given (limit_to digits) keys.Show h = h
+put-keeps given (limit_to digits) keys.Script h = h
+put-keeps given (limit_to digits) keys.Mul h = h
+put-keeps given (show_lines lines) keys.Limit h = h
+put-keeps given (show_lines lines) keys.Show h = refl
+put-keeps given (show_lines lines) keys.Script h = h
+put-keeps given (show_lines lines) keys.Mul h = h
+put-keeps given (script_from file) keys.Limit h = h
+put-keeps given (script_from file) keys.Show h = h
+put-keeps given (script_from file) keys.Script h = refl
+put-keeps given (script_from file) keys.Mul h = h
+put-keeps given with_mul keys.Limit h = h
+put-keeps given with_mul keys.Show h = h
+put-keeps given with_mul keys.Script h = h
+put-keeps given with_mul keys.Mul h = refl
+
+put-other : (given : Given) (setting : Setting) (key : Key) → has_key given key ≡ false →
+    key_of setting ≢ key → has_key (put given setting) key ≡ false
+put-other given (limit_to digits) keys.Limit h other = absurd (other refl)
+put-other given (limit_to digits) keys.Show h other = h
+put-other given (limit_to digits) keys.Script h other = h
+put-other given (limit_to digits) keys.Mul h other = h
+put-other given (show_lines lines) keys.Limit h other = h
+put-other given (show_lines lines) keys.Show h other = absurd (other refl)
+put-other given (show_lines lines) keys.Script h other = h
+put-other given (show_lines lines) keys.Mul h other = h
+put-other given (script_from file) keys.Limit h other = h
+put-other given (script_from file) keys.Show h other = h
+put-other given (script_from file) keys.Script h other = absurd (other refl)
+put-other given (script_from file) keys.Mul h other = h
+put-other given with_mul keys.Limit h other = h
+put-other given with_mul keys.Show h other = h
+put-other given with_mul keys.Script h other = h
+put-other given with_mul keys.Mul h other = absurd (other refl)
+
+-- fresh options do not stand twice
+fresh-without : (settings : List Setting) (given : Given) (key : Key) → has_key given key ≡ true →
+    Fresh given settings → Without key settings
+fresh-without [] given key h fresh = tt
+fresh-without (setting ∷ settings) given key h fresh = (
+  λ same. let f : has_key given (key_of setting) ≡ false = fresh.0 in
+      let g : has_key given (key_of setting) ≡ true = subst (λ k. has_key given k ≡ true) (sym same) h
+      in cc,
+  fresh-without settings (put given setting) key (put-keeps given setting key h) fresh.1,
+)
+
+pub fresh-once : (settings : List Setting) (given : Given) → Fresh given settings → NoneTwice settings
+fresh-once [] given fresh = tt
+fresh-once (setting ∷ settings) given fresh = (
+  fresh-without settings (put given setting) (key_of setting) (put-has given setting) fresh.1,
+  fresh-once settings (put given setting) fresh.1,
+)
+
+-- and options that do not stand twice are fresh
+abbrev Clear : Given → List Setting → Type 0
+Clear given [] = Unit {0}
+Clear given (setting ∷ settings) = (has_key given (key_of setting) ≡ false) × Clear given settings
+
+clear-put : (settings : List Setting) (given : Given) (setting : Setting) → Clear given settings →
+    Without (key_of setting) settings → Clear (put given setting) settings
+clear-put [] given setting clear without = tt
+clear-put (next ∷ settings) given setting clear without = (
+  put-other given setting (key_of next) clear.0 (λ same. without.0 (sym same)),
+  clear-put settings given setting clear.1 without.1,
+)
+
+clear-fresh : (settings : List Setting) (given : Given) → Clear given settings → NoneTwice settings →
+    Fresh given settings
+clear-fresh [] given clear once = tt
+clear-fresh (setting ∷ settings) given clear once = (
+  clear.0,
+  clear-fresh settings (put given setting)
+      (clear-put settings given setting clear.1 once.0) once.1,
+)
+
+nothing-has : (key : Key) → has_key nothing_given key ≡ false
+nothing-has keys.Limit = refl
+nothing-has keys.Show = refl
+nothing-has keys.Script = refl
+nothing-has keys.Mul = refl
+
+clear-nothing : (settings : List Setting) → Clear nothing_given settings
+clear-nothing [] = tt
+clear-nothing (setting ∷ settings) = (nothing-has (key_of setting), clear-nothing settings)
+
+pub once-fresh : (settings : List Setting) → NoneTwice settings → Fresh nothing_given settings
+once-fresh settings once = clear-fresh settings nothing_given (clear-nothing settings) once
+
+-- what they give in turn is what stands among them
+abbrev joined : Given → Given → Given
+joined given more = record {
+  limit = option_or given.limit more.limit;
+  show = option_or given.show more.show;
+  script = option_or given.script more.script;
+  mul = given.mul || more.mul;
+}
+
+not-there : {A : Type 0} → (o : Option A) → is_there o ≡ false → o ≡ None
+not-there None h = refl
+not-there (Some x) h = absurd (cc)
+
+joined-put : (given : Given) (setting : Setting) (settings : List Setting) →
+    has_key given (key_of setting) ≡ false →
+    joined (put given setting) (given_in settings) ≡ joined given (given_in (setting ∷ settings))
+joined-put given (limit_to digits) settings h = let e = not-there given.limit h in rw e
+joined-put given (show_lines lines) settings h = let e = not-there given.show h in rw e
+joined-put given (script_from file) settings h = let e = not-there given.script h in rw e
+joined-put given with_mul settings h = rw h
+
+or-none : {A : Type 0} → (o : Option A) → option_or o None ≡ o
+or-none None = refl
+or-none (Some x) = refl
+
+or-false : (b : Bool) → (b || false) ≡ b
+or-false true = refl
+or-false false = refl
+
+put-joined : (settings : List Setting) (given : Given) → Fresh given settings →
+    put_all given settings ≡ joined given (given_in settings)
+put-joined [] given fresh =
+    sym (rw (or-none given.limit, or-none given.show, or-none given.script, or-false given.mul))
+put-joined (setting ∷ settings) given fresh =
+    put-joined settings (put given setting) fresh.1 ∙ joined-put given setting settings fresh.0
+
+pub put-given : (settings : List Setting) → Fresh nothing_given settings →
+    put_all nothing_given settings ≡ given_in settings
+put-given settings fresh = put-joined settings nothing_given fresh
+
+-- the words behind the positional ones, as a list of options
+pub record Tail (subject : Subject) (given : Given) (words : List (List ℕ)) (asked : Asked) : Type 0 where
+  pub settings : List Setting
+  pub words_are : words ≡ written settings
+  pub taken : list_all (takes (name_of subject)) settings ≡ true
+  pub fresh : Fresh given settings
+  pub means : asked_by subject (put_all given settings) ≡ Some asked
+
+tail-none : (subject : Subject) (given : Given) (last : State) (asked : Asked) →
+    reads (options subject given) [] ≡ Some last → completed last ≡ Some asked →
+    Tail subject given [] asked
+unfolding completed
+tail-none subject given last asked h done =
+    let e : options subject given ≡ last = cc in
+    let m : completed (options subject given) ≡ Some asked = subst (λ s. completed s ≡ Some asked)
+    (sym e) done in
+    record { settings = []; words_are = refl; taken = refl; fresh = tt; means = m }
+
+-- one more option before the others
+tail-more : (subject : Subject) (given : Given) (setting : Setting) (words : List (List ℕ))
+    (asked : Asked) →
+    takes_key (name_of subject) (key_of setting) ≡ true → is_value (name_of subject) setting ≡ true →
+    has_key given (key_of setting) ≡ false → Tail subject (put given setting) words asked →
+    Tail subject given (key_word (key_of setting) ∷ (value_words setting ++ words)) asked
+tail-more subject given setting words asked taken allowed fresh tail = record {
+  settings = setting ∷ tail.settings;
+  words_are = ap (λ (ws : List (List ℕ)). key_word (key_of setting) ∷ (value_words setting ++ ws))
+      tail.words_are;
+  taken = rw (taken, allowed) tail.taken;
+  fresh = (fresh, tail.fresh);
+  means = tail.means;
+}
+
+-- an option with a value: what the words behind its own word are
+tail-valued : (key : Key) (subject : Subject) (given : Given) (words : List (List ℕ)) (last : State)
+    (asked : Asked) →
+    takes_key (name_of subject) key ≡ true → has_key given key ≡ false →
+    reads (valued subject given key) words ≡ Some last → completed last ≡ Some asked →
+    ((value : List ℕ) (later : List (List ℕ)) → words ≡ value ∷ later → (more : Given) →
+    reads (options subject more) later ≡ Some last → Tail subject more later asked) →
+    Tail subject given (key_word key ∷ words) asked
+unfolding completed
+tail-valued key subject given [] last asked taken fresh h done later =
+    let e : valued subject given key ≡ last = cc in
+    let m : completed (valued subject given key) ≡ Some asked = subst (λ s. completed s ≡ Some asked)
+    (sym e) done in
+    absurd (cc)
+tail-valued key subject given (value ∷ words) last asked taken fresh h done later =
+    let s = reads-split (valued subject given key) value words last h in
+    let v = value-read key subject given value s.behind s.followed in
+    let r : reads (options subject (put given v.setting)) words ≡ Some last =
+    subst (λ b. reads b words ≡ Some last) v.behind_is s.rest in
+    let t : Tail subject (put given v.setting) words asked = later value words refl
+    (put given v.setting) r in
+    let a : takes_key (name_of subject) (key_of v.setting) ≡ true =
+    subst (λ k. takes_key (name_of subject) k ≡ true) (sym v.key_is) taken in
+    let f : has_key given (key_of v.setting) ≡ false =
+    subst (λ k. has_key given k ≡ false) (sym v.key_is) fresh in
+    let m : Tail subject given (key_word (key_of v.setting) ∷ (value_words v.setting ++ words)) asked =
+    tail-more subject given v.setting words asked a v.allowed f t in
+    let m1 : Tail subject given (key_word key ∷ (value_words v.setting ++ words)) asked =
+    subst (λ k. Tail subject given (key_word k ∷ (value_words v.setting ++ words)) asked) v.key_is m in
+    subst (λ (ws : List (List ℕ)). Tail subject given (key_word key ∷ (ws ++ words)) asked) v.word_is m1
+
+tail-keyed : (key : Key) (subject : Subject) (given : Given) (words : List (List ℕ)) (last : State)
+    (asked : Asked) →
+    takes_key (name_of subject) key ≡ true → has_key given key ≡ false →
+    reads (behind_key subject given key) words ≡ Some last → completed last ≡ Some asked →
+    ((more : Given) → reads (options subject more) words ≡ Some last → Tail subject more words asked) →
+    ((value : List ℕ) (later : List (List ℕ)) → words ≡ value ∷ later → (more : Given) →
+    reads (options subject more) later ≡ Some last → Tail subject more later asked) →
+    Tail subject given (key_word key ∷ words) asked
+tail-keyed keys.Limit subject given words last asked taken fresh h done next later =
+    tail-valued keys.Limit subject given words last asked taken fresh h done later
+tail-keyed keys.Show subject given words last asked taken fresh h done next later =
+    tail-valued keys.Show subject given words last asked taken fresh h done later
+tail-keyed keys.Script subject given words last asked taken fresh h done next later =
+    tail-valued keys.Script subject given words last asked taken fresh h done later
+tail-keyed keys.Mul subject given words last asked taken fresh h done next later =
+    tail-more subject given with_mul words asked taken refl fresh (next (put given with_mul) h)
+
+tail-word : (subject : Subject) (given : Given) (word : List ℕ) (words : List (List ℕ)) (last : State)
+    (asked : Asked) →
+    reads (options subject given) (word ∷ words) ≡ Some last → completed last ≡ Some asked →
+    ((more : Given) → reads (options subject more) words ≡ Some last → Tail subject more words asked) →
+    ((value : List ℕ) (later : List (List ℕ)) → words ≡ value ∷ later → (more : Given) →
+    reads (options subject more) later ≡ Some last → Tail subject more later asked) →
+    Tail subject given (word ∷ words) asked
+tail-word subject given word words last asked h done next later =
+    let s = reads-split (options subject given) word words last h in
+    let k = option-read subject given word s.behind s.followed in
+    let r : reads (behind_key subject given k.key) words ≡ Some last =
+    subst (λ b. reads b words ≡ Some last) k.behind_is s.rest in
+    let t : Tail subject given (key_word k.key ∷ words) asked =
+    tail-keyed k.key subject given words last asked k.taken k.fresh r done next later in
+    subst (λ (w : List ℕ). Tail subject given (w ∷ words) asked) (sym k.word_is) t
+
+pub tail-read : (words : List (List ℕ)) (subject : Subject) (given : Given) (last : State)
+    (asked : Asked) →
+    reads (options subject given) words ≡ Some last → completed last ≡ Some asked →
+    Tail subject given words asked
+tail-read [] subject given last asked h done = tail-none subject given last asked h done
+tail-read (word ∷ []) subject given last asked h done =
+    tail-word subject given word [] last asked h done
+    (λ more r. tail-none subject more last asked r done)
+    (λ value later e more r. absurd (cc))
+tail-read (word ∷ value ∷ words) subject given last asked h done =
+    tail-word subject given word (value ∷ words) last asked h done
+    (λ more r. tail-read (value ∷ words) subject more last asked r done)
+    (λ same later e more r.
+    let l : words ≡ later = cc in
+    let r1 : reads (options subject more) words ≡ Some last =
+    subst (λ (ws : List (List ℕ)). reads (options subject more) ws ≡ Some last) (sym l) r in
+    subst (λ (ws : List (List ℕ)). Tail subject more ws asked) l
+    (tail-read words subject more last asked r1 done))
+
+-- one option is read as it is written
+setting-read : (setting : Setting) (subject : Subject) (given : Given) (words : List (List ℕ)) →
+    takes_key (name_of subject) (key_of setting) ≡ true → is_value (name_of subject) setting ≡ true →
+    has_key given (key_of setting) ≡ false →
+    reads (options subject given) (key_word (key_of setting) ∷ (value_words setting ++ words))
+    ≡ reads (options subject (put given setting)) words
+setting-read (limit_to digits) subject given words taken allowed fresh =
+    reads-step (options subject given) (key_word keys.Limit) (digits ∷ words)
+    (valued subject given keys.Limit)
+    (option-follows subject given keys.Limit taken fresh)
+    ∙ reads-step (valued subject given keys.Limit) digits words
+    (options subject (put given (limit_to digits)))
+    (limit-follows subject given digits allowed)
+setting-read (show_lines lines) subject given words taken allowed fresh =
+    reads-step (options subject given) (key_word keys.Show) (show_word lines ∷ words)
+    (valued subject given keys.Show)
+    (option-follows subject given keys.Show taken fresh)
+    ∙ reads-step (valued subject given keys.Show) (show_word lines) words
+    (options subject (put given (show_lines lines)))
+    (lines-follow subject given lines allowed)
+setting-read (script_from file) subject given words taken allowed fresh =
+    reads-step (options subject given) (key_word keys.Script) (file ∷ words)
+    (valued subject given keys.Script)
+    (option-follows subject given keys.Script taken fresh)
+    ∙ reads-step (valued subject given keys.Script) file words
+    (options subject (put given (script_from file)))
+    (script-follows subject given file allowed)
+setting-read with_mul subject given words taken allowed fresh =
+    reads-step (options subject given) (key_word keys.Mul) words (options subject (put given with_mul))
+    (option-follows subject given keys.Mul taken fresh)
+
+both : (a b : Bool) → (a && b) ≡ true → (a ≡ true) × (b ≡ true)
+both true true h = (refl, refl)
+both true false h = absurd (cc)
+both false b h = absurd (cc)
+
+pub settings-read : (settings : List Setting) (subject : Subject) (given : Given) →
+    list_all (takes (name_of subject)) settings ≡ true → Fresh given settings →
+    reads (options subject given) (written settings) ≡ Some (options subject (put_all given settings))
+settings-read [] subject given taken fresh = refl
+settings-read (setting ∷ settings) subject given taken fresh =
+    let a = both (takes (name_of subject) setting) (list_all (takes (name_of subject)) settings) taken in
+    let t = both (takes_key (name_of subject) (key_of setting)) (is_value (name_of subject) setting)
+    a.0 in
+    setting-read setting subject given (written settings) t.0 t.1 fresh.0
+    ∙ settings-read settings subject (put given setting) a.1 fresh.1

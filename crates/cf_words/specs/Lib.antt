@@ -1,0 +1,5 @@
+pub mod Options
+pub mod Reading
+pub mod Values
+pub mod Views
+pub mod Words

@@ -1,0 +1,132 @@
+-- The options of the project's command line: how each is written, which commands have it, and what it gives.
+use Rattle.std.specs.Prelude.{◌≢◌, ℕ, List, [], ◌∷◌, ◌++◌, codes, Bool, true, false, ◌&&◌, Option, Some, None}
+use Rattle.std.specs.Str.Parse.{digits_value}
+use Rattle.cf_words.specs.declared.names.Name.{Name}
+use Rattle.cf_words.specs.declared.names.Name.TheVariants as names
+use Rattle.cf_words.specs.declared.options.Show.{Show}
+use Rattle.cf_words.specs.declared.options.Show.TheVariants as shows
+use Rattle.cf_words.specs.declared.options.Key.{Key}
+use Rattle.cf_words.specs.declared.options.Key.TheVariants as keys
+use Rattle.cf_words.specs.Values.{is_file_name, is_number}
+
+-- an option, with the value of those that have one
+pub data Setting : Type 0 where
+  limit_to : (digits : List ℕ) → Setting
+  show_lines : Show → Setting
+  script_from : (file : List ℕ) → Setting
+  with_mul : Setting
+
+-- which option it is
+abbrev pub key_of : Setting → Key
+key_of (limit_to digits) = keys.Limit
+key_of (show_lines lines) = keys.Show
+key_of (script_from file) = keys.Script
+key_of with_mul = keys.Mul
+
+-- the option's own word
+abbrev pub key_word : Key → List ℕ
+key_word keys.Limit = codes "--limit"
+key_word keys.Show = codes "--show"
+key_word keys.Script = codes "--script"
+key_word keys.Mul = codes "--mul"
+
+-- the word for what is shown
+abbrev pub show_word : Show → List ℕ
+show_word shows.Report = codes "report"
+show_word shows.Retired = codes "retired"
+show_word shows.Moves = codes "moves"
+
+-- the value is one word behind it, and `--mul` has none
+abbrev pub value_words : Setting → List (List ℕ)
+value_words (limit_to digits) = digits ∷ []
+value_words (show_lines lines) = show_word lines ∷ []
+value_words (script_from file) = file ∷ []
+value_words with_mul = []
+
+-- the words of the options, in their order
+abbrev pub written : List Setting → List (List ℕ)
+written [] = []
+written (setting ∷ settings) = key_word (key_of setting) ∷ (value_words setting ++ written settings)
+
+-- the options of each command
+abbrev pub takes_key : Name → Key → Bool
+takes_key names.Machine keys.Limit = true
+takes_key names.Machine keys.Show = true
+takes_key names.Machine keys.Script = false
+takes_key names.Machine keys.Mul = true
+takes_key names.Run keys.Limit = true
+takes_key names.Run keys.Show = true
+takes_key names.Run keys.Script = true
+takes_key names.Run keys.Mul = false
+takes_key _ _ = false
+
+-- what each command can show: only a run of the processor has moves
+abbrev pub has_lines : Name → Show → Bool
+has_lines names.Run lines = true
+has_lines _ shows.Moves = false
+has_lines _ lines = true
+
+-- the greatest limit
+abbrev pub most_limit : ℕ
+most_limit = 1000000000
+
+-- a value that the option may have
+abbrev pub is_value : Name → Setting → Bool
+is_value name (limit_to digits) = is_number most_limit digits
+is_value name (show_lines lines) = has_lines name lines
+is_value name (script_from file) = is_file_name file
+is_value name with_mul = true
+
+-- the command has the option, and it may have that value
+abbrev pub takes : Name → Setting → Bool
+takes name setting = takes_key name (key_of setting) && is_value name setting
+
+-- an option is none of these
+abbrev pub Without : Key → List Setting → Type 0
+Without key [] = Unit {0}
+Without key (setting ∷ settings) = (key_of setting ≢ key) × Without key settings
+
+-- no option stands twice
+abbrev pub NoneTwice : List Setting → Type 0
+NoneTwice [] = Unit {0}
+NoneTwice (setting ∷ settings) = Without (key_of setting) settings × NoneTwice settings
+
+-- the limit among them
+abbrev pub limit_in : List Setting → Option ℕ
+limit_in [] = None
+limit_in (limit_to digits ∷ settings) = Some (digits_value 10 digits)
+limit_in (_ ∷ settings) = limit_in settings
+
+-- what is shown
+abbrev pub show_in : List Setting → Option Show
+show_in [] = None
+show_in (show_lines lines ∷ settings) = Some lines
+show_in (_ ∷ settings) = show_in settings
+
+-- the file of the script
+abbrev pub script_in : List Setting → Option (List ℕ)
+script_in [] = None
+script_in (script_from file ∷ settings) = Some file
+script_in (_ ∷ settings) = script_in settings
+
+-- whether `--mul` is there
+abbrev pub mul_in : List Setting → Bool
+mul_in [] = false
+mul_in (with_mul ∷ settings) = true
+mul_in (_ ∷ settings) = mul_in settings
+
+-- all that options give
+pub record Given : Type 0 where
+  pub limit : Option ℕ
+  pub show : Option Show
+  pub script : Option (List ℕ)
+  pub mul : Bool
+
+-- what stands among them
+abbrev pub given_in : List Setting → Given
+given_in settings = record {
+  limit = limit_in settings;
+  show = show_in settings;
+  script = script_in settings;
+  mul = mul_in settings;
+}

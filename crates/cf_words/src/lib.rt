@@ -1,0 +1,14 @@
+//! The words of the command line: what they ask, or the first of them that has no place.
+#![tactic(auto)]
+
+mod command;
+mod names;
+mod numbers;
+mod options;
+mod reading;
+
+pub use command::{Command, LayoutWord, MachineOptions, RunOptions, read_words};
+pub use options::Show;
+
+#[cfg(test)]
+mod tests;

@@ -1,0 +1,33 @@
+//! Numbers on the command line.
+#![tactic(auto, unfolding(crate::specs::Reading::number_in), using(crate::proofs::Digits::digits))]
+
+ghost use Rattle.std.specs.Prelude.{◌≡◌};
+ghost use Rattle.std.specs.List.{list_all};
+ghost use Rattle.cf_words.specs.Values.{is_digit, is_numeral as is_number_word};
+ghost use Rattle.cf_words.specs.Reading.{number_in};
+
+/// The longest number: ten decimal digits.
+const MOST_DIGITS: usize = 10;
+
+fn has_only_digits(word: &str) -> bool
+    ensures { result ≡ list_all is_digit word.now }
+{
+    word.as_bytes().iter().all(|byte| byte.is_ascii_digit())
+}
+
+fn is_numeral(word: &str) -> bool
+    ensures { result ≡ is_number_word word.now }
+{
+    !word.is_empty() && word.len() <= MOST_DIGITS && has_only_digits(word)
+}
+
+/// The number that a word writes in 1 to 10 decimal digits, where it is at most `most`.
+pub(crate) fn read_number(word: &str, most: u64) -> Option<u64>
+    ensures { result ≡ number_in most word.now }
+{
+    if !is_numeral(word) {
+        return None;
+    }
+    let number = word.parse::<u64>().ok()?;
+    (number <= most).then_some(number)
+}

@@ -1,0 +1,146 @@
+//! The options of the commands, and what they give.
+#![tactic(auto, unfolding(crate::specs::Reading::key_in, crate::specs::Reading::lines_in, crate::specs::Reading::with_value))]
+
+ghost use Rattle.std.specs.Prelude.{◌≡◌, option_map};
+ghost use Rattle.cf_words.specs.Options.{takes_key, has_lines};
+ghost use Rattle.cf_words.specs.Reading.{key_in, lines_in, has_key, nothing_given, with_value};
+ghost use Rattle.cf_words.specs.Views.{given_of};
+
+use crate::names::{Name, is_file_name};
+use crate::numbers::read_number;
+
+/// The greatest number of retired instructions behind `--limit`.
+const MOST_LIMIT: u64 = 1_000_000_000;
+
+/// What is shown of a run.
+#[derive(Clone, Copy)]
+pub enum Show {
+    /// The closing report alone.
+    Report,
+    /// A line for each retired instruction before it.
+    Retired,
+    /// A line for each move of the processor before it.
+    Moves,
+}
+
+/// The options by their own words.
+#[derive(Clone, Copy)]
+pub(crate) enum Key {
+    Limit,
+    Show,
+    Script,
+    Mul,
+}
+
+/// What the options that were read give.
+#[derive(Clone, Copy)]
+pub(crate) struct Options<'a> {
+    pub(crate) limit: Option<u64>,
+    pub(crate) show: Option<Show>,
+    pub(crate) script: Option<&'a str>,
+    pub(crate) mul: bool,
+}
+
+impl Key {
+    /// The option that begins with this word.
+    pub(crate) fn from_word(word: &str) -> Option<Self>
+        ensures { result ≡ key_in word.now }
+    {
+        match word {
+            "--limit" => Some(Key::Limit),
+            "--show" => Some(Key::Show),
+            "--script" => Some(Key::Script),
+            "--mul" => Some(Key::Mul),
+            _ => None,
+        }
+    }
+
+    /// Whether a command has this option.
+    pub(crate) fn is_of(self, name: Name) -> bool
+        ensures { result ≡ takes_key name self }
+    {
+        match (name, self) {
+            (Name::Machine, Key::Limit | Key::Show | Key::Mul) => true,
+            (Name::Run, Key::Limit | Key::Show | Key::Script) => true,
+            _ => false,
+        }
+    }
+}
+
+impl Show {
+    /// What the value of `--show` asks.
+    fn from_word(word: &str) -> Option<Self>
+        ensures { result ≡ lines_in word.now }
+    {
+        match word {
+            "report" => Some(Show::Report),
+            "retired" => Some(Show::Retired),
+            "moves" => Some(Show::Moves),
+            _ => None,
+        }
+    }
+
+    /// Whether a command can show this: only a run of the processor has moves.
+    fn is_of(self, name: Name) -> bool
+        ensures { result ≡ has_lines name self }
+    {
+        match (name, self) {
+            (Name::Run, _) => true,
+            (_, Show::Moves) => false,
+            _ => true,
+        }
+    }
+}
+
+impl<'a> Options<'a> {
+    /// No option yet.
+    pub(crate) fn new() -> Self
+        ensures { given_of result ≡ nothing_given }
+    {
+        Options {
+            limit: None,
+            show: None,
+            script: None,
+            mul: false,
+        }
+    }
+
+    /// Whether this option was read already.
+    pub(crate) fn has(&self, key: Key) -> bool
+        ensures { result ≡ has_key (given_of self.now) key }
+    {
+        match key {
+            Key::Limit => self.limit.is_some(),
+            Key::Show => self.show.is_some(),
+            Key::Script => self.script.is_some(),
+            Key::Mul => self.mul,
+        }
+    }
+
+    /// The options with the value of one more, where the command allows it.
+    pub(crate) fn with_value(self, name: Name, key: Key, word: &'a str) -> Option<Self>
+        ensures { option_map given_of result ≡ with_value name (given_of self.entry) key word.entry.now }
+    {
+        match key {
+            Key::Limit => {
+                let limit = read_number(word, MOST_LIMIT)?;
+                Some(Options {
+                    limit: Some(limit),
+                    ..self
+                })
+            }
+            Key::Show => {
+                let show = Show::from_word(word)?;
+                show.is_of(name).then_some(Options {
+                    show: Some(show),
+                    ..self
+                })
+            }
+            Key::Script => is_file_name(word).then_some(Options {
+                script: Some(word),
+                ..self
+            }),
+            Key::Mul => None,
+        }
+    }
+}

@@ -1,0 +1,84 @@
+use super::*;
+use std::alloc::{AllocError, Global};
+use std::process::Abort;
+use std::test::Fail;
+
+fn words_of(alloc: Global, words: &[&str]) -> Result<Vec<String>, AllocError> {
+    let mut owned = Vec::new(alloc);
+    for word in words {
+        owned.push(String::from_str(alloc, word)?)?;
+    }
+    Ok(owned)
+}
+
+/// What the words ask of the sequential machine: the program, the limit, whether retired instructions are shown, and
+/// whether it multiplies.
+fn machine_asked(words: &[String]) -> Result<(&str, u64, bool, bool), u32> {
+    match read_words(words)? {
+        Command::Machine { program, options } => Ok((
+            program,
+            options.limit,
+            options.show_retired,
+            options.mul,
+        )),
+        _ => Err(99),
+    }
+}
+
+#[test]
+fn machine_words(rt: HostRuntime) -> Result<(), Fail> {
+    let alloc = rt.alloc();
+    let rows = [
+        (
+            ["machine", "p"].as_slice(),
+            Ok(("p", 10_000_000, false, false)),
+        ),
+        (
+            ["machine", "plain", "--mul"].as_slice(),
+            Ok(("plain", 10_000_000, false, true)),
+        ),
+        (
+            ["machine", "p", "--show", "retired", "--limit", "0000000003"].as_slice(),
+            Ok(("p", 3, true, false)),
+        ),
+        (
+            [
+                "machine",
+                "p",
+                "--mul",
+                "--limit",
+                "1000000000",
+                "--show",
+                "report",
+            ]
+            .as_slice(),
+            Ok(("p", 1_000_000_000, false, true)),
+        ),
+        ([].as_slice(), Err(0)),
+        (["machines"].as_slice(), Err(0)),
+        (["run", "plain", "p", "--script", "s"].as_slice(), Err(0)),
+        (["machine"].as_slice(), Err(1)),
+        (["machine", ""].as_slice(), Err(1)),
+        (["machine", "--mul", "p"].as_slice(), Err(1)),
+        (["machine", "p", "q"].as_slice(), Err(2)),
+        (["machine", "p", "--seed", "1"].as_slice(), Err(2)),
+        (["machine", "p", "--limit"].as_slice(), Err(3)),
+        (["machine", "p", "--limit", "1000000001"].as_slice(), Err(3)),
+        (
+            ["machine", "p", "--limit", "00000000003"].as_slice(),
+            Err(3),
+        ),
+        (["machine", "p", "--limit", "+3"].as_slice(), Err(3)),
+        (["machine", "p", "--limit", ""].as_slice(), Err(3)),
+        (["machine", "p", "--show", "moves"].as_slice(), Err(3)),
+        (
+            ["machine", "p", "--limit", "3", "--mul", "--limit", "3"].as_slice(),
+            Err(5),
+        ),
+    ];
+    for (row, wanted) in rows {
+        let words = words_of(alloc, row)?;
+        assert!(rt; machine_asked(words.as_slice()) == wanted);
+    }
+    Ok(())
+}

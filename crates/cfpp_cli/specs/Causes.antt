@@ -1,0 +1,19 @@
+-- Which answers say that the program's input or output failed.
+use Rattle.std.specs.Prelude.{Result, Ok, Err}
+use Rattle.cfpp_cli.specs.declared.status.Status.{Status}
+use Rattle.cfpp_cli.specs.declared.status.Status.TheVariants as status
+use Rattle.cfpp_cli.specs.declared.status.Which.TheVariants as which
+
+-- an error where the answer is that the program's input failed
+abbrev pub input_answered : Status → Result (Unit {0}) (Unit {0})
+input_answered (status.ReadFault which.Input) = Err tt
+input_answered (status.ReadFault which.Layout) = Ok tt
+input_answered (status.ReadFault which.Program) = Ok tt
+input_answered (status.ReadFault which.Script) = Ok tt
+input_answered (status.ReadFault which.Source) = Ok tt
+input_answered _ = Ok tt
+
+-- an error where the answer is that the program's output failed
+abbrev pub output_answered : Status → Result (Unit {0}) (Unit {0})
+output_answered status.WriteFault = Err tt
+output_answered _ = Ok tt

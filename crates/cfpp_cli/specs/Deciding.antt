@@ -1,0 +1,35 @@
+-- What is decided before the closing lines of a report are put.
+use Rattle.std.specs.Prelude.{ℕ, List, ◌++◌, Option, Result, Ok, Err}
+use Rattle.cf_io.specs.Puts.{Writes}
+use Rattle.cf_io.specs.declared.failed.Failed.{Failed}
+use Rattle.cf_words.specs.Words.{Asked}
+use Rattle.cfpp_cli.specs.Causes.{input_answered, output_answered}
+use Rattle.cfpp_cli.specs.Outside.{Outside}
+use Rattle.cfpp_cli.specs.Top.{Reading, Answers, Breaks}
+use Rattle.cfpp_cli.specs.declared.answer.Answer.{Answer}
+use Rattle.cfpp_cli.specs.declared.status.Status.{Status}
+
+-- some lines were put, and with the closing lines they are the answer's report; or the report failed
+abbrev pub Decides : (Status → List ℕ → Type 0) → Type 0 → Option (List ℕ) → Option (List ℕ) →
+    Result Answer Failed → Type 0
+Decides answers breaks blank full (Ok answer) =
+    (lines : List ℕ) × Writes blank full lines × answers answer.status (lines ++ answer.closing)
+Decides answers breaks blank full (Err failed) = breaks
+
+-- an error where the decision is that the program's input failed
+abbrev pub input_decided : Result Answer Failed → Result (Unit {0}) (Unit {0})
+input_decided (Ok answer) = input_answered answer.status
+input_decided (Err failed) = Ok tt
+
+-- an error where the decision is that the program's output failed
+abbrev pub output_decided : Result Answer Failed → Result (Unit {0}) (Unit {0})
+output_decided (Ok answer) = output_answered answer.status
+output_decided (Err failed) = Ok tt
+
+-- what the words come to
+pub record Decided (words : List (List ℕ)) (before after : Outside)
+    (blank full : Option (List ℕ)) (result : Result Answer Failed) : Type 0 where
+  pub reading : Result Asked ℕ
+  pub reads : Reading words reading
+  pub decides : Decides (Answers reading before after) (Breaks reading before after blank full)
+      blank full result
