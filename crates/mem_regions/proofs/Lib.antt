@@ -2,10 +2,11 @@ pub mod Causes
 pub mod Finding
 pub mod Kept
 pub mod Lent
-pub mod Mapped
 pub mod Loads
+pub mod Mapped
 pub mod Parts
 pub mod Places
 pub mod RegionLemmas
+pub mod Words
 pub mod WriteBack
 pub mod Writes

@@ -67,7 +67,12 @@ impl Regions {
         ensures number { result ≡ load_at self.now addr width }
         ensures permission { permission_told result ≡ permits_at (bounds_of self.now) addr width false }
     {
-        self.number_at(addr, width)
+        // The search is made for each width by itself, which is faster.
+        match width {
+            1 => self.number_at(addr, 1),
+            2 => self.number_at(addr, 2),
+            _ => self.number_at(addr, 4),
+        }
     }
 
     /// The index of the first region that permits the store.
@@ -76,9 +81,12 @@ impl Regions {
         requires { IsWidth width }
         ensures { result ≡ position (writes_in addr width) self.now.areas }
     {
-        self.list
-            .iter()
-            .position(|region| region.permits_some(addr, width, true))
+        for (place, region) in self.list.iter().enumerate() {
+            if region.permits_some(addr, width, true) {
+                return Some(place);
+            }
+        }
+        None
     }
 
     /// Writes the low bytes of the number in the region at an index.
@@ -93,12 +101,10 @@ impl Regions {
         region.store(addr, width, number);
     }
 
-    /// Writes the low 1, 2 or 4 bytes of the number at the address, in little-endian order. The code of a region stays
-    /// as it is. `Misaligned` comes where the width does not divide the address, and `NoAccess` where it does and the
-    /// bytes do not lie in one region that may be written; memory then stays as it is.
+    /// Writes the low bytes of the number at the address.
     #[inline(always)]
     #[tactic(auto, using(crate::proofs::Writes::storing), unfolding(crate::specs::Access::permits_at, crate::specs::Writing::stored))]
-    pub fn store(&mut self, addr: u32, width: u32, number: u32) -> Result<(), MemErr>
+    fn store_number(&mut self, addr: u32, width: u32, number: u32) -> Result<(), MemErr>
         requires { IsWidth width }
         ensures answer { result ≡ permits_at (bounds_of self.old) addr width true }
         ensures memory { self.new ≡ stored self.old addr width number }
@@ -113,6 +119,24 @@ impl Regions {
                 Ok(())
             }
             None => Err(MemErr::NoAccess),
+        }
+    }
+
+    /// Writes the low 1, 2 or 4 bytes of the number at the address, in little-endian order. The code of a region stays
+    /// as it is. `Misaligned` comes where the width does not divide the address, and `NoAccess` where it does and the
+    /// bytes do not lie in one region that may be written; memory then stays as it is.
+    #[inline(always)]
+    pub fn store(&mut self, addr: u32, width: u32, number: u32) -> Result<(), MemErr>
+        requires { IsWidth width }
+        ensures answer { result ≡ permits_at (bounds_of self.old) addr width true }
+        ensures memory { self.new ≡ stored self.old addr width number }
+        ensures unchanged { OnErr result (self.new ≡ self.old) }
+    {
+        // As for a load, the search is made for each width by itself.
+        match width {
+            1 => self.store_number(addr, 1, number),
+            2 => self.store_number(addr, 2, number),
+            _ => self.store_number(addr, 4, number),
         }
     }
 

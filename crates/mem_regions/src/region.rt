@@ -7,7 +7,7 @@ ghost use Rattle.mem_regions.specs.Fetching.{fetches_in, word_in, synced_area};
 ghost use Rattle.mem_regions.specs.Writing.{area_with};
 ghost use Rattle.mem_regions.specs.Bytes.{le_bytes};
 
-use crate::numbers::{bytes_of, number_of};
+use crate::numbers::{bytes_of, word_of};
 use std::marker::Model;
 
 /// A region: its bytes, and where it is executable a copy of them as its code.
@@ -83,7 +83,7 @@ impl Region {
         ensures { result ≡ word_in pc self.now }
     {
         let start = (pc - self.base) as usize;
-        number_of(&self.code[start..start + 4])
+        word_of(&self.code[start..start + 4])
     }
 
     /// Makes the code of an executable region a copy of its bytes again.
