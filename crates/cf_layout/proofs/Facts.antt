@@ -1,14 +1,14 @@
 -- What follows of an accepted layout, in the form in which the rules of the moves need it.
-use Rattle.std.proofs.Common.{◌≡◌, ◌⊎◌, inl, inr, ℕ, zero, suc, ◌+◌, ◌<◌, ◌≤◌, List, [], ◌∷◌, All, Bool, true, false, cond, Option, Some, None, length, get_or, refl, ap, subst, arith, ◌∙◌, sym}
-use Rattle.std.specs.Prelude.{◌||◌, find, filter, position, slice_get, nat_lt, nat_eq, is_some, unwrap_or}
-use Rattle.std.specs.List.{list_any, position_or_len}
+use Rattle.std.proofs.Common.{◌≡◌, ◌⊎◌, inl, inr, ℕ, zero, suc, ◌<◌, ◌≤◌, List, [], ◌∷◌, All, Bool, true, false, Option, Some, None, length, get_or, refl, ap, subst, arith, ◌∙◌, sym}
+use Rattle.std.specs.Prelude.{◌||◌, filter, position, slice_get, nat_eq, is_some, unwrap_or}
+use Rattle.std.specs.List.{list_any}
 use Rattle.std.proofs.lemmas.List.Quantifiers.{position-Some}
 use Rattle.std.proofs.lemmas.List.Elements.{All-nil, All-tail}
 use Rattle.std.proofs.lemmas.Bool.Decides.{nat_tests}
 use Rattle.rv_inst.specs.declared.classes.Class.{Class}
 use Rattle.rv_inst.specs.declared.classes.Class.TheVariants.{Add, Logic, Shift, Compare, Branch, Jump, Memory, Serial, Free, Mul, Div}
-use Rattle.cf_layout.specs.Layout.{Plan, SidingPlan, place_of, same_class, no_siding, siding_at, siding_of, launch_stage, recover_stage, cells_of, serves, stages_of, unit_at, unit_homes, homes, is_homed, last_stage, last_of, recovers_by}
-use Rattle.cf_layout.specs.Accepted.{is_needed, is_control, memory_launch, IsStage, IsSiding, IsAccepted}
+use Rattle.cf_layout.specs.Layout.{Plan, SidingPlan, place_of, same_class, no_siding, siding_at, siding_of, launch_stage, recover_stage, cells_of, serves, stages_of, unit_at, unit_homes, homes, is_homed, last_of, recovers_by}
+use Rattle.cf_layout.specs.Accepted.{memory_launch, IsStage, IsSiding, IsAccepted}
 use Rattle.std.proofs.lemmas.List.Folds.{list_any_at}
 use Rattle.std.proofs.Math.Bool.{or-true, or-false}
 use Rattle.cf_layout.proofs.Counts.{same_true, any_kept}

@@ -1,6 +1,6 @@
 pub mod Words
 pub mod Reading
-pub mod Tests
+pub mod Steps
 pub mod Places
 pub mod Counts
 pub mod Passing

@@ -81,7 +81,7 @@ pub(crate) fn listed(units: &[(Class, Listed<i64>)], class: Class) -> &[i64]
 }
 
 /// The siding that is asked for the class.
-#[tactic(auto, using(crate::proofs::Tests::found_small), unfolding(crate::specs::Refusal::siding_for))]
+#[tactic(auto, using(crate::proofs::Steps::found_small), unfolding(crate::specs::Refusal::siding_for))]
 pub(crate) fn siding_for(sidings: &[Siding], class: Class) -> Option<&Siding>
     ensures first { option_copied result ≡ siding_for sidings.now class }
     ensures small { All IsSmall sidings.now → IfSome result (λ siding. IsSmall siding.now) }

@@ -82,7 +82,7 @@ fn check_unit(
 }
 
 /// Tests each unit in order.
-#[tactic(auto, using(crate::proofs::Tests::units_step))]
+#[tactic(auto, using(crate::proofs::Steps::units_step))]
 fn check_units(most: u32, units: &[(Class, Listed<i64>)]) -> Result<(), LayoutErr>
     ensures { result ≡ told (units_refusal most [] units.now) }
 {
@@ -105,7 +105,7 @@ fn stands_before(
 }
 
 /// The first of the classes that stands before it, in a unit, in one of the sidings or among them.
-#[tactic(auto, using(crate::proofs::Tests::repeated_step))]
+#[tactic(auto, using(crate::proofs::Steps::repeated_step))]
 fn first_repeated(
     units: &[(Class, Listed<i64>)],
     before: &[Siding],
@@ -184,7 +184,7 @@ fn check_siding(
 }
 
 /// Tests each siding in order.
-#[tactic(auto, using(crate::proofs::Tests::sidings_step))]
+#[tactic(auto, using(crate::proofs::Steps::sidings_step))]
 fn check_each_siding(
     most: u32,
     units: &[(Class, Listed<i64>)],

@@ -1,16 +1,15 @@
 -- What a document asks for names computed classes alone.
-use Rattle.std.proofs.Common.{◌≡◌, ℕ, ℤ, ◌<◌, List, [], ◌∷◌, ◌++◌, All, Bool, true, false, cond, Option, Some, None, codes, length, map, refl, arith}
+use Rattle.std.proofs.Common.{ℕ, ℤ, List, [], ◌∷◌, ◌++◌, All, Bool, true, false, cond, Option, Some, None, codes, arith}
 use Rattle.std.specs.Prelude.{unwrap_or, ◌&&◌}
-use Rattle.std.proofs.lemmas.List.Elements.{All-cons, All-nil, All-from_recursion}
+use Rattle.std.proofs.lemmas.List.Elements.{All-cons, All-nil}
 use Rattle.toml.specs.Data.{Data, Items, no_items, item, Members, get_member, as_table}
 use Rattle.rv_inst.specs.declared.classes.Class.{Class}
 use Rattle.rv_inst.specs.declared.classes.Class.TheVariants.{Add, Logic, Shift, Compare, Branch, Jump, Memory, Mul, Div}
 use Rattle.cf_layout.specs.declared.parts.Siding.{Siding}
-use Rattle.cf_layout.specs.declared.parts.Parts.{Parts}
-use Rattle.cf_layout.specs.Layout.{place_of, computed_classes}
+use Rattle.cf_layout.specs.Layout.{computed_classes}
 use Rattle.cf_layout.specs.Acceptable.{IsComputed, AreComputed}
 use Rattle.layout_file.specs.Names.{class_name, same_text, class_of}
-use Rattle.layout_file.specs.Reading.{classes_of, items_at, members_at, unit_in, units_among, siding_in, sidings_of, sidings_in, parts_in, asked_by, is_second, text_in, integers_of, items_in}
+use Rattle.layout_file.specs.Reading.{classes_of, items_at, members_at, unit_in, units_among, siding_in, sidings_of, sidings_in, parts_in, text_in, integers_of, items_in}
 
 -- a class, or what is behind it, is computed where both are
 either : (b : Bool) (c : Class) (rest : Option Class) → IsComputed c → IsComputed (unwrap_or rest Add) → IsComputed (unwrap_or (cond b (Some c) rest) Add)

@@ -9,7 +9,7 @@ use Rattle.toml.specs.View.{view, items_view, members_view}
 use Rattle.toml.specs.declared.value.Value.{Value}
 use Rattle.layout_file.specs.declared.form.Form.{Form}
 use Rattle.layout_file.specs.declared.form.Shape.{Shape}
-use Rattle.layout_file.specs.Tables.{knows, fits, has_shape, all_have, item_count, first_unknown, first_misfit}
+use Rattle.layout_file.specs.Tables.{knows, has_shape, all_have, item_count, first_unknown}
 
 -- all elements are of a type where each value is
 pub all_have_view : (s : Shape) (vs : List Value) → all_have s (items_view vs) ≡ list_all (λ v. has_shape s (view v)) vs

@@ -1,5 +1,5 @@
 -- The words that a layout file has for the classes of instructions.
-use Rattle.std.specs.Prelude.{ℕ, nat_eq, List, codes, Bool, true, false, ◌&&◌, if◌then◌else◌, Option, Some, None}
+use Rattle.std.specs.Prelude.{ℕ, nat_eq, List, codes, Bool, ◌&&◌, if◌then◌else◌, Option, Some, None}
 use lib.Pointwise.{pointwise}
 use Rattle.rv_inst.specs.declared.classes.Class.{Class}
 use Rattle.rv_inst.specs.declared.classes.Class.TheVariants.{Add, Logic, Shift, Compare, Branch, Jump, Memory, Serial, Free, Mul, Div}

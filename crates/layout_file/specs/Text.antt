@@ -1,5 +1,5 @@
 -- The one text that is written for a layout.
-use Rattle.std.specs.Prelude.{ℕ, List, [], ◌∷◌, ◌++◌, map, codes, decimal, Bool, true, false, ◌||◌, if◌then◌else◌}
+use Rattle.std.specs.Prelude.{ℕ, List, [], ◌∷◌, ◌++◌, map, codes, decimal, Bool, ◌||◌, if◌then◌else◌}
 use Rattle.rv_inst.specs.declared.classes.Class.{Class}
 use Rattle.cf_layout.specs.Layout.{SidingPlan, Plan, computed_classes, stages_of, has_mul}
 use Rattle.layout_file.specs.Names.{class_name}

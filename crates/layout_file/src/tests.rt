@@ -1,4 +1,4 @@
-use crate::{FileErr, read_layout};
+use crate::{FileErr, read_layout, write_layout};
 use cf_layout::LayoutErr;
 use rv_inst::Class;
 
@@ -6,11 +6,17 @@ const TINY: &[u8] =
     b"format = 1\nstages = 2\nlane = 4\n\n[units]\nadd = [1, 2]\nlogic = [1]\nshift = [2]\ncompare = [1]\nbranch = [1]\njump = [1]\n\n[[siding]]\nclasses = [\"memory\"]\nlaunch = 1\nrecover = 2\ncells = 1\n";
 
 #[test]
-fn reads_a_layout(rt: HostRuntime) -> Result<(), FileErr> {
-    let layout = read_layout(rt.alloc(), TINY)?;
-    assert_eq!(rt; layout.stages(), 2);
-    assert!(rt; layout.unit_at(Class::Add, 2) && !layout.unit_at(Class::Logic, 2));
-    Ok(())
+fn reads_and_writes_a_layout(rt: HostRuntime) {
+    let alloc = rt.alloc();
+    match read_layout(alloc, TINY) {
+        Ok(layout) => {
+            assert_eq!(rt; layout.stages(), 2);
+            assert!(rt; layout.unit_at(Class::Add, 2) && !layout.unit_at(Class::Logic, 2));
+            let file = write_layout(alloc, &layout).expect(&rt, "there is memory");
+            assert!(rt; file.as_slice() == TINY);
+        }
+        Err(_) => assert!(rt; false),
+    }
 }
 
 #[test]

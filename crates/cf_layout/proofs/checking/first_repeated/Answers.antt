@@ -1,7 +1,7 @@
 use Rattle.std.proofs.Common.{sym, ◌∙◌}
 use Rattle.std.specs.Prelude.{◌||◌}
 use Rattle.cf_layout.specs.Asked.{is_unit, is_sided}
-use Rattle.cf_layout.proofs.Tests.{repeated_on}
+use Rattle.cf_layout.proofs.Steps.{repeated_on}
 use Rattle.cf_layout.proofs.checking.first_repeated.Goals as goal
 
 pub loop-index-preserved : goal.loop-index-preserved

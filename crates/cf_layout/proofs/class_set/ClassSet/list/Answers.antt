@@ -1,4 +1,4 @@
-use Rattle.std.proofs.Common.{arith, refl, ◌∙◌}
+use Rattle.std.proofs.Common.{◌∙◌}
 use Rattle.cf_layout.specs.Layout.{computed_classes}
 use Rattle.cf_layout.proofs.Words.{class_listed, classes_listed}
 use Rattle.cf_layout.proofs.class_set.ClassSet.list.Goals as goal
