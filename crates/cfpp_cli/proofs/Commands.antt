@@ -1,6 +1,5 @@
 -- Commands that are not built are asked by no words.
-use Rattle.std.proofs.Common.{◌≡◌, ℕ, List, true, Option, Some, None}
-use Rattle.std.specs.Option.{option_map}
+use Rattle.std.proofs.Common.{◌≡◌, ℕ, List, true, Some}
 use Rattle.cf_words.specs.declared.options.Show.{Show}
 use Rattle.cf_words.specs.Options.{Given, given_in}
 use Rattle.cf_words.specs.Words.{is_built, name_of, Subject, machine_on, check_on, list_on, asm_on, run_on, Layout, Asked, machine, check, listing, asm, run, asked_by, Asks}

@@ -8,14 +8,14 @@ use Rattle.rv_machine.specs.declared.outcome.Retired.{Retired}
 use Rattle.rv_machine.specs.declared.outcome.Stepped.TheVariants as stepped
 use Rattle.rv_machine.specs.Hart.{Hart}
 use Rattle.rv_machine.specs.Machine.{Machine}
-use Rattle.rv_machine.specs.Streams.{Streams, IsTold, Becomes, Leaves}
+use Rattle.rv_machine.specs.Streams.{Streams, IsTold, Leaves}
 use Rattle.rv_machine.specs.Outcome.{Outcome, Next, Trap, Exit}
 use Rattle.rv_machine.specs.Step.{step, step_on, behind}
 use Rattle.rv_machine.specs.After.{after}
 use Rattle.rv_machine.specs.Acts.{Acts, Stops, Steps}
 use Rattle.rv_machine.proofs.Told.{rest-told, stays, leaves-again}
 use Rattle.cfpp_cli.specs.Options.{Chosen, shown}
-use Rattle.cfpp_cli.specs.Lines.{line_text, text_of, text_from, lines_of, LeadsBy, ReachesBy}
+use Rattle.cfpp_cli.specs.Lines.{line_text, lines_of, LeadsBy, ReachesBy}
 use Rattle.cfpp_cli.specs.Finish.{opening, Finishes, Closes, Runs, BreaksOff, Ran}
 use Rattle.cfpp_cli.specs.declared.running.Finish.{Finish}
 use Rattle.cfpp_cli.specs.declared.running.Finish.TheVariants as finish

@@ -1,5 +1,5 @@
 -- The parts of an ELF file that passed its tests lie in the file.
-use Rattle.std.proofs.Common.{◌≡◌, ◌<◌, ℕ, ◌+◌, ◌-◌, ◌^◌, Some, List, [], ◌∷◌, ◌++◌, All, length, arith}
+use Rattle.std.proofs.Common.{◌≡◌, ◌<◌, ℕ, ◌+◌, ◌-◌, ◌^◌, Some, List, [], ◌∷◌, All, length, arith}
 use Rattle.std.specs.Prelude.{slice_index_or, filter, min}
 use Rattle.std.proofs.lemmas.List.Elements.{All-append, All-cons, All-nil, All-map, All-filter}
 use Rattle.std.proofs.lemmas.List.{length-append}

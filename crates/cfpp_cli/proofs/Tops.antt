@@ -1,5 +1,5 @@
 -- What was decided and the put of the closing lines are what the top call does.
-use Rattle.std.proofs.Common.{◌≡◌, ◌≤◌, ℕ, List, ◌++◌, Option, Result, Ok, Err, refl, inl, inr, arith}
+use Rattle.std.proofs.Common.{◌≤◌, ℕ, List, ◌++◌, Option, Ok, Err, refl, inl, inr, arith}
 use Rattle.cf_io.specs.Causes.{Rose, HasCause}
 use Rattle.cf_io.specs.Puts.{Writes, WritesFront}
 use Rattle.cf_io.specs.declared.failed.Failed.{Failed}

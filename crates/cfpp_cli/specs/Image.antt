@@ -1,5 +1,5 @@
 -- What a program file is: the parts of memory that it describes, where it is entered, and why it is no program (Tool Interface Standard, Executable and Linking Format Specification, "Program Loading"; flat images are a convention of this project).
-use Rattle.std.specs.Prelude.{◌≡◌, ◌<◌, ◌≤◌, ℕ, List, [], ◌∷◌, ◌++◌, length, map, filter, nat_lt, Bool, true, false, Option, Some, if◌then◌else◌}
+use Rattle.std.specs.Prelude.{◌≡◌, ◌<◌, ◌≤◌, ℕ, List, [], ◌∷◌, ◌++◌, length, map, filter, nat_lt, Bool, true, false, Some, if◌then◌else◌}
 use Rattle.elf_view.specs.Executables.{IsElf}
 use Rattle.elf_view.specs.Headers.{file_header}
 use Rattle.elf_view.specs.Refusal.{starts_with_elf}

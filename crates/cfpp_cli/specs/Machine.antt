@@ -1,5 +1,5 @@
 -- What the command `machine` answers, and what it leaves of the outside.
-use Rattle.std.specs.Prelude.{◌≡◌, ◌≤◌, ℕ, ◌+◌, List, ◌++◌, take, codes, Option, Some, None}
+use Rattle.std.specs.Prelude.{◌≡◌, ℕ, ◌+◌, List, ◌++◌, take, codes, Option, Some, None}
 use Rattle.cf_io.specs.Causes.{Rose}
 use Rattle.cf_io.specs.Reads.{Told, with_failed}
 use Rattle.rv_machine.specs.Hart.{Hart}

@@ -66,10 +66,7 @@ fn run_image<S: Source, K: Sink, R: Sink>(
             });
         }
     };
-    let finish = match run(&mut machine, options, input, output, report) {
-        Ok(finish) => finish,
-        Err(failed) => return Err(failed),
-    };
+    let finish = run(&mut machine, options, input, output, report)?;
     let closing = closing_page(options.limit, finish, &machine);
     let status = status_of(options.limit, finish);
     Ok(Answer { status, closing })

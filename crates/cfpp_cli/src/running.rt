@@ -61,8 +61,10 @@ fn step<S: Source, K: Sink>(
 // A page is large, and would slow the run down if it were a local of its loop.
 #[inline(never)]
 fn put_line<R: Sink>(count: u64, line: Retired, report: &mut R) -> Result<(), Failed>
-    ensures ok { OnOk result (Writes (R.written report.old) (R.written report.new) (line_text count line)) }
-    ensures err { OnErr result (WritesFront (R.written report.old) (R.written report.new) (line_text count line)) }
+    ensures ok { OnOk result (Writes (R.written report.old) (R.written report.new)
+        (line_text count line)) }
+    ensures err { OnErr result (WritesFront (R.written report.old) (R.written report.new)
+        (line_text count line)) }
     ensures cause { HasCause (R.faults report.old) (R.faults report.new) result }
 {
     let page = retirement_line(count, line.pc, line.word, line.reg, line.value);
@@ -76,7 +78,8 @@ fn show_line<R: Sink>(shows: bool, count: u64, line: Retired, report: &mut R) ->
     ensures ok { OnOk result (Writes (R.written report.old) (R.written report.new)
         (shown shows (line_text count line))) }
     ensures shows { OnErr result (shows ≡ true) }
-    ensures err { OnErr result (WritesFront (R.written report.old) (R.written report.new) (line_text count line)) }
+    ensures err { OnErr result (WritesFront (R.written report.old) (R.written report.new)
+        (line_text count line)) }
     ensures cause { HasCause (R.faults report.old) (R.faults report.new) result }
 {
     if shows {

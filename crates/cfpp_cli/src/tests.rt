@@ -1,6 +1,6 @@
-//! What no clause says: that calls which need memory succeed, and that the definitions mean what is wanted. The programs
-//! and their reports are worked examples. Their words are read by GNU objdump as the instructions beside them; the ELF
-//! file is as a linker lays it out.
+//! What no clause says: that calls which need memory succeed, and that the definitions mean what is
+//! wanted. The programs and their reports are worked examples. Their words are read by GNU objdump as
+//! the instructions beside them; the ELF file is as a linker lays it out.
 
 ghost use Rattle.std.specs.Prelude.{◌+◌, ◌≤◌};
 

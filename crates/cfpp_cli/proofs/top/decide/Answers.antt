@@ -1,5 +1,4 @@
 use Rattle.std.proofs.Common.{Ok, Err, refl, []}
-use Rattle.cf_words.specs.Views.{asked_of}
 use Rattle.cf_words.specs.Words.{machine}
 use Rattle.cfpp_cli.proofs.Reports.{writes-nothing}
 use Rattle.cfpp_cli.proofs.top.decide.Goals as goal
