@@ -1,0 +1,11 @@
+use Rattle.std.proofs.Common.{◌≡◌, map, length}
+use Rattle.rv_asm.specs.Operations.{beside}
+use Rattle.rv_asm.proofs.operations.beside.Given as goal
+
+abbrev pub invariant-loop-table : goal.invariant-loop-table
+invariant-loop-table g l =
+    beside (map (λ entry. (entry.0.now, entry.1)) l.table) l.word
+    ≡ beside (map (λ entry. (entry.0.now, entry.1)) l.fn.table) l.word
+
+abbrev pub decreases-loop-table : goal.decreases-loop-table
+decreases-loop-table g l = length l.table

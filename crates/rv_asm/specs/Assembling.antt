@@ -1,0 +1,102 @@
+-- The program that a source stands for, or the first refusal: the source's length, bytes that are not ASCII, what a line says by itself, and what it says with all labels known.
+use Rattle.std.specs.Prelude.{ℕ, ◌+◌, Bool, false, nat_lt, Option, Some, None, Result, Ok, Err, List, [], ◌∷◌, ◌++◌, length, is_some, if◌then◌else◌}
+use Rattle.std.specs.List.{list_all}
+use Rattle.rv_asm.specs.declared.refusal.AsmKind.{AsmKind}
+use Rattle.rv_asm.specs.declared.refusal.AsmKind.TheVariants.{LabelTwice, TooLarge, NotAscii}
+use Rattle.rv_asm.specs.declared.refusal.AsmErr.{AsmErr}
+use Rattle.rv_asm.specs.declared.place.Place.{Place}
+use Rattle.rv_asm.specs.declared.draft.Draft.{Draft}
+use Rattle.rv_asm.specs.Answers.{and_then}
+use Rattle.rv_asm.specs.Lines.{source_lines}
+use Rattle.rv_asm.specs.Scanning.{said, label_in, statement_in}
+use Rattle.rv_asm.specs.Items.{Item, Export}
+use Rattle.rv_asm.specs.Places.{start, address_of, place_after, item_at}
+use Rattle.rv_asm.specs.Labels.{Named, value_of, exported}
+use Rattle.rv_asm.specs.Pieces.{Piece, pieces_of}
+
+-- a refusal with the number of its line
+abbrev pub at_line : {A : Type 0} → ℕ → Result A AsmKind → Result A AsmErr
+at_line line (Ok a) = Ok a
+at_line line (Err kind) = Err (record { line = line; kind = kind })
+
+-- no byte is above 127
+unfoldable pub is_ascii : List ℕ → Bool
+is_ascii line = list_all (λ byte. nat_lt byte 128) line
+
+-- the first line that is not ASCII is refused
+abbrev pub are_ascii : ℕ → List (List ℕ) → Result (Unit {0}) AsmErr
+are_ascii above [] = Ok tt
+are_ascii above (line ∷ lines) =
+    if is_ascii line then are_ascii (above + 1) lines
+    else Err (record { line = above + 1; kind = NotAscii })
+
+-- the labels with that of a line, which stands at the line's own address
+abbrev pub with_label : List Named → Place → Option (List ℕ) → Result (List Named) AsmKind
+with_label labels place None = Ok labels
+with_label labels place (Some name) =
+    if is_some (value_of labels name) then Err LabelTwice
+    else Ok (labels ++ record { name = name; value = address_of place; in_text = place.in_text; global = false } ∷ [])
+
+-- what is known behind a line that says this: first its label counts, then its statement
+unfoldable pub drafted : Draft → List ℕ → Result Draft AsmKind
+drafted draft text =
+    and_then (with_label draft.labels draft.place (label_in text)) (λ labels.
+    and_then (item_at draft.place (statement_in text)) (λ item.
+    Ok (record { place = place_after draft.place item; labels = labels })))
+
+-- what is known behind all lines, which is where they end and the labels
+abbrev pub draft_from : ℕ → Draft → List (List ℕ) → Result Draft AsmErr
+draft_from above draft [] = Ok draft
+draft_from above draft (line ∷ lines) =
+    and_then (at_line (above + 1) (drafted draft (said line))) (λ next. draft_from (above + 1) next lines)
+
+-- what stands in the sections above a line
+pub record Sections : Type 0 where
+  pub place : Place
+  pub text : List Piece
+  pub data_pieces : List Piece
+  pub labels : List Named
+
+-- an export marks its label
+abbrev pub marked : List Named → Item → List Named
+marked labels (Export name) = exported labels name
+marked labels item = labels
+
+-- what stands in the sections behind an item, whose pieces stand behind those of its section
+abbrev pub placed : Sections → Item → List Piece → Sections
+placed sections item pieces = record {
+  place = place_after sections.place item;
+  text = if sections.place.in_text then sections.text ++ pieces else sections.text;
+  data_pieces = if sections.place.in_text then sections.data_pieces else sections.data_pieces ++ pieces;
+  labels = marked sections.labels item;
+}
+
+-- what stands in the sections behind a line that says this
+unfoldable pub filled : Sections → List ℕ → Result Sections AsmKind
+filled sections text =
+    and_then (item_at sections.place (statement_in text)) (λ item.
+    and_then (pieces_of sections.labels (address_of sections.place) item) (λ pieces.
+    Ok (placed sections item pieces)))
+
+-- what stands in the sections behind all lines
+abbrev pub sections_from : ℕ → Sections → List (List ℕ) → Result Sections AsmErr
+sections_from above sections [] = Ok sections
+sections_from above sections (line ∷ lines) =
+    and_then (at_line (above + 1) (filled sections (said line))) (λ next. sections_from (above + 1) next lines)
+
+-- nothing in the sections yet
+abbrev pub empty : List Named → Sections
+empty labels = record { place = start; text = []; data_pieces = []; labels = labels }
+
+-- the sections of the lines, in which every label has its value
+abbrev pub sections_of : List (List ℕ) → Result Sections AsmErr
+sections_of lines =
+    and_then (are_ascii 0 lines) (λ u.
+    and_then (draft_from 0 (record { place = start; labels = [] }) lines) (λ draft.
+    sections_from 0 (empty draft.labels) lines))
+
+-- what a source stands for
+unfoldable pub assembled : List ℕ → Result Sections AsmErr
+assembled source =
+    if nat_lt 1048576 (length source) then Err (record { line = 0; kind = TooLarge (length source) })
+    else sections_of (source_lines source)

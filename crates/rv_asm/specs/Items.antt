@@ -1,0 +1,41 @@
+-- What a statement stands for, before the labels' values are known.
+use Rattle.std.specs.Prelude.{ℕ, ◌+◌, ◌*◌, Bool, true, false, List, length, if◌then◌else◌}
+use Rattle.rv_inst.specs.declared.instruction.Instr.{Instr}
+use Rattle.rv_text.specs.declared.statement.Jump.{Jump}
+use Rattle.rv_asm.specs.declared.operations.Width.{Width}
+use Rattle.rv_asm.specs.declared.item.Far.{Far}
+use Rattle.rv_asm.specs.Operands.{bytes_of_width}
+
+-- nothing; a change to the text or to the data; a name that is exported; one or two instructions; a jump or a branch to a label; the address of a label in two instructions; numbers, of which words may be labels; a string, and whether a zero follows; so many zeros
+pub data Item : Type 0 where
+  Nothing : Item
+  Section : (in_text : Bool) → Item
+  Export : (name : List ℕ) → Item
+  Single : Instr → Item
+  Double : Instr → Instr → Item
+  Near : Jump → (label : List ℕ) → Item
+  Distant : Far → (label : List ℕ) → Item
+  Numbers : Width → List (List ℕ) → Item
+  Chars : (bytes : List ℕ) → (zero : Bool) → Item
+  Zeros : ℕ → Item
+
+-- how many bytes it places
+abbrev pub size_of : Item → ℕ
+size_of Nothing = 0
+size_of (Section in_text) = 0
+size_of (Export name) = 0
+size_of (Single i) = 4
+size_of (Double i j) = 8
+size_of (Near jump label) = 4
+size_of (Distant far label) = 8
+size_of (Numbers width operands) = bytes_of_width width * length operands
+size_of (Chars bytes zero) = length bytes + (if zero then 1 else 0)
+size_of (Zeros count) = count
+
+-- it places instructions
+abbrev pub is_code : Item → Bool
+is_code (Single i) = true
+is_code (Double i j) = true
+is_code (Near jump label) = true
+is_code (Distant far label) = true
+is_code _ = false

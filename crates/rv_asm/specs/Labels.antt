@@ -1,0 +1,31 @@
+-- The labels of a source, each with its value (GNU as, "Symbols").
+use Rattle.std.specs.Prelude.{ℕ, codes, unwrap_or, Bool, true, Option, List, map, find, option_map, if◌then◌else◌}
+use Rattle.std.specs.Str.{bytes_eq}
+use Rattle.rv_asm.specs.declared.label.Label.{Label}
+
+-- a label: its name, its value, whether it is in the text, and whether it is exported
+pub record Named : Type 0 where
+  pub name : List ℕ
+  pub value : ℕ
+  pub in_text : Bool
+  pub global : Bool
+
+-- the value of the label of a name
+unfoldable pub value_of : List Named → List ℕ → Option ℕ
+value_of labels name = option_map (λ label. label.value) (find (λ label. bytes_eq label.name name) labels)
+
+-- a label, exported where it has the name
+abbrev pub exported_as : List ℕ → Named → Named
+exported_as name label = if bytes_eq label.name name then record label { global = true } else label
+
+-- the labels, where the label of a name is exported
+unfoldable pub exported : List Named → List ℕ → List Named
+exported labels name = map (exported_as name) labels
+
+-- where a program is entered: at the label `_start`, else at the beginning of the text
+unfoldable pub entry_of : List Named → ℕ
+entry_of labels = unwrap_or (value_of labels (codes "_start")) 0x10000
+
+-- what a label shows of itself
+abbrev pub named : Label → Named
+named label = record { name = label.name; value = label.value; in_text = label.in_text; global = label.global }

@@ -1,0 +1,17 @@
+pub mod Lines
+pub mod Scanning
+pub mod Strings
+pub mod Answers
+pub mod Operands
+pub mod Operations
+pub mod Items
+pub mod Pseudos
+pub mod Reading
+pub mod Places
+pub mod Labels
+pub mod Pieces
+pub mod Assembling
+pub mod Spelling
+pub mod Seen
+pub mod Filling
+pub mod Objects

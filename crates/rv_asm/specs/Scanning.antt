@@ -1,0 +1,66 @@
+-- What stands in a line of assembly: a label, a statement, and a comment (GNU as, "Statements", "Comments" and "Symbol Names").
+use Rattle.std.specs.Prelude.{ℕ, ◌+◌, ◌==◌, ◌&&◌, ◌||◌, Bool, true, false, Option, Some, None, List, [], ◌∷◌, length, take, drop, codes, nat_eq, nat_le, if◌then◌else◌}
+use Rattle.std.specs.List.{starts_with, prefix_len}
+use Rattle.rv_text.specs.Pieces.{trimmed}
+use Rattle.rv_asm.specs.declared.scanning.Quote.{Quote}
+use Rattle.rv_asm.specs.declared.scanning.Quote.TheVariants.{Outside, Inside, Escaped}
+
+abbrev pub is_letter : ℕ → Bool
+is_letter byte = nat_le 65 byte && nat_le byte 90 || nat_le 97 byte && nat_le byte 122
+
+abbrev pub is_digit : ℕ → Bool
+is_digit byte = nat_le 48 byte && nat_le byte 57
+
+-- a name begins with a letter, `_`, `.` or `$`
+unfoldable pub is_name_start : ℕ → Bool
+is_name_start byte = is_letter byte || byte == 95 || byte == 46 || byte == 36
+
+-- and goes on with these and digits
+unfoldable pub is_name_byte : ℕ → Bool
+is_name_byte byte = is_name_start byte || is_digit byte
+
+-- the text begins like a name
+abbrev pub begins_name : List ℕ → Bool
+begins_name [] = false
+begins_name (byte ∷ rest) = is_name_start byte
+
+-- how far the name reaches that a text begins with
+abbrev pub name_length : List ℕ → ℕ
+name_length text = prefix_len is_name_byte text
+
+-- the whole text is a name
+unfoldable pub is_name : List ℕ → Bool
+is_name text = begins_name text && name_length text == length text
+
+-- what a byte makes of being in a string or not: `"` opens and closes it, and `\` takes the next byte's meaning away
+unfoldable pub quote_after : Quote → ℕ → Quote
+quote_after Outside byte = if byte == 34 then Inside else Outside
+quote_after Inside byte = if byte == 34 then Outside else if byte == 92 then Escaped else Inside
+quote_after Escaped byte = Inside
+
+abbrev pub is_outside : Quote → Bool
+is_outside Outside = true
+is_outside Inside = false
+is_outside Escaped = false
+
+-- how many bytes stand before the first `#` outside a string
+abbrev pub comment_at : Quote → List ℕ → ℕ
+comment_at quote [] = 0
+comment_at quote (byte ∷ rest) =
+    if is_outside quote && byte == 35 then 0 else 1 + comment_at (quote_after quote byte) rest
+
+-- what a line says: what stands before its comment, without the blanks around it
+unfoldable pub said : List ℕ → List ℕ
+said line = trimmed (take (comment_at Outside line) line)
+
+-- the text begins with a label: a name, and right behind it `:`
+unfoldable pub has_label : List ℕ → Bool
+has_label text = begins_name text && starts_with nat_eq (drop (name_length text) text) (codes ":")
+
+-- the label that a text begins with
+unfoldable pub label_in : List ℕ → Option (List ℕ)
+label_in text = if has_label text then Some (take (name_length text) text) else None
+
+-- the statement of a text: what stands behind its label
+unfoldable pub statement_in : List ℕ → List ℕ
+statement_in text = if has_label text then drop (name_length text + 1) text else text

@@ -1,0 +1,49 @@
+-- What an item that was read stands for.
+use Rattle.std.specs.Prelude.{◌≡◌, ◌≤◌, [], length, Result, Ok, Err, MatchResult, unwrap_or, IsSome}
+use Rattle.rv_inst.specs.Ranges.{Fits, IsRegister}
+use Rattle.rv_text.specs.declared.statement.Jump.{Jump}
+use Rattle.rv_text.specs.declared.statement.Jump.TheVariants as jump
+use Rattle.rv_asm.specs.declared.item.Far.{Far}
+use Rattle.rv_asm.specs.declared.item.Far.TheVariants as far
+use Rattle.rv_asm.specs.declared.item.Item.{Item as Read}
+use Rattle.rv_asm.specs.declared.item.Item.TheVariants as read
+use Rattle.rv_asm.specs.Strings.{string_of}
+use Rattle.rv_asm.specs.Operands.{operands_of}
+use Rattle.rv_asm.specs.Items.{Item, Nothing, Section, Export, Single, Double, Near, Distant, Numbers, Chars, Zeros}
+
+-- an item, with the texts that it keeps
+abbrev pub seen : Read → Item
+seen read.Nothing = Nothing
+seen (read.Section in_text) = Section in_text
+seen (read.Export name) = Export name.now
+seen (read.Single i) = Single i
+seen (read.Double i j) = Double i j
+seen (read.Near jump label) = Near jump label.now
+seen (read.Distant f label) = Distant f label.now
+seen (read.Numbers width text) = Numbers width (operands_of text.now)
+seen (read.Chars text zero) = Chars (unwrap_or (string_of text.now) []) zero
+seen (read.Zeros count) = Zeros count
+
+-- the answer is this one
+abbrev pub Reads : {E : Type 0} → Result Read E → Result Item E → Type 0
+Reads result answer = MatchResult result (λ item. answer ≡ Ok (seen item)) (λ e. answer ≡ Err e)
+
+-- the registers of a jump or a branch
+abbrev pub JumpFits : Jump → Type 0
+JumpFits (jump.Link rd) = IsRegister rd
+JumpFits (jump.Branch c rs1 rs2) = IsRegister rs1 × IsRegister rs2
+
+abbrev pub FarFits : Far → Type 0
+FarFits (far.Address rd) = IsRegister rd
+FarFits far.Call = Unit {0}
+
+-- the fields of an instruction are in range, a string is one, and texts and zeros are no longer than a source may be
+abbrev pub IsSound : Read → Type 0
+IsSound (read.Single i) = Fits i
+IsSound (read.Double i j) = Fits i × Fits j
+IsSound (read.Near jump label) = JumpFits jump
+IsSound (read.Distant f label) = FarFits f
+IsSound (read.Numbers width text) = length text.now ≤ 1048576
+IsSound (read.Chars text zero) = (length text.now ≤ 1048576) × IsSome (string_of text.now)
+IsSound (read.Zeros count) = count ≤ 1048576
+IsSound _ = Unit {0}

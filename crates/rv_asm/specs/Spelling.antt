@@ -1,0 +1,34 @@
+-- The bytes of a section: each instruction is a word that decodes to it, the low byte first (RISC-V Unprivileged ISA Manual, "RV32I Base Integer Instruction Set"), and bytes stand as they are.
+use Rattle.std.specs.Prelude.{◌≡◌, ◌⊎◌, ℕ, Some, Result, Ok, Err, List, [], ◌∷◌, ◌++◌, length}
+use Rattle.std.specs.Int.{w32, from_le_bytes}
+use Rattle.rv_inst.specs.Decoding.{decoded_m}
+use Rattle.rv_asm.specs.declared.refusal.AsmKind.{AsmKind}
+use Rattle.rv_asm.specs.declared.refusal.AsmKind.TheVariants.{NoMemory}
+use Rattle.rv_asm.specs.Pieces.{Piece, Word, Bytes}
+
+-- the four bytes in front are the word of an instruction
+abbrev pub SpellsPiece : Piece → List ℕ → Type 0
+SpellsPiece (Word i) bytes = (length bytes ≡ 4) × (decoded_m (from_le_bytes w32 bytes) ≡ Some i)
+SpellsPiece (Bytes own) bytes = bytes ≡ own
+
+-- the bytes begin with those of the piece, and the others are the rest
+pub record Begins (piece : Piece) (Rest : List ℕ → Type 0) (bytes : List ℕ) : Type 0 where
+  pub front : List ℕ
+  pub back : List ℕ
+  pub whole : bytes ≡ front ++ back
+  pub first : SpellsPiece piece front
+  pub others : Rest back
+
+-- the bytes are those of the pieces, one after the other
+abbrev pub Spells : List Piece → List ℕ → Type 0
+Spells [] bytes = bytes ≡ []
+Spells (piece ∷ pieces) bytes = Begins piece (Spells pieces) bytes
+
+-- bytes that are the answer
+abbrev pub Gives : List ℕ → Result (List Piece) AsmKind → Type 0
+Gives bytes (Ok pieces) = Spells pieces bytes
+Gives bytes (Err kind) = ⊥
+
+-- a refusal that is the answer, where memory is not refused
+abbrev pub IsRefusal : {A : Type 0} → AsmKind → Result A AsmKind → Type 0
+IsRefusal kind answer = (kind ≡ NoMemory) ⊎ (answer ≡ Err kind)

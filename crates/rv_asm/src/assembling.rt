@@ -1,0 +1,88 @@
+//! A source is assembled.
+
+ghost use Rattle.std.specs.Prelude.{◌≡◌, ◌≤◌, length, IfOk, IfErr};
+ghost use Rattle.rv_asm.specs.Lines.{source_lines};
+ghost use Rattle.rv_asm.specs.Labels.{entry_of};
+ghost use Rattle.rv_asm.specs.Assembling.{is_ascii, are_ascii, sections_of, assembled};
+ghost use Rattle.rv_asm.specs.Objects.{Objects, Refuses};
+
+use crate::draft::first_look;
+use crate::label::Labels;
+use crate::lines::cut_line;
+use crate::object::{Bytes, Object};
+use crate::place::MOST;
+use crate::refusal::{AsmErr, AsmKind};
+use crate::sections::second_look;
+use std::alloc::Global;
+
+#[tactic(auto, unfolding(crate::specs::Assembling::is_ascii))]
+fn is_ascii(line: &[u8]) -> bool
+    ensures { result ≡ is_ascii line.now }
+{
+    line.iter().all(|byte| *byte < 128)
+}
+
+/// `NotAscii` of the first line that has a byte above 127.
+fn check_ascii(source: &[u8]) -> Result<(), AsmErr>
+    requires { length source.now ≤ 1048576 }
+    ensures { result ≡ are_ascii 0 (source_lines source.now) }
+{
+    let mut above = 0;
+    let mut rest = source;
+    while !rest.is_empty() {
+        let (line, behind) = cut_line(rest);
+        above += 1;
+        if !is_ascii(line) {
+            return Err(AsmErr {
+                line: above,
+                kind: AsmKind::NotAscii,
+            });
+        }
+        rest = behind;
+    }
+    Ok(())
+}
+
+#[tactic(auto, unfolding(crate::specs::Labels::entry_of))]
+fn entry(labels: &Labels) -> u32
+    ensures { result ≡ entry_of labels.now }
+{
+    labels.value_of(b"_start").unwrap_or(0x1_0000)
+}
+
+fn assemble_lines(alloc: Global, source: &[u8]) -> Result<Object, AsmErr>
+    requires { length source.now ≤ 1048576 }
+    ensures ok { IfOk result (λ object. Objects object (sections_of (source_lines source.now))) }
+    ensures err { IfErr result (λ e. Refuses e (sections_of (source_lines source.now))) }
+{
+    check_ascii(source)?;
+    let draft = first_look(alloc, source)?;
+    let out = second_look(alloc, source, draft.labels)?;
+    let entry = entry(&out.labels);
+    Ok(Object {
+        text_bytes: Bytes::new(out.text),
+        data_bytes: Bytes::new(out.data),
+        labels: out.labels,
+        entry,
+    })
+}
+
+/// The program that a source in the assembly language stands for.
+///
+/// The first refusal is answered: the source's length; the first line that is not ASCII; the first
+/// line that fails by itself; the first line that fails with all labels known, because a label is
+/// never defined or is too far away. Within a line its label is tested first, then its statement is
+/// read, and then it is tested where it stands. `NoMemory` may come at any place.
+#[tactic(auto, unfolding(crate::specs::Assembling::assembled))]
+pub fn assemble(alloc: Global, source: &[u8]) -> Result<Object, AsmErr>
+    ensures ok { IfOk result (λ object. Objects object (assembled source.now)) }
+    ensures err { IfErr result (λ e. Refuses e (assembled source.now)) }
+{
+    if source.len() > MOST {
+        return Err(AsmErr {
+            line: 0,
+            kind: AsmKind::TooLarge(source.len() as u64),
+        });
+    }
+    assemble_lines(alloc, source)
+}

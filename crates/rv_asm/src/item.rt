@@ -1,0 +1,77 @@
+//! What a statement stands for, before the labels' values are known.
+
+ghost use Rattle.std.specs.Prelude.{◌≡◌, ◌≤◌, ◌<◌, ◌^◌, ◌+◌, length};
+ghost use Rattle.rv_asm.specs.Operands.{operands_of};
+ghost use Rattle.rv_asm.specs.Items.{is_code, size_of};
+ghost use Rattle.rv_asm.specs.Seen.{seen, IsSound};
+
+use crate::operations::Width;
+use crate::strings::string_len;
+use rv_inst::Instr;
+use rv_text::Jump;
+
+/// Two instructions that reach any distance.
+#[derive(Clone, Copy)]
+pub enum Far {
+    /// The address of a label, into the register `rd`.
+    Address(u8),
+    /// A call, which returns by x1.
+    Call,
+}
+
+/// What a statement stands for.
+#[derive(Clone, Copy)]
+pub enum Item<'a> {
+    Nothing,
+    /// What follows stands in the text, or in the data.
+    Section(bool),
+    /// The label of this name is exported.
+    Export(&'a [u8]),
+    Single(Instr),
+    Double(Instr, Instr),
+    /// A jump or a branch to a label.
+    Near(Jump, &'a [u8]),
+    /// The same to any distance, or a label's address.
+    Distant(Far, &'a [u8]),
+    /// Numbers, of which words may be labels.
+    Numbers(Width, &'a [u8]),
+    /// A string, and whether a zero follows.
+    Chars(&'a [u8], bool),
+    /// So many zeros.
+    Zeros(u32),
+}
+
+/// Whether it places instructions.
+pub fn is_code(item: Item<'_>) -> bool
+    ensures { result ≡ is_code (seen item.entry) }
+{
+    match item {
+        Item::Single(_) | Item::Double(..) | Item::Near(..) | Item::Distant(..) => true,
+        _ => false,
+    }
+}
+
+/// How many numbers stand between the commas of a text.
+#[tactic(auto, using(crate::proofs::Splits::counts))]
+fn count_numbers(text: &[u8]) -> usize
+    ensures count { result ≡ length (operands_of text.now) }
+    ensures within { result ≤ length text.now + 1 }
+{
+    text.iter().filter(|byte| **byte == b',').count() + 1
+}
+
+/// How many bytes it places.
+pub fn size_of(item: Item<'_>) -> usize
+    requires { IsSound item }
+    ensures size { result ≡ size_of (seen item.entry) }
+    ensures bounded { result < 2 ^ 32 }
+{
+    match item {
+        Item::Nothing | Item::Section(_) | Item::Export(_) => 0,
+        Item::Single(_) | Item::Near(..) => 4,
+        Item::Double(..) | Item::Distant(..) => 8,
+        Item::Numbers(width, text) => width.bytes() * count_numbers(text),
+        Item::Chars(text, zero) => string_len(text).unwrap_or(0) + usize::from(zero),
+        Item::Zeros(count) => count as usize,
+    }
+}

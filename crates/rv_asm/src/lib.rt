@@ -1,0 +1,27 @@
+//! The assembler: a source in the assembly language of RV32IM, and the object that it stands for.
+#![tactic(auto)]
+
+mod assembling;
+mod draft;
+mod item;
+mod label;
+mod lines;
+mod object;
+mod operands;
+mod operations;
+mod pieces;
+mod place;
+mod pseudos;
+mod reading;
+mod refusal;
+mod scanning;
+mod sections;
+mod strings;
+
+pub use assembling::assemble;
+pub use label::{Label, Labels, Name};
+pub use object::{Bytes, Object};
+pub use refusal::{AsmErr, AsmKind};
+
+#[cfg(test)]
+mod tests;

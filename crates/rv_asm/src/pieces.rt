@@ -1,0 +1,155 @@
+//! What an item places, once the labels' values are known.
+#![tactic(auto, unfolding(crate::specs::Pieces::near_instr, crate::specs::Pieces::operand_value), using(crate::proofs::Spelt::spelling))]
+
+ghost use Rattle.std.specs.Prelude.{◌≡◌, ◌++◌, ◌∷◌, [], ◌<◌, ◌^◌, Ok, IfOk, IfErr, OnOk, IsSome, unwrap_or, replicate, if◌then◌else◌};
+ghost use Rattle.rv_asm.specs.Strings.{string_of};
+ghost use Rattle.std.specs.Int.{bytes_low_first};
+ghost use Rattle.rv_inst.specs.Ranges.{Fits};
+ghost use Rattle.rv_asm.specs.Operands.{operands_of, bytes_of_width};
+ghost use Rattle.rv_asm.specs.Pieces.{Word, label_value, near_instr, operand_value, bytes_from, pieces_of};
+ghost use Rattle.rv_asm.specs.Spelling.{SpellsPiece, Spells, Gives, IsRefusal};
+ghost use Rattle.rv_asm.specs.Seen.{seen, IsSound, JumpFits, FarFits};
+
+use crate::item::{Far, Item};
+use crate::label::Labels;
+use crate::operands::{cut_operand, names_label, number_of_width};
+use crate::operations::Width;
+use crate::pseudos::{reaching, word_modulo};
+use crate::refusal::AsmKind;
+use crate::strings::push_string;
+use rv_inst::{Instr, encode};
+use rv_text::{Jump, TextErr, distance};
+use std::alloc::{AllocError, Global};
+
+fn word_bytes(i: Instr) -> [u8; 4]
+    requires { Fits i }
+    ensures { SpellsPiece (Word i) result }
+{
+    encode(i).to_le_bytes()
+}
+
+fn single(alloc: Global, i: Instr) -> Result<Vec<u8>, AllocError>
+    requires { Fits i }
+    ensures { IfOk result (λ bytes. Spells (Word i ∷ []) bytes.items) }
+{
+    let word = word_bytes(i);
+    Vec::from_slice(alloc, &word)
+}
+
+fn double(alloc: Global, i: Instr, j: Instr) -> Result<Vec<u8>, AllocError>
+    requires first { Fits i }
+    requires second { Fits j }
+    ensures { IfOk result (λ bytes. Spells (Word i ∷ Word j ∷ []) bytes.items) }
+{
+    let first = word_bytes(i);
+    let second = word_bytes(j);
+    let mut bytes = Vec::from_slice(alloc, &first)?;
+    bytes.extend_from_slice(&second)?;
+    Ok(bytes)
+}
+
+fn label_value(labels: &Labels, name: &[u8]) -> Result<u32, AsmKind>
+    ensures { result ≡ label_value labels.now name.now }
+{
+    labels.value_of(name).ok_or(AsmKind::NoLabel)
+}
+
+/// The jump or the branch at an address to a label.
+fn near(labels: &Labels, pc: u32, jump: Jump, label: &[u8]) -> Result<Instr, AsmKind>
+    requires { JumpFits jump }
+    ensures instr { result ≡ near_instr labels.now pc jump label.now }
+    ensures fits { IfOk result (λ i. Fits i) }
+{
+    let value = label_value(labels, label)?;
+    match jump.to(distance(i64::from(value), pc)) {
+        Ok(instr) => Ok(instr),
+        Err(TextErr::OutOfRange(far)) => Err(AsmKind::TooFar(far)),
+        Err(e) => Err(AsmKind::Text(e)),
+    }
+}
+
+/// The number that an operand stands for.
+fn operand_value(labels: &Labels, width: Width, operand: &[u8]) -> Result<i64, AsmKind>
+    ensures { result ≡ operand_value labels.now width operand.now }
+{
+    if names_label(width, operand) {
+        return Ok(i64::from(label_value(labels, operand)?));
+    }
+    Ok(number_of_width(width, operand)?)
+}
+
+/// Puts the low bytes of a number behind the others, the lowest first.
+#[tactic(auto, using(crate::proofs::Spelt::low))]
+fn push_number(bytes: &mut Vec<u8>, width: Width, word: u32) -> Result<(), AllocError>
+    ensures { OnOk result (bytes.new.items ≡ bytes.old.items ++ bytes_low_first 0 (bytes_of_width width) word) }
+{
+    let low = word.to_le_bytes();
+    bytes.extend_from_slice(&low[..width.bytes()])
+}
+
+/// The bytes of the numbers of a directive.
+fn numbers(alloc: Global, labels: &Labels, width: Width, text: &[u8]) -> Result<Vec<u8>, AsmKind>
+    ensures ok { IfOk result (λ bytes. bytes_from labels.now width [] (operands_of text.now) ≡ Ok bytes.items) }
+    ensures err { IfErr result (λ kind. IsRefusal kind (bytes_from labels.now width [] (operands_of text.now))) }
+{
+    let mut bytes = Vec::new(alloc);
+    let mut rest = Some(text);
+    while let Some(operands) = rest {
+        let (operand, behind) = cut_operand(operands);
+        let number = operand_value(labels, width, operand)?;
+        push_number(&mut bytes, width, word_modulo(number))?;
+        rest = behind;
+    }
+    Ok(bytes)
+}
+
+/// The bytes of a string, and a zero where one follows.
+fn chars(alloc: Global, text: &[u8], zero: bool) -> Result<Vec<u8>, AllocError>
+    requires { IsSome (string_of text.now) }
+    ensures { IfOk result (λ bytes. bytes.items ≡ unwrap_or (string_of text.now) [] ++ (if zero then 0 ∷ [] else [])) }
+{
+    let mut bytes = Vec::new(alloc);
+    push_string(&mut bytes, text)?;
+    if zero {
+        bytes.push(0)?;
+    }
+    Ok(bytes)
+}
+
+fn zeros(alloc: Global, count: u32) -> Result<Vec<u8>, AllocError>
+    ensures { IfOk result (λ bytes. bytes.items ≡ replicate count 0) }
+{
+    vec![in alloc; 0; count as usize]
+}
+
+/// The bytes of what an item places at an address.
+#[tactic(auto, unfolding(crate::specs::Pieces::pieces_of), using(crate::proofs::Spelt::spelling))]
+pub fn item_bytes(
+    alloc: Global,
+    labels: &Labels,
+    pc: u32,
+    item: Item<'_>,
+) -> Result<Vec<u8>, AsmKind>
+    requires { IsSound item }
+    ensures ok { IfOk result (λ bytes. Gives bytes.items (pieces_of labels.now pc (seen item.entry))) }
+    ensures err { IfErr result (λ kind. IsRefusal kind (pieces_of labels.now pc (seen item.entry))) }
+{
+    match item {
+        Item::Nothing | Item::Section(_) => Ok(Vec::new(alloc)),
+        Item::Export(name) => {
+            label_value(labels, name)?;
+            Ok(Vec::new(alloc))
+        }
+        Item::Single(i) => Ok(single(alloc, i)?),
+        Item::Double(i, j) => Ok(double(alloc, i, j)?),
+        Item::Near(jump, label) => Ok(single(alloc, near(labels, pc, jump, label)?)?),
+        Item::Distant(far, label) => {
+            let value = label_value(labels, label)?;
+            let (i, j) = reaching(far, value.wrapping_sub(pc));
+            Ok(double(alloc, i, j)?)
+        }
+        Item::Numbers(width, text) => numbers(alloc, labels, width, text),
+        Item::Chars(text, zero) => Ok(chars(alloc, text, zero)?),
+        Item::Zeros(count) => Ok(zeros(alloc, count)?),
+    }
+}

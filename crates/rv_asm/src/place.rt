@@ -1,0 +1,105 @@
+//! Where a line stands: in the text or in the data, behind what stands there already.
+#![tactic(auto, unfolding(crate::specs::Places::address_of, crate::specs::Places::place_after, crate::specs::Places::fits_at))]
+
+ghost use Rattle.std.specs.Prelude.{◌≡◌, ◌≤◌, ◌+◌, ◌<◌, ◌^◌, Ok};
+ghost use Rattle.rv_asm.specs.Items.{size_of};
+ghost use Rattle.rv_asm.specs.Places.{IsPlace, start, address_of, length_at, grown, place_after, fits_at};
+ghost use Rattle.rv_asm.specs.Seen.{seen, IsSound};
+
+use crate::item::{Item, is_code, size_of};
+use crate::refusal::AsmKind;
+
+/// The most bytes that a source, the text or the data may have.
+pub const MOST: usize = 0x10_0000;
+
+/// Where a line stands: the section, and how long both are above the line.
+#[derive(Clone, Copy)]
+pub struct Place {
+    pub in_text: bool,
+    pub text_len: u32,
+    pub data_len: u32,
+}
+
+impl Place {
+    /// The beginning of an empty text.
+    pub fn start() -> Place
+        ensures { result ≡ start }
+    {
+        Place {
+            in_text: true,
+            text_len: 0,
+            data_len: 0,
+        }
+    }
+
+    /// The address: the text starts at 0x10000, and the data at 0x200000.
+    pub fn address(self) -> u32
+        requires { IsPlace self }
+        ensures { result ≡ address_of self }
+    {
+        if self.in_text {
+            0x1_0000 + self.text_len
+        } else {
+            0x20_0000 + self.data_len
+        }
+    }
+
+    fn length(self) -> u32
+        ensures { result ≡ length_at self }
+    {
+        if self.in_text {
+            self.text_len
+        } else {
+            self.data_len
+        }
+    }
+
+    fn grown(self, size: u32) -> Place
+        requires place { IsPlace self }
+        requires size { length_at self + size ≤ 1048576 }
+        ensures { result ≡ grown self size }
+    {
+        if self.in_text {
+            Place {
+                text_len: self.text_len + size,
+                ..self
+            }
+        } else {
+            Place {
+                data_len: self.data_len + size,
+                ..self
+            }
+        }
+    }
+
+    /// The place behind an item.
+    pub fn after(self, item: Item<'_>) -> Place
+        requires place { IsPlace self }
+        requires sound { IsSound item }
+        requires fits { fits_at self (seen item) ≡ Ok tt }
+        ensures place { result ≡ place_after self (seen item.entry) }
+        ensures within { IsPlace result }
+    {
+        match item {
+            Item::Section(in_text) => Place { in_text, ..self },
+            _ => self.grown(size_of(item) as u32),
+        }
+    }
+
+    /// `Misplaced` where the item is code and stands in the data or at an address that 4 does not divide, and `TooLarge`
+    /// where its section would be too long with it.
+    pub fn check(self, item: Item<'_>) -> Result<(), AsmKind>
+        requires place { IsPlace self }
+        requires sound { IsSound item }
+        ensures { result ≡ fits_at self (seen item.entry) }
+    {
+        if is_code(item) && (!self.in_text || self.address() % 4 != 0) {
+            return Err(AsmKind::Misplaced);
+        }
+        let length = self.length() as usize + size_of(item);
+        if length > MOST {
+            return Err(AsmKind::TooLarge(length as u64));
+        }
+        Ok(())
+    }
+}

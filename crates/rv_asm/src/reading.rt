@@ -1,0 +1,157 @@
+//! What a statement stands for.
+#![tactic(auto, unfolding(crate::specs::Reading::export_read, crate::specs::Reading::numbers_read, crate::specs::Reading::one_number, crate::specs::Reading::string_read, crate::specs::Reading::instruction_read, crate::specs::Reading::unknown))]
+
+ghost use Rattle.std.specs.Prelude.{◌≡◌, ◌≤◌, ◌<◌, ◌^◌, pos, ◌≤ℤ◌, Ok, Err, IfOk, length};
+ghost use Rattle.std.specs.Int.RustNames.{unsigned_abs};
+ghost use Rattle.rv_asm.specs.Reading.{export_read, numbers_read, one_number, padding, string_read, directive_read, instruction_read, unknown, named_read, statement_read};
+ghost use Rattle.rv_asm.specs.Seen.{Reads, IsSound};
+
+use crate::item::Item;
+use crate::operands::{check_numbers, expect_count};
+use crate::operations::{Directive, Pseudo, Width};
+use crate::pseudos::{jumped, read_pseudo};
+use crate::refusal::AsmKind;
+use crate::scanning::is_name;
+use crate::strings::string_len;
+use rv_text::{
+    Mnemonic, Statement, TextErr, count_operands, number_in, operand, read_statement_of,
+    split_name, trim,
+};
+
+fn read_export(text: &[u8]) -> Result<Item<'_>, TextErr>
+    ensures item { Reads result (export_read text.now) }
+    ensures sound { IfOk result (λ item. IsSound item) }
+{
+    expect_count(1, text)?;
+    let name = operand(text, 0);
+    if is_name(name) {
+        Ok(Item::Export(name))
+    } else {
+        Err(TextErr::UnknownName)
+    }
+}
+
+fn read_numbers(width: Width, text: &[u8]) -> Result<Item<'_>, TextErr>
+    requires { length text.now ≤ 1048576 }
+    ensures item { Reads result (numbers_read width text.now) }
+    ensures sound { IfOk result (λ item. IsSound item) }
+{
+    if count_operands(text) == 0 {
+        return Err(TextErr::WrongCount { got: 0, wanted: 1 });
+    }
+    check_numbers(width, text)?;
+    Ok(Item::Numbers(width, text))
+}
+
+/// The one operand of a directive: a number from 0 to the greatest.
+fn one_number(greatest: i32, text: &[u8]) -> Result<u32, TextErr>
+    requires { pos 0 ≤ℤ greatest }
+    ensures number { result ≡ one_number (unsigned_abs greatest) text.now }
+    ensures within { IfOk result (λ n. n ≤ unsigned_abs greatest) }
+{
+    expect_count(1, text)?;
+    Ok(number_in(0, greatest, operand(text, 0))?.unsigned_abs())
+}
+
+/// How many bytes are missing from an address up to a multiple of 2^exponent.
+fn padding(address: u32, exponent: u32) -> u32
+    requires { exponent ≤ 12 }
+    ensures value { result ≡ padding address (2 ^ exponent) }
+    ensures within { result ≤ 1048576 }
+{
+    let size = 1u32 << exponent;
+    (size - address % size) % size
+}
+
+#[tactic(auto, unfolding(crate::specs::Reading::string_read), using(crate::proofs::Shorter::parts))]
+fn read_string(zero: bool, text: &[u8]) -> Result<Item<'_>, AsmKind>
+    requires { length text.now ≤ 1048576 }
+    ensures item { Reads result (string_read zero text.now) }
+    ensures sound { IfOk result (λ item. IsSound item) }
+{
+    let text = trim(text);
+    match string_len(text) {
+        Some(_) => Ok(Item::Chars(text, zero)),
+        None => Err(AsmKind::BadString),
+    }
+}
+
+/// What a directive at an address stands for.
+#[tactic(auto, unfolding(crate::specs::Reading::directive_read))]
+fn read_directive(directive: Directive, pc: u32, text: &[u8]) -> Result<Item<'_>, AsmKind>
+    requires { length text.now ≤ 1048576 }
+    ensures item { Reads result (directive_read directive pc text.now) }
+    ensures sound { IfOk result (λ item. IsSound item) }
+{
+    Ok(match directive {
+        Directive::Text => {
+            expect_count(0, text)?;
+            Item::Section(true)
+        }
+        Directive::Data => {
+            expect_count(0, text)?;
+            Item::Section(false)
+        }
+        Directive::Globl => read_export(text)?,
+        Directive::Numbers(width) => read_numbers(width, text)?,
+        Directive::Ascii => read_string(false, text)?,
+        Directive::Asciz => read_string(true, text)?,
+        Directive::Space => Item::Zeros(one_number(0x10_0000, text)?),
+        Directive::Align => Item::Zeros(padding(pc, one_number(12, text)?)),
+    })
+}
+
+/// What an instruction at an address stands for.
+#[tactic(auto, unfolding(crate::specs::Reading::instruction_read), using(crate::proofs::Statements::statements))]
+fn read_instruction(mnemonic: Mnemonic, pc: u32, text: &[u8]) -> Result<Item<'_>, TextErr>
+    ensures item { Reads result (instruction_read mnemonic pc text.now) }
+    ensures sound { IfOk result (λ item. IsSound item) }
+{
+    match read_statement_of(mnemonic, text)? {
+        Statement::Whole(instr) => Ok(Item::Single(instr)),
+        Statement::Aimed(jump, target) => jumped(jump, pc, target),
+    }
+}
+
+fn unknown(name: &[u8]) -> AsmKind
+    ensures { result ≡ unknown name.now }
+{
+    if name.starts_with(b".") {
+        AsmKind::UnknownDirective
+    } else {
+        AsmKind::Text(TextErr::UnknownName)
+    }
+}
+
+/// What operands stand for behind a name.
+#[tactic(auto, unfolding(crate::specs::Reading::named_read))]
+fn read_named<'a>(name: &[u8], pc: u32, text: &'a [u8]) -> Result<Item<'a>, AsmKind>
+    requires { length text.now ≤ 1048576 }
+    ensures item { Reads result (named_read name.now pc text.now) }
+    ensures sound { IfOk result (λ item. IsSound item) }
+{
+    if let Some(directive) = Directive::named(name) {
+        return read_directive(directive, pc, text);
+    }
+    if let Some(pseudo) = Pseudo::named(name) {
+        return Ok(read_pseudo(pseudo, pc, text)?);
+    }
+    match Mnemonic::named(name) {
+        Some(mnemonic) => Ok(read_instruction(mnemonic, pc, text)?),
+        None => Err(unknown(name)),
+    }
+}
+
+/// What a statement at an address stands for.
+#[tactic(auto, unfolding(crate::specs::Reading::statement_read), using(crate::proofs::Shorter::parts))]
+pub fn read_statement(pc: u32, text: &[u8]) -> Result<Item<'_>, AsmKind>
+    requires { length text.now ≤ 1048576 }
+    ensures item { Reads result (statement_read pc text.now) }
+    ensures sound { IfOk result (λ item. IsSound item) }
+{
+    if trim(text).is_empty() {
+        return Ok(Item::Nothing);
+    }
+    let (name, behind) = split_name(text);
+    read_named(name, pc, behind)
+}
