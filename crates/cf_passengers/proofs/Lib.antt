@@ -1,0 +1,6 @@
+pub mod Decoded
+pub mod Registers
+pub mod Kept
+pub mod Classes
+pub mod Computing
+pub mod Permitted

@@ -1,0 +1,19 @@
+-- Which sources a passenger waits for ("Counterflow Pipeline Processor Architecture", 1994: garnering).
+use Rattle.std.specs.Prelude.{ℕ, List, [], ◌∷◌, ◌++◌, Option, Some, None}
+use Rattle.cf_bind.specs.declared.passenger.Passenger.{Passenger}
+use Rattle.cf_semantics.specs.Options.{on}
+use Rattle.cf_semantics.specs.Passengers.{missing}
+use Rattle.cf_passengers.specs.declared.asking.Asked.{Asked}
+
+-- the register of the first source without a value
+abbrev pub first_unknown : Passenger → Option ℕ
+first_unknown p = on (missing p.src1) (missing p.src2) Some
+
+-- a list of the value, where there is one
+abbrev pub listed_one : Option ℕ → List ℕ
+listed_one None = []
+listed_one (Some r) = r ∷ []
+
+-- the registers that are requested, in order
+abbrev pub listed : Asked → List ℕ
+listed asked = listed_one asked.first ++ listed_one asked.second

@@ -1,0 +1,23 @@
+//! What an instruction does on its way up the pipe, from its issue to its retirement.
+#![tactic(auto)]
+
+mod asking;
+mod finishing;
+mod guessing;
+mod issuing;
+mod launching;
+mod reading;
+mod retiring;
+mod stopping;
+
+pub use asking::{Asked, requests};
+pub use finishing::{answered, back_in, finish, quits, trapped};
+pub use guessing::{goto, guessed, may_guess};
+pub use issuing::{fetched, fresh, isa_of};
+pub use launching::{launch_trap, operation};
+pub use reading::{first_missing, instruction, kind, missing, value_in};
+pub use retiring::{leaving, retirement};
+pub use stopping::{ends_units, launches, recovers, stops_at};
+
+#[cfg(test)]
+mod tests;

@@ -1,0 +1,53 @@
+//! What is told of a passenger that retires.
+
+ghost use Rattle.std.specs.Prelude.{◌≡◌, IfSome};
+ghost use Rattle.rv_inst.specs.Ranges.{Fits};
+ghost use Rattle.cf_semantics.specs.Lines.{line_of};
+ghost use Rattle.cf_semantics.specs.Events.{IsLeaving, Shows, register_in as register_told};
+
+use crate::reading::{instruction, value_in};
+use cf_bind::{Binding, Passenger};
+use cf_semantics::Event;
+use rv_inst::encode;
+use rv_machine::Retired;
+
+/// The register of a destination, 0 where there is none.
+#[inline(always)]
+fn register_in(destination: Option<Binding>) -> u8
+    ensures { result ≡ register_told destination }
+{
+    match destination {
+        Some(binding) => binding.reg,
+        None => 0,
+    }
+}
+
+/// The line of the passenger, whose instruction has its fields in range.
+#[inline(always)]
+pub fn retirement(p: &Passenger) -> Retired
+    requires { IfSome p.now.what (λ i. Fits i) }
+    ensures { Shows (line_of p.now) result }
+{
+    Retired {
+        pc: p.pc,
+        word: encode(instruction(p)),
+        reg: register_in(p.dst),
+        value: value_in(p.dst),
+    }
+}
+
+/// What is seen of a passenger that leaves at the top: a live one ends the program or retires, and a dead one is not seen. The
+/// fields of its instruction are in range.
+#[inline(always)]
+pub fn leaving(p: &Passenger) -> Event
+    requires { IfSome p.now.what (λ i. Fits i) }
+    ensures { IsLeaving p.now result }
+{
+    if p.dead {
+        return Event::Plain;
+    }
+    match p.ending {
+        Some(end) => Event::Ended(end),
+        None => Event::Retired(retirement(p)),
+    }
+}
