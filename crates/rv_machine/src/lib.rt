@@ -5,7 +5,7 @@ mod machine;
 mod outcome;
 mod serving;
 
-pub use machine::Machine;
+pub use machine::{Machine, MachineParts};
 pub use outcome::{Retired, Served, Stepped};
 pub use serving::serve;
 

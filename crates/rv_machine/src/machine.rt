@@ -34,6 +34,22 @@ pub struct Machine {
     retired: u64,
 }
 
+/// What a machine consists of.
+#[derive(Drop)]
+pub struct MachineParts {
+    /// The address of the next instruction.
+    pub pc: u32,
+
+    /// The 32 registers, of which x0 is zero.
+    pub regs: [u32; 32],
+
+    /// The memory.
+    pub mem: Regions,
+
+    /// How many instructions have retired.
+    pub retired: u64,
+}
+
 impl Model for Machine {
     ghost use Rattle.std.specs.Prelude.{◌≡◌, slice_index};
     ghost use Rattle.rv_machine.specs.Hart.{Hart};
@@ -114,6 +130,20 @@ impl Machine {
         ensures { result ≡ self.now.retired }
     {
         self.retired
+    }
+
+    /// Takes the machine apart.
+    pub fn into_parts(self) -> MachineParts
+        ensures parts { record { pc = result.pc; regs = result.regs; mem = result.mem; retired = result.retired } ≡ self }
+        ensures zero { slice_index result.regs 0 ≡ 0 }
+    {
+        let regs = self.regs;
+        MachineParts {
+            pc: self.pc,
+            regs,
+            mem: self.mem,
+            retired: self.retired,
+        }
     }
 
     #[inline(always)]
