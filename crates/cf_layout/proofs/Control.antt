@@ -75,7 +75,7 @@ unfolding siding_plan
 launch_of o siding e = rw e refl
 
 -- the stage from which memory is reached
-launch_given : (sidings : List asked.Siding) (plan : Plan) → plan.sidings ≡ map siding_plan sidings → is_sided sidings Memory ≡ true → memory_launch plan ≡ memory_launch_in sidings
+pub launch_given : (sidings : List asked.Siding) (plan : Plan) → plan.sidings ≡ map siding_plan sidings → is_sided sidings Memory ≡ true → memory_launch plan ≡ memory_launch_in sidings
 unfolding memory_launch launch_stage siding_of memory_launch_in siding_for
 launch_given sidings plan same e =
     let f = some_found (λ s. names s.classes Memory) sidings e in

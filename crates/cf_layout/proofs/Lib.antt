@@ -11,3 +11,5 @@ pub mod Acceptance
 pub mod PlainLayout
 pub mod Telling
 pub mod Facts
+pub mod Ordered
+pub mod Asking

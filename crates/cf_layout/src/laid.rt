@@ -5,7 +5,7 @@ use std::marker::Model;
 
 /// A siding: the classes that go through it, the stage from which it launches, the one at which it recovers, and how
 /// many cells it has.
-#[derive(Clone, Copy)]
+#[derive(Clone, Copy, PartialEq, Eq)]
 pub(crate) struct Laid {
     pub(crate) classes: ClassSet,
     pub(crate) launch: u32,
