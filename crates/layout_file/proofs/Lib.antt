@@ -1,3 +1,10 @@
 pub mod Views
 pub mod Computed
 pub mod Lines
+pub mod Unsorted
+pub mod Documents
+pub mod Filling
+pub mod Back
+pub mod Texts
+pub mod Sizes
+pub mod ReadBack

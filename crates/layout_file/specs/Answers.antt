@@ -31,3 +31,9 @@ Fails file e = ((e ≡ TooLong) × (65536 < length file)) ⊎ ((length file ≤ 
 -- the file is a document without a fault, and describes the layout
 abbrev pub Describes : List ℕ → Plan → Type 0
 Describes file plan = (length file ≤ 65536) × ((ms : Members) × (parse_document file ≡ Some ms) × (fault_of ms ≡ None) × (plan ≡ plan_of (asked_by ms)))
+
+-- the file is read as the layout: it describes that one and no other, and reading it fails only where memory runs out
+pub record ReadsAs (file : List ℕ) (plan : Plan) : Type 0 where
+  pub describes : Describes file plan
+  pub alone : (other : Plan) → Describes file other → other ≡ plan
+  pub readable : (e : FileErr) → Fails file e → e ≡ NoMemory

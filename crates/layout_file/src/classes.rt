@@ -21,7 +21,7 @@ pub(crate) const CLASSES: [Class; 9] = [
 ];
 
 /// The word that a file has for the class.
-pub(crate) fn class_name(class: Class) -> &'static str
+pub fn class_name(class: Class) -> &'static str
     ensures { result.now ≡ class_name class }
 {
     match class {

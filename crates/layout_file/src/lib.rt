@@ -4,11 +4,13 @@
 mod classes;
 mod fault;
 mod form;
+pub mod laws;
 mod name;
 mod reading;
 mod tables;
 mod writing;
 
+pub use classes::class_name;
 pub use fault::FileErr;
 pub use name::Name;
 pub use reading::read_layout;

@@ -1,10 +1,12 @@
 //! Writing a layout file.
 #![tactic(auto, using(std::proofs::lemmas::List::append_assoc), unfolding(crate::specs::Text::pair_line))]
 
-ghost use Rattle.std.specs.Prelude.{◌≡◌, ◌<◌, ◌≤◌, ◌++◌, IfOk, codes, decimal, drop, length, map, string_bytes};
+ghost use Rattle.std.specs.Prelude.{◌≡◌, ◌<◌, ◌≤◌, ◌++◌, IfOk, codes, decimal, drop, length, map, string_bytes, IsUtf8};
 ghost use Rattle.layout_file.specs.Names.{class_name};
+ghost use Rattle.layout_file.specs.Answers.{ReadsAs};
 ghost use Rattle.layout_file.specs.Text.{pair_line, rest_text, array_text, quoted_name, unit_line, unit_lines, numbers_text, siding_text, siding_lines, needs_second, truth_text, cache_line, format_text, head_text, body_text, text_of};
 ghost use Rattle.cf_layout.specs.Layout.{computed_classes, siding_at, stages_of};
+ghost use Rattle.cf_layout.specs.Accepted.{IsAccepted};
 
 use crate::classes::{CLASSES, class_name};
 use cf_layout::Layout;
@@ -188,7 +190,8 @@ fn push_cache(text: &mut String, second: bool, cache: bool) -> Result<(), AllocE
 
 #[tactic(auto, using(std::proofs::lemmas::List::append_assoc), unfolding(crate::specs::Text::head_text))]
 fn push_head(text: &mut String, layout: &Layout, second: bool) -> Result<(), AllocError>
-    ensures { IfOk result (λ done. string_bytes text.new ≡ string_bytes text.old ++ head_text second layout.now) }
+    ensures accepted { IfOk result (λ done. IsAccepted layout.now) }
+    ensures head { IfOk result (λ done. string_bytes text.new ≡ string_bytes text.old ++ head_text second layout.now) }
 {
     push_format(text, second)?;
     push_pair(text, "stages", layout.stages())?;
@@ -207,15 +210,28 @@ fn push_body(text: &mut String, alloc: Global, layout: &Layout) -> Result<(), Al
     Ok(())
 }
 
-/// Writes the one text of a layout: in format 1, or in format 2 where the layout has the cache or multiplies and
-/// divides.
+/// The text of a layout.
 #[tactic(auto, using(std::proofs::lemmas::List::append_assoc), unfolding(crate::specs::Text::text_of))]
-pub fn write_layout(alloc: Global, layout: &Layout) -> Result<Vec<u8>, AllocError>
-    ensures { IfOk result (λ file. file.items ≡ text_of layout.now) }
+fn layout_text(alloc: Global, layout: &Layout) -> Result<String, AllocError>
+    ensures text { IfOk result (λ text. string_bytes text ≡ text_of layout.now) }
+    ensures accepted { IfOk result (λ text. IsAccepted layout.now) }
+    ensures utf8 { IfOk result (λ text. IsUtf8 (string_bytes text)) }
 {
     let second = layout.cache() || layout.has_mul();
     let mut text = String::new(alloc);
     push_head(&mut text, layout, second)?;
     push_body(&mut text, alloc, layout)?;
+    let _ = text.as_str();
+    Ok(text)
+}
+
+/// Writes the one text of a layout: in format 1, or in format 2 where the layout has the cache or multiplies and
+/// divides. [`read_layout`](crate::read_layout) of it gives the layout back, unless memory runs out.
+#[tactic(auto, using(crate::proofs::ReadBack::text_reads))]
+pub fn write_layout(alloc: Global, layout: &Layout) -> Result<Vec<u8>, AllocError>
+    ensures text { IfOk result (λ file. file.items ≡ text_of layout.now) }
+    ensures read_back { IfOk result (λ file. ReadsAs file.items layout.now) }
+{
+    let text = layout_text(alloc, layout)?;
     Ok(text.into_bytes())
 }
