@@ -1,0 +1,13 @@
+//! Texts that are cut.
+
+ghost use Rattle.std.specs.Prelude.{◌≡◌, ◌≤◌, length};
+ghost use Rattle.layout_refusals.specs.Texts.{cut};
+
+/// The text, or its front where it has over 40 bytes: at most 40 of them, and no character is cut.
+#[tactic(auto, using(crate::proofs::Cuts::cut_here))]
+pub(crate) fn cut(text: &str) -> &str
+    ensures front { result.now ≡ cut text.now }
+    ensures short { length result.now ≤ 40 }
+{
+    &text[..text.floor_char_boundary(40)]
+}
