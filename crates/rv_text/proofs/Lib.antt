@@ -1,3 +1,4 @@
+pub mod LineCuts
 pub mod Cuts
 pub mod Numerals
 pub mod Spellings

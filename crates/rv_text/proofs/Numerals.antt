@@ -26,13 +26,17 @@ pub test-from_AllDigits : (radix : ℕ) (ds : List ℕ) → AllDigits radix ds �
 test-from_AllDigits radix [] h = refl
 test-from_AllDigits radix (d ∷ ds) h = grind (arith, nat_tests, h.0, test-from_AllDigits radix ds h.1)
 
--- so many digits stay below 2 ^ 40
-pub digits_value_small : (radix most : ℕ) (ds : List ℕ) → AllDigits radix ds → 2 ≤ radix → length ds ≤ most → radix ^ most ≤ 2 ^ 40 → digits_value radix ds < 2 ^ 40
-digits_value_small radix most ds all two short fits =
+-- so many digits stay below that power of the base
+pub digits_value_below : (radix most : ℕ) (ds : List ℕ) → AllDigits radix ds → 2 ≤ radix → length ds ≤ most → digits_value radix ds < radix ^ most
+digits_value_below radix most ds all two short =
     let below = digits_value-lt radix ds all in
     let positive : 0 < radix = omega arith in
     let most_le : radix ^ length ds ≤ radix ^ most = pow-le-pow_right positive short in
     omega arith
+
+-- and so below 2 ^ 40
+pub digits_value_small : (radix most : ℕ) (ds : List ℕ) → AllDigits radix ds → 2 ≤ radix → length ds ≤ most → radix ^ most ≤ 2 ^ 40 → digits_value radix ds < 2 ^ 40
+digits_value_small radix most ds all two short fits = omega (arith, digits_value_below radix most ds all two short)
 
 -- nor does one more digit reach it
 pub next_small : (radix most i : ℕ) (ds : List ℕ) → i < length ds → AllDigits radix (take i ds) → digit_value (get_or ds i 0) < radix → 2 ≤ radix → length ds ≤ most → radix ^ most ≤ 2 ^ 40 → digits_value radix (take i ds) * radix + digit_value (get_or ds i 0) < 2 ^ 40

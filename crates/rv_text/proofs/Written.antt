@@ -69,7 +69,7 @@ decimal_solid n small = record {
   bytes = digits_solid 10 (decimal n) (lit≤ tt) (decimal_digits n small);
 }
 
-decimal_read : (most n : ℕ) → 0 < most → n < 10 ^ most → n < 2 ^ 64 → numeral 10 most (decimal n) ≡ Some n
+pub decimal_read : (most n : ℕ) → 0 < most → n < 10 ^ most → n < 2 ^ 64 → numeral 10 most (decimal n) ≡ Some n
 decimal_read most n positive short small =
     numeral-digits 10 most n (decimal n) (decimal_digits n small) (decimal_some n small)
     (length-decimal-le most n positive short small) (decimal_is_IsNumeral n small).1
@@ -111,7 +111,7 @@ hex_step w = glyph (w % 16) (omega arith)
 hex_digit : (w : ℕ) → digit_value (digit_char (w % 16)) < 16
 hex_digit w = omega (arith, hex_step w)
 
-hex8_digits : (w : ℕ) → AllDigits 16 (hex8 w)
+pub hex8_digits : (w : ℕ) → AllDigits 16 (hex8 w)
 hex8_digits w = (
   hex_digit (w / 268435456),
   (
@@ -126,7 +126,7 @@ hex8_digits w = (
   ),
 )
 
-hex8_value : (w : ℕ) → w < 2 ^ 32 → digits_value 16 (hex8 w) ≡ w
+pub hex8_value : (w : ℕ) → w < 2 ^ 32 → digits_value 16 (hex8 w) ≡ w
 hex8_value w small =
     rw (
       hex_step (w / 268435456),

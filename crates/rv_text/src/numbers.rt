@@ -11,6 +11,7 @@ pub fn numeral(digits: &[u8], base: u32, most: usize) -> Option<u64>
     requires greatest { base ≤ 36 }
     requires fits { base ^ most ≤ 2 ^ 40 }
     ensures value { result ≡ numeral base most digits.now }
+    ensures below { IfSome result (λ n. n < base ^ most) }
     ensures small { IfSome result (λ n. n < 2 ^ 40) }
 {
     if digits.is_empty() || digits.len() > most {

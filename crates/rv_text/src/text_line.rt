@@ -9,7 +9,7 @@ use crate::operands::Operand;
 use arrayvec::ArrayVec;
 use std::marker::Model;
 
-/// A buffer of 80 bytes, which every instruction's text fits.
+/// A buffer of 80 bytes, which the text of every instruction fits.
 #[derive(Drop)]
 pub struct TextLine {
     letters: ArrayVec<u8, 80>,
@@ -74,6 +74,15 @@ impl TextLine {
         ensures { result.now ≡ self.now }
     {
         self.letters.as_slice()
+    }
+
+    /// Makes the line hold these bytes and nothing else.
+    pub fn set(&mut self, text: &[u8])
+        requires { length text.now ≤ 80 }
+        ensures { self.new ≡ text.now }
+    {
+        self.clear();
+        self.put(text);
     }
 
     /// Empties the line.

@@ -1,6 +1,6 @@
 use Rattle.std.proofs.Common.{arith}
 use Rattle.std.proofs.lemmas.Grind.{common_steps}
-use Rattle.rv_text.proofs.Numerals.{next_small, numeral-read, digits_value_small}
+use Rattle.rv_text.proofs.Numerals.{next_small, numeral-read, digits_value_small, digits_value_below}
 use Rattle.rv_text.proofs.numbers.numeral.Goals as goal
 
 pub overflow_mul-value : goal.overflow_mul-value
@@ -19,3 +19,7 @@ returns-clause-value c =
 pub returns-clause-small : goal.returns-clause-small
 returns-clause-small c =
     grind (arith, common_steps, digits_value_small)
+
+pub returns-clause-below : goal.returns-clause-below
+returns-clause-below c =
+    grind (arith, common_steps, digits_value_below)
