@@ -6,3 +6,6 @@ pub mod Marked
 pub mod Spelt
 pub mod Names
 pub mod Filled
+pub mod Passing
+pub mod Sized
+pub mod Few

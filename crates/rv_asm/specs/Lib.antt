@@ -15,3 +15,5 @@ pub mod Spelling
 pub mod Seen
 pub mod Filling
 pub mod Objects
+pub mod Sized
+pub mod Small

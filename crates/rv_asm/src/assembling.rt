@@ -5,6 +5,7 @@ ghost use Rattle.rv_asm.specs.Lines.{source_lines};
 ghost use Rattle.rv_asm.specs.Labels.{entry_of};
 ghost use Rattle.rv_asm.specs.Assembling.{is_ascii, are_ascii, sections_of, assembled};
 ghost use Rattle.rv_asm.specs.Objects.{Objects, Refuses};
+ghost use Rattle.rv_asm.specs.Small.{IsSmall};
 
 use crate::draft::first_look;
 use crate::label::Labels;
@@ -77,6 +78,7 @@ fn assemble_lines(alloc: Global, source: &[u8]) -> Result<Object, AsmErr>
 pub fn assemble(alloc: Global, source: &[u8]) -> Result<Object, AsmErr>
     ensures ok { IfOk result (λ object. Objects object (assembled source.now)) }
     ensures err { IfErr result (λ e. Refuses e (assembled source.now)) }
+    ensures small { IfOk result (λ object. IsSmall object) }
 {
     if source.len() > MOST {
         return Err(AsmErr {

@@ -5,6 +5,7 @@ mod assembling;
 mod draft;
 mod item;
 mod label;
+pub mod laws;
 mod lines;
 mod object;
 mod operands;

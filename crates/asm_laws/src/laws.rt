@@ -1,0 +1,15 @@
+//! The laws of assembled programs, each the contract of a function that does nothing.
+
+ghost use Rattle.std.specs.Prelude.{ℕ, List};
+ghost use Rattle.rv_asm.specs.declared.object.Object.{Object as Assembled};
+ghost use Rattle.rv_asm.specs.Assembling.{assembled};
+ghost use Rattle.rv_asm.specs.Lines.{source_lines};
+ghost use Rattle.rv_asm.specs.Objects.{Objects};
+ghost use Rattle.asm_laws.specs.Programs.{IsProgram};
+
+/// An object that a source stands for is the program of its lines: each line stands for its item where the
+/// lines above end, and what it places stands at that address.
+#[tactic(auto, using(crate::proofs::Programs::programs))]
+pub fn objects_are_programs()
+    ensures { (source : List ℕ) (object : Assembled) → Objects object (assembled source) → IsProgram (source_lines source) object }
+{}

@@ -1,0 +1,26 @@
+-- The sizes by which the first look places the lines are the lengths of what the second look puts there.
+use Rattle.std.specs.Prelude.{◌≡◌, ℕ, ◌+◌, List, [], ◌∷◌, length, Result, Ok, Err}
+use Rattle.rv_asm.specs.declared.refusal.AsmErr.{AsmErr}
+use Rattle.rv_asm.specs.Places.{IsPlace}
+use Rattle.rv_asm.specs.Pieces.{Piece, Word, Bytes}
+use Rattle.rv_asm.specs.Assembling.{Sections}
+
+-- how many bytes a piece has
+abbrev pub piece_size : Piece → ℕ
+piece_size (Word i) = 4
+piece_size (Bytes bytes) = length bytes
+
+abbrev pub pieces_size : List Piece → ℕ
+pieces_size [] = 0
+pieces_size (piece ∷ pieces) = piece_size piece + pieces_size pieces
+
+-- each section is as long as its place says, and at most 1,048,576 bytes long
+pub record AreSized (sections : Sections) : Type 0 where
+  pub text : pieces_size sections.text ≡ sections.place.text_len
+  pub data_section : pieces_size sections.data_pieces ≡ sections.place.data_len
+  pub place : IsPlace sections.place
+
+-- that holds of what a source stands for
+abbrev pub IsSized : Result Sections AsmErr → Type 0
+IsSized (Ok sections) = AreSized sections
+IsSized (Err e) = Unit {0}
