@@ -1,0 +1,53 @@
+-- How long the parts of the file are, and where each begins: headers, text, data, symbols, names, names of the sections, headers of the sections, where each part but the names begins at a multiple of 4.
+use Rattle.std.specs.Prelude.{ℕ, ◌+◌, ◌-◌, ◌*◌, ◌%◌, ◌≤◌, List, replicate}
+use Rattle.elf_make.specs.declared.sizes.Sizes.{Sizes}
+
+-- how many bytes are missing from a length up to a multiple of 4
+abbrev pub padding : ℕ → ℕ
+padding len = (4 - len % 4) % 4
+
+-- that many zeros
+abbrev pub zeros_behind : ℕ → List ℕ
+zeros_behind len = replicate (padding len) 0
+
+-- the length with them
+abbrev pub padded : ℕ → ℕ
+padded len = len + padding len
+
+-- the text stands behind the headers
+abbrev pub text_at : ℕ
+text_at = 116
+
+unfoldable pub data_at : Sizes → ℕ
+data_at s = text_at + padded s.text_len
+
+unfoldable pub symbols_at : Sizes → ℕ
+symbols_at s = data_at s + padded s.data_len
+
+-- an entry of the symbol table has 16 bytes, and the first is empty
+abbrev pub symbols_len : Sizes → ℕ
+symbols_len s = 16 * (s.labels + 1)
+
+unfoldable pub names_at : Sizes → ℕ
+names_at s = symbols_at s + symbols_len s
+
+unfoldable pub section_names_at : Sizes → ℕ
+section_names_at s = names_at s + s.names_len
+
+abbrev pub section_names_len : ℕ
+section_names_len = 39
+
+-- where the names of the sections end
+unfoldable pub section_names_end : Sizes → ℕ
+section_names_end s = section_names_at s + section_names_len
+
+unfoldable pub sections_at : Sizes → ℕ
+sections_at s = padded (section_names_end s)
+
+-- text and data have at most 1,048,576 bytes each, there are at most 524,288 labels, and their names have at most 1,048,576 bytes besides a NUL each and one in front
+pub record AreSmall (s : Sizes) : Type 0 where
+  pub text : s.text_len ≤ 1048576
+  pub data_section : s.data_len ≤ 1048576
+  pub locals : s.locals ≤ s.labels
+  pub labels : s.labels ≤ 524288
+  pub names : s.names_len ≤ 1572865

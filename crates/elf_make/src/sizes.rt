@@ -1,0 +1,161 @@
+//! How long the parts of a file are, and where each begins.
+#![tactic(auto, unfolding(crate::specs::Sizes::data_at, crate::specs::Sizes::symbols_at, crate::specs::Sizes::names_at, crate::specs::Sizes::section_names_at, crate::specs::Sizes::section_names_end, crate::specs::Sizes::sections_at))]
+
+ghost use Rattle.std.specs.Prelude.{◌≡◌, ◌≤◌, ◌<◌, length, map, false};
+ghost use Rattle.rv_asm.specs.Labels.{named};
+ghost use Rattle.rv_asm.specs.Small.{IsSmall, joined_names};
+ghost use Rattle.elf_make.specs.Files.{sizes_of};
+ghost use Rattle.elf_make.specs.Sizes.{AreSmall, padding, padded, data_at, symbols_at, symbols_len, names_at, section_names_at, section_names_end, sections_at};
+ghost use Rattle.elf_make.specs.Symbols.{bound, closed_names, names};
+
+use rv_asm::{Label, Object};
+
+/// Where the text begins, behind the headers.
+pub const TEXT_AT: u32 = 116;
+
+/// How long the names of the sections are.
+pub const SECTION_NAMES_LEN: u32 = 39;
+
+/// How many bytes the text, the data and the names of the symbols have, and how many labels there are,
+/// and how many of them are local.
+#[derive(Clone, Copy)]
+pub struct Sizes {
+    pub text_len: u32,
+    pub data_len: u32,
+    pub labels: u32,
+    pub locals: u32,
+    pub names_len: u32,
+}
+
+/// How many bytes are missing from a length up to a multiple of 4.
+#[tactic(auto)]
+pub fn padding(len: u32) -> u32
+    ensures padding { result ≡ padding len }
+    ensures few { result < 4 }
+{
+    (4 - len % 4) % 4
+}
+
+#[tactic(auto)]
+fn padded(len: u32) -> u32
+    requires { len ≤ 100000000 }
+    ensures { result ≡ padded len }
+{
+    len + padding(len)
+}
+
+/// How many labels are not exported.
+#[tactic(auto, using(crate::proofs::Counts::counts))]
+fn count_locals(labels: &[Label]) -> usize
+    ensures count { result ≡ length (bound false (map named labels.now)) }
+    ensures within { result ≤ length labels.now }
+{
+    labels.iter().filter(|label| !label.global).count()
+}
+
+/// How many bytes the names of labels have, each with a NUL.
+#[tactic(auto)]
+fn closed_names_len(labels: &[Label]) -> usize
+    requires { length (closed_names (map named labels.now)) ≤ 1572864 }
+    ensures { result ≡ length (closed_names (map named labels.now)) }
+{
+    let mut len = 0;
+    let mut rest = labels;
+    while let [label, behind @ ..] = rest {
+        len += label.name.as_str().len() + 1;
+        rest = behind;
+    }
+    len
+}
+
+/// How many bytes the names of the symbols have.
+#[tactic(auto, using(crate::proofs::Counts::sums))]
+fn names_len(labels: &[Label]) -> u32
+    requires count { length (map named labels.now) ≤ 524288 }
+    requires bytes { length (joined_names (map named labels.now)) ≤ 1048576 }
+    ensures len { result ≡ length (names (map named labels.now)) }
+    ensures within { result ≤ 1572865 }
+{
+    1 + closed_names_len(labels) as u32
+}
+
+impl Sizes {
+    /// The sizes of an object.
+    #[tactic(auto, using(crate::proofs::Counts::sizes))]
+    pub fn of(object: &Object) -> Sizes
+        requires { IsSmall object.now }
+        ensures sizes { result ≡ sizes_of object.now }
+        ensures small { AreSmall result }
+    {
+        let labels = object.labels.as_slice();
+        Sizes {
+            text_len: object.text_bytes.as_slice().len() as u32,
+            data_len: object.data_bytes.as_slice().len() as u32,
+            labels: labels.len() as u32,
+            locals: count_locals(labels) as u32,
+            names_len: names_len(labels),
+        }
+    }
+
+    /// Where the data begins.
+    pub fn data_at(self) -> u32
+        requires { AreSmall self }
+        ensures at { result ≡ data_at self }
+        ensures within { result ≤ 2000000 }
+    {
+        TEXT_AT + padded(self.text_len)
+    }
+
+    /// Where the symbols begin.
+    pub fn symbols_at(self) -> u32
+        requires { AreSmall self }
+        ensures at { result ≡ symbols_at self }
+        ensures within { result ≤ 4000000 }
+    {
+        self.data_at() + padded(self.data_len)
+    }
+
+    /// How long the table of symbols is.
+    pub fn symbols_len(self) -> u32
+        requires { AreSmall self }
+        ensures len { result ≡ symbols_len self }
+        ensures within { result ≤ 10000000 }
+    {
+        16 * (self.labels + 1)
+    }
+
+    /// Where the names of the symbols begin.
+    pub fn names_at(self) -> u32
+        requires { AreSmall self }
+        ensures at { result ≡ names_at self }
+        ensures within { result ≤ 14000000 }
+    {
+        self.symbols_at() + self.symbols_len()
+    }
+
+    /// Where the names of the sections begin.
+    pub fn section_names_at(self) -> u32
+        requires { AreSmall self }
+        ensures at { result ≡ section_names_at self }
+        ensures within { result ≤ 16000000 }
+    {
+        self.names_at() + self.names_len
+    }
+
+    /// Where they end.
+    pub fn section_names_end(self) -> u32
+        requires { AreSmall self }
+        ensures at { result ≡ section_names_end self }
+        ensures within { result ≤ 17000000 }
+    {
+        self.section_names_at() + SECTION_NAMES_LEN
+    }
+
+    /// Where the headers of the sections begin.
+    pub fn sections_at(self) -> u32
+        requires { AreSmall self }
+        ensures { result ≡ sections_at self }
+    {
+        padded(self.section_names_end())
+    }
+}
