@@ -1,0 +1,9 @@
+//! The texts of refusals of assembly sources.
+#![tactic(auto)]
+
+mod refusals;
+
+pub use refusals::bad_source;
+
+#[cfg(test)]
+mod tests;

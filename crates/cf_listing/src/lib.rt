@@ -1,0 +1,12 @@
+//! The listing of a program: each word of its code with its address, its instruction and its labels.
+#![tactic(auto)]
+
+mod labels;
+mod listing;
+mod texts;
+mod words;
+
+pub use listing::{put_elf_listing, put_flat_listing};
+
+#[cfg(test)]
+mod tests;
