@@ -1,0 +1,6 @@
+pub mod WordCuts
+pub mod Ends
+pub mod Sizes
+pub mod Written
+pub mod ReadBack
+pub mod Counted

@@ -1,0 +1,14 @@
+use Rattle.std.proofs.Common.{◌≡◌, ◌+◌, ◌≤◌, length}
+use Rattle.rv_text.specs.Lines.{text_lines}
+use Rattle.cf_sched.specs.Scripts.{told_from}
+use Rattle.cf_sched.proofs.script.Script.next.Given as goal
+
+-- what the lines that are left tell is what the script tells
+abbrev pub invariant-loop-self : goal.invariant-loop-self
+invariant-loop-self l = record {
+  same : told_from l.self-inside.above (text_lines l.self-inside.rest.now) ≡ l.fn.self;
+  counted : l.self-inside.above + length l.self-inside.rest.now ≤ 16777216;
+}
+
+abbrev pub decreases-loop-self : goal.decreases-loop-self
+decreases-loop-self l = length l.self-inside.rest.now

@@ -1,0 +1,71 @@
+//! The kinds of moves by their names.
+ghost use Rattle.std.specs.Prelude.{◌≡◌};
+ghost use Rattle.cf_sched.specs.Kinds.{name_of, kind_named};
+
+/// A move without its numbers and its guess: what the first word of its line tells.
+#[derive(Clone, Copy)]
+pub(crate) enum Kind {
+    Issue,
+    Emit,
+    Climb,
+    Fall,
+    Meet,
+    Execute,
+    Send,
+    Launch,
+    Slide,
+    Access,
+    Recover,
+    Leave,
+    Exit,
+    Serve,
+}
+
+/// All kinds.
+const KINDS: [Kind; 14] = [
+    Kind::Issue,
+    Kind::Emit,
+    Kind::Climb,
+    Kind::Fall,
+    Kind::Meet,
+    Kind::Execute,
+    Kind::Send,
+    Kind::Launch,
+    Kind::Slide,
+    Kind::Access,
+    Kind::Recover,
+    Kind::Leave,
+    Kind::Exit,
+    Kind::Serve,
+];
+
+impl Kind {
+    fn name(self) -> &'static [u8]
+        ensures { result.now ≡ name_of self }
+    {
+        match self {
+            Kind::Issue => b"issue",
+            Kind::Emit => b"emit",
+            Kind::Climb => b"climb",
+            Kind::Fall => b"fall",
+            Kind::Meet => b"meet",
+            Kind::Execute => b"execute",
+            Kind::Send => b"send",
+            Kind::Launch => b"launch",
+            Kind::Slide => b"slide",
+            Kind::Access => b"access",
+            Kind::Recover => b"recover",
+            Kind::Leave => b"leave",
+            Kind::Exit => b"exit",
+            Kind::Serve => b"serve",
+        }
+    }
+
+    /// The kind whose name the word is.
+    #[tactic(auto, unfolding(crate::specs::Kinds::kind_named))]
+    pub(crate) fn named(word: &[u8]) -> Option<Kind>
+        ensures { result ≡ kind_named word.now }
+    {
+        KINDS.iter().copied().find(|kind| kind.name() == word)
+    }
+}

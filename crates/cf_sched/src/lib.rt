@@ -1,0 +1,19 @@
+//! The schedule of a run: moves as a script has them, line by line.
+#![tactic(auto)]
+
+mod kind;
+pub mod laws;
+mod reading;
+mod refusal;
+mod script;
+mod words;
+mod writing;
+
+pub use reading::read_move;
+pub use refusal::{ScriptErr, ScriptKind};
+pub use script::Script;
+pub use words::Words;
+pub use writing::write_move;
+
+#[cfg(test)]
+mod tests;
