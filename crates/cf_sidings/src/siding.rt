@@ -1,6 +1,8 @@
 //! One siding.
 
 ghost use Rattle.std.specs.Prelude.{◌≡◌, ◌+◌, ◌<◌, IfOk, IsSome, None, Some, length, replicate, slice_get, slice_set};
+ghost use Rattle.std.specs.List.{list_any};
+ghost use Rattle.cf_semantics.specs.Options.{is_some};
 ghost use Rattle.cf_semantics.specs.Bars.{last_op};
 ghost use Rattle.cf_semantics.specs.Moves.{set_last};
 ghost use Rattle.cf_sidings.specs.Sidings.{CanAccess, moved_on, after_access, mem_after_access};
@@ -34,6 +36,22 @@ impl Siding {
         let mut cells = Vec::new(alloc);
         cells.resize(count as usize, None)?;
         Ok(Siding { cells })
+    }
+
+    /// The cells, from the one that operations enter by.
+    #[inline(always)]
+    pub(crate) fn cells(&self) -> &[Option<Op>]
+        ensures { result.now ≡ self.now }
+    {
+        &self.cells
+    }
+
+    /// Whether an operation stands in it.
+    #[inline(always)]
+    pub(crate) fn holds_some(&self) -> bool
+        ensures { result ≡ list_any is_some self.now }
+    {
+        self.cells.iter().any(|op| op.is_some())
     }
 
     /// What stands in the cell.

@@ -1,5 +1,7 @@
 //! The sidings of a layout.
 
+ghost use Rattle.std.specs.List.{list_any};
+ghost use Rattle.cf_semantics.specs.Options.{is_some};
 ghost use Rattle.std.specs.Prelude.{◌≡◌, ◌+◌, ◌<◌, IfOk, IsSome, IsTrue, None, Some, length, map, slice_get, slice_set};
 ghost use Rattle.cf_semantics.specs.Bars.{is_taken};
 ghost use Rattle.cf_semantics.specs.Moves.{set_last};
@@ -39,6 +41,23 @@ impl Sidings {
             list.push(Siding::new(alloc, layout.cells_of(k))?)?;
         }
         Ok(Sidings { list })
+    }
+
+    /// The cells of a siding, from the one that operations enter by.
+    #[inline(always)]
+    pub fn siding(&self, k: u32) -> &[Option<Op>]
+        requires { k < length self.now }
+        ensures { result.now ≡ cells_in self.now k }
+    {
+        self.list[k as usize].cells()
+    }
+
+    /// Whether an operation stands in any siding.
+    #[inline(always)]
+    pub fn hold_some(&self) -> bool
+        ensures { result ≡ list_any (list_any is_some) self.now }
+    {
+        self.list.iter().any(|siding| siding.holds_some())
     }
 
     /// What stands in a cell of a siding.

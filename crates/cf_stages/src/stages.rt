@@ -60,6 +60,14 @@ impl Stages {
         self.cells.len() as u32
     }
 
+    /// What stands in the stages, from the lowest up.
+    #[inline(always)]
+    pub fn cells(&self) -> &[Cell]
+        ensures { result.now ≡ self.now }
+    {
+        &self.cells
+    }
+
     /// What stands in the stage.
     pub fn cell(&self, i: u32) -> Cell
         requires above { 0 < i }
