@@ -1,0 +1,45 @@
+-- The first cell of a siding that an operation may enter is there, and empty.
+use Rattle.std.proofs.Common.{◌≡◌, ℕ, ◌<◌, List, [], ◌∷◌, Option, Some, None, false, length, arith, refl}
+use Rattle.std.specs.Prelude.{slice_get}
+use Rattle.cf_bind.specs.declared.cell.Cell.{Cell}
+use Rattle.cf_bind.specs.declared.cell.Op.{Op}
+use Rattle.cf_bind.specs.declared.moves.Bar.{Bar}
+use Rattle.cf_bind.specs.declared.moves.Bar.TheVariants.{SourceMissing}
+use Rattle.cf_bind.specs.declared.moves.Move.TheVariants.{Launch}
+use Rattle.cf_bind.specs.declared.passenger.Passenger.{Passenger}
+use Rattle.cf_layout.specs.Layout.{Plan, siding_of}
+use Rattle.cf_semantics.specs.Bars.{entry_bar, is_taken, launch_bar, row_bar, source_bar}
+use Rattle.cf_semantics.specs.Options.{on}
+use Rattle.cf_semantics.specs.Passengers.{kind, missing}
+use Rattle.cf_semantics.specs.State.{State, cell_at, siding_at}
+use Rattle.cf_sidings.specs.Sidings.{cells_in}
+use Rattle.cf_core.specs.Processors.{IsProcessor}
+use Rattle.cf_core.proofs.Ported.{siding-cells}
+
+-- where the whole row bars nothing, its last test does not
+source_free : (p : Passenger) (rest : Option Bar) → source_bar p rest ≡ None → rest ≡ None
+source_free p rest = by (missing p.src1) (missing p.src2)
+  where
+    by : (a b : Option ℕ) → on a (on b rest (λ r. Some (SourceMissing r))) (λ r. Some (SourceMissing r)) ≡ None → rest ≡ None
+    by None None e = e
+    by None (Some r) e = absurd (cc)
+    by (Some r) b e = absurd (cc)
+
+entry_free : (plan : Plan) (s : State) (p : Passenger) (k : ℕ) → entry_bar plan s p ≡ None → siding_of plan (kind p) ≡ Some k → is_taken (slice_get (siding_at s k) 0) ≡ false
+entry_free plan s p k e at = grind arith
+
+launch_free : (plan : Plan) (s : State) (c : Cell) (i : ℕ) (p : Passenger) → launch_bar plan s c i ≡ None → c.passenger ≡ Some p → entry_bar plan s p ≡ None
+launch_free plan s c i p e at = source_free p (entry_bar plan s p) (grind arith)
+
+empty : (cells : List (Option Op)) → 0 < length cells → is_taken (slice_get cells 0) ≡ false → slice_get cells 0 ≡ Some None
+empty [] h e = absurd (omega arith)
+empty (None ∷ cells) h e = refl
+empty (Some op ∷ cells) h e = absurd (cc)
+
+pub first-empty : (plan : Plan) (s : State) (i : ℕ) (c : Cell) (p : Passenger) (k : ℕ) (sidings : List (List (Option Op))) → IsProcessor plan s → row_bar plan s (Launch i) ≡ None → Some c ≡ cell_at s.cells i → c.passenger ≡ Some p → siding_of plan (kind p) ≡ Some k → sidings ≡ s.sidings → slice_get (cells_in sidings k) 0 ≡ Some None
+first-empty plan s i c p k sidings h e at there home same =
+    let f : launch_bar plan s c i ≡ None = rw (← at) at e in
+    let free = entry_free plan s p k (launch_free plan s c i p f there) home in
+    rw same (empty (siding_at s k) (siding-cells plan s (kind p) k h home) free)
+
+pub ruleset entering = (first-empty)

@@ -1,0 +1,6 @@
+-- The law is a theorem.
+use Rattle.cf_refinement.proofs.Theorems.{run_sound}
+use Rattle.cf_core.proofs.laws.t4_1.Goals as goal
+
+pub returns : goal.returns
+returns c = run_sound

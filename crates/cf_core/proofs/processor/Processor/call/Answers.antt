@@ -1,0 +1,17 @@
+-- What the environment answered is what Serve makes of it.
+use Rattle.std.proofs.Common.{◌≡◌, ℕ, List, ap, subst}
+use Rattle.rv_machine.specs.Acts.{Serves}
+use Rattle.rv_machine.specs.Streams.{Streams, streams_of}
+use Rattle.cf_core.specs.Processors.{Processor}
+use Rattle.cf_core.specs.Stepping.{with_memory}
+use Rattle.cf_core.proofs.Served.{call-takes}
+use Rattle.cf_core.proofs.processor.Processor.call.Goals as goal
+
+pub returns-clause-serves : goal.returns-clause-serves
+returns-clause-serves g c =
+    let before : Streams = streams_of (g.S.Source.left c.args.input.now) (g.K.Sink.written c.args.output.now) in
+    let after : Streams = streams_of (g.S.Source.left c.serve-served.new.input) (g.K.Sink.written c.serve-served.new.output) in
+    let serves : Serves c.self.inside.ends.regs c.self.inside.memory c.serve-served.new.mem before after c.serve-served.result = subst (λ (r : List ℕ). Serves r c.self.inside.memory c.serve-served.new.mem before after c.serve-served.result) c.regs.ensures.registers c.serve-served.ensures.serves in
+    call-takes c.args.self.now _ c.take.new.self c.args.passenger c.serve-served.new.mem before after c.serve-served.result c.take.result c.requires.here c.requires.call
+    (subst (λ (p : Processor). Serves p.state.regs p.state.mem c.serve-served.new.mem before after c.serve-served.result) c.self.view_is serves)
+    (ap (λ (p : Processor). with_memory p c.serve-served.new.mem) c.self.view_is) c.take.ensures.state c.take.ensures.told

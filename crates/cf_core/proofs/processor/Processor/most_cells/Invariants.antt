@@ -1,0 +1,10 @@
+use Rattle.std.proofs.Common.{◌≡◌, ◌≤◌, drop}
+use Rattle.cf_semantics.specs.Weight.{larger, most_cells}
+use Rattle.cf_core.proofs.processor.Processor.most_cells.Given as goal
+
+-- the most cells of the sidings so far, and of those that are left
+abbrev pub invariant-loop-k : goal.invariant-loop-k
+invariant-loop-k l = record {
+  whole : larger l.most (most_cells (drop l.k l.self.plan.sidings)) ≡ most_cells l.self.plan.sidings;
+  size : l.most ≤ 8;
+}

@@ -1,0 +1,10 @@
+use Rattle.std.proofs.Common.{◌≡◌, ◌+◌, ◌*◌, ◌≤◌, drop, length}
+use Rattle.cf_semantics.specs.Weight.{cells_weight}
+use Rattle.cf_core.proofs.weighing.cells_weight.Given as goal
+
+-- what is counted and the stages that are left weigh what all weigh
+abbrev pub invariant-loop-index : goal.invariant-loop-index
+invariant-loop-index l = record {
+  whole : l.weight + cells_weight (length l.list) l.cells (1 + l.index) (drop l.index l.list) ≡ cells_weight (length l.list) l.cells 1 l.list;
+  size : l.weight ≤ 512 * l.index;
+}

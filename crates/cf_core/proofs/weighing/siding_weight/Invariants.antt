@@ -1,0 +1,10 @@
+use Rattle.std.proofs.Common.{◌≡◌, ◌+◌, ◌*◌, ◌≤◌, drop, length}
+use Rattle.cf_semantics.specs.Weight.{siding_weight}
+use Rattle.cf_core.proofs.weighing.siding_weight.Given as goal
+
+-- what is counted and the cells that are left weigh what all weigh
+abbrev pub invariant-loop-index : goal.invariant-loop-index
+invariant-loop-index l = record {
+  whole : l.weight + siding_weight (length l.cells) l.index (drop l.index l.cells) ≡ siding_weight (length l.cells) 0 l.cells;
+  size : l.weight ≤ 9 * l.index;
+}

@@ -1,0 +1,32 @@
+-- What comes in at the two ends of the pipes, and what is changed beside them ("Counterflow Pipeline Processor Architecture", 1994).
+use Rattle.std.specs.Prelude.{ℕ, List, ◌++◌, Option}
+use Rattle.cf_layout.specs.Layout.{Plan}
+use Rattle.cf_bind.specs.declared.binding.Binding.{Binding}
+use Rattle.cf_bind.specs.declared.packet.Packet.{Packet}
+use Rattle.cf_bind.specs.declared.passenger.Passenger.{Passenger}
+use Rattle.cf_bind.specs.declared.passenger.Guess.{Guess}
+use Rattle.cf_semantics.specs.Instructions.{fetched}
+use Rattle.cf_semantics.specs.State.{State}
+use Rattle.cf_semantics.specs.Layouts.{isa_of}
+use Rattle.cf_semantics.specs.Passengers.{forgets, fresh, reg_in}
+use Rattle.cf_semantics.specs.Moves.{keeps, turned, written}
+
+-- the instruction that is issued at an address with a guess
+abbrev pub issued_at : Plan → State → ℕ → Guess → Passenger
+issued_at plan s pc g = fresh s.cache (fetched (isa_of plan) s.mem pc) pc g
+
+-- these registers are requested, behind all others
+abbrev pub requested : State → List ℕ → State
+requested s registers = record s { lane = s.lane ++ registers }
+
+-- nothing is kept for the destination any more
+abbrev pub forgotten : State → Option Binding → State
+forgotten s destination = record s { cache = forgets (reg_in destination) s.cache }
+
+-- fetch and the cache have taken in a result
+abbrev pub taken_in : Plan → State → Packet → State
+taken_in plan s k = record s { fetch = turned s.fetch k; cache = keeps plan.cache s.cache k }
+
+-- the register file has the destination's value
+abbrev pub written_back : State → Option Binding → State
+written_back s destination = record s { regs = written s.regs destination }

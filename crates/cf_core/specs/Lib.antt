@@ -1,0 +1,4 @@
+pub mod Processors
+pub mod Seen
+pub mod Stepping
+pub mod Ends

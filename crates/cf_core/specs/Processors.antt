@@ -1,0 +1,60 @@
+-- A processor: its layout and its state, and what holds of every one ("Counterflow Pipeline Processor Architecture", 1994).
+use Rattle.std.specs.Prelude.{◌≡◌, ℕ, List, [], Option, Some, None, IfSome, All, length, map, true}
+use Rattle.rv_inst.specs.declared.isa.Isa.{Isa}
+use Rattle.mem_regions.specs.Access.{Bounds, bounds_of}
+use Rattle.rv_machine.specs.Hart.{Hart}
+use Rattle.cf_layout.specs.Layout.{Plan, siding_of}
+use Rattle.cf_layout.specs.Accepted.{IsAccepted}
+use Rattle.cf_bind.specs.declared.cell.Cell.{Cell}
+use Rattle.cf_bind.specs.declared.cell.Op.{Op}
+use Rattle.cf_bind.specs.declared.moves.Move.{Move}
+use Rattle.cf_semantics.specs.Instructions.{kind_of, is_memory, access_trap}
+use Rattle.cf_semantics.specs.State.{State, siding_at}
+use Rattle.cf_semantics.specs.Layouts.{isa_of}
+use Rattle.cf_semantics.specs.Moves.{moved}
+use Rattle.cf_semantics.specs.Runs.{opened as opened_on}
+use Rattle.cf_stages.specs.Changes.{IsCell}
+use Rattle.cf_passengers.specs.Facts.{IsWritable, IsPacket, IsOperation, IsPassenger}
+
+-- a processor
+pub record Processor : Type 0 where
+  pub plan : Plan
+  pub state : State
+
+-- the processor in another state
+abbrev pub in_state : Processor → State → Processor
+in_state p s = record p { state = s }
+
+-- the processor after an allowed move other than Serve
+abbrev pub after_move : Processor → Move → Processor
+after_move p mv = in_state p (moved p.plan p.state mv)
+
+-- what holds of a stage: its instruction is one of the set, and its result is of a register other than x0
+pub record IsStage (isa : Isa) (c : Cell) : Type 0 where
+  pub passenger : IfSome c.passenger (IsPassenger isa)
+  pub packet : IfSome c.packet IsPacket
+  pub met : IsCell c
+
+-- what holds of an operation in the siding of a number, beside memory of these bounds: it is of a class of its siding, and memory permits it
+pub record IsOp (plan : Plan) (bounds : List Bounds) (k : ℕ) (op : Op) : Type 0 where
+  pub instr : IsOperation (isa_of plan) op
+  pub siding : siding_of plan (kind_of op.instr) ≡ Some k
+  pub permitted : is_memory (kind_of op.instr) ≡ true → access_trap op.instr op.pc op.a bounds ≡ None
+
+-- so it is for each cell of each siding
+abbrev pub AreOps : Plan → List Bounds → ℕ → List (Option Op) → Type 0
+AreOps plan bounds k ops = All (λ o. IfSome o (IsOp plan bounds k)) ops
+
+-- what holds of every processor
+pub record IsProcessor (plan : Plan) (s : State) : Type 0 where
+  -- its layout is accepted, and there are as many stages and cells of sidings as it says
+  pub accepted : IsAccepted plan
+  pub stages : length s.cells ≡ plan.stages
+  pub sidings : map length s.sidings ≡ map (λ siding. siding.cells) plan.sidings
+  pub cells : All (IsStage (isa_of plan)) s.cells
+  pub ops : (k : ℕ) → AreOps plan (bounds_of s.mem) k (siding_at s k)
+  pub lane : All IsWritable s.lane
+
+-- a processor in which nothing stands, with what a machine holds
+unfoldable pub opened : Plan → Hart → Processor
+opened plan hart = record { plan = plan; state = opened_on plan (record { hart = hart; rest = []; output = [] }) }

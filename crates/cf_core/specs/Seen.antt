@@ -1,0 +1,17 @@
+-- What is seen from outside of a meeting, by what stood in the stage before and what stands there after it.
+use Rattle.std.specs.Prelude.{Option, Some, None, Bool, false, not, ◌&&◌, if◌then◌else◌}
+use Rattle.cf_bind.specs.declared.cell.Cell.{Cell}
+use Rattle.cf_bind.specs.declared.passenger.Passenger.{Passenger}
+use Rattle.cf_semantics.specs.declared.event.Event.{Event}
+use Rattle.cf_semantics.specs.declared.event.Event.TheVariants as event
+use Rattle.cf_semantics.specs.Options.{on, is_some}
+
+-- a live passenger is dead now
+abbrev pub died : Option Passenger → Option Passenger → Bool
+died before after = on before false (λ p. on after false (λ q. not p.dead && q.dead))
+
+-- the packet is gone, or the passenger died, or nothing is seen
+unfoldable pub seen : Cell → Cell → Event
+seen before after =
+    if not (is_some after.packet) then event.Killed else
+    if died before.passenger after.passenger then event.Died else event.Plain

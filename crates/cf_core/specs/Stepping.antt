@@ -1,0 +1,113 @@
+-- What a step of a processor answers and leaves ("Counterflow Pipeline Processor Architecture", 1994: every change is one local action).
+use Rattle.std.specs.Prelude.{◌≡◌, ℕ, List, [], Some, None, true, Result, Ok, Err}
+use Rattle.mem_regions.specs.Memory.{Memory}
+use Rattle.mem_regions.specs.Fetching.{synced}
+use Rattle.rv_inst.specs.declared.instruction.Instr.{Instr}
+use Rattle.rv_inst.specs.declared.instruction.Instr.TheVariants.{Ecall}
+use Rattle.rv_machine.specs.declared.outcome.Served.{Served}
+use Rattle.rv_machine.specs.declared.outcome.Served.TheVariants as served
+use Rattle.rv_machine.specs.Streams.{Streams, IsTold, Leaves, IsSpent}
+use Rattle.rv_machine.specs.Faults.{FailsReading, FailsWriting}
+use Rattle.cf_bind.specs.declared.moves.Move.{Move}
+use Rattle.cf_bind.specs.declared.moves.Move.TheVariants.{Serve}
+use Rattle.cf_bind.specs.declared.passenger.End.TheVariants as ending
+use Rattle.cf_bind.specs.declared.passenger.Passenger.{Passenger}
+use Rattle.cf_semantics.specs.Options.{Where}
+use Rattle.cf_semantics.specs.State.{State}
+use Rattle.cf_semantics.specs.Bars.{bar}
+use Rattle.cf_semantics.specs.Events.{IsEvent}
+use Rattle.cf_semantics.specs.Moves.{next, answered, with_passenger}
+use Rattle.cf_semantics.specs.Passengers.{instruction}
+use Rattle.cf_stages.specs.Changes.{changed, passenger_at}
+use Rattle.cf_core.specs.Processors.{Processor, in_state}
+use Rattle.cf_core.specs.declared.step.Step.{Step}
+use Rattle.cf_core.specs.declared.step.Step.TheVariants.{Moved, Barred, ReadFault, WriteFault}
+use Rattle.cf_core.specs.declared.fault.Fault.{Fault}
+use Rattle.cf_core.specs.declared.fault.Fault.TheVariants as fault
+
+-- the move was made: it is the next moment of one with an input that agrees with what is told; the output that it adds was written
+pub record Makes (old new : Processor) (mv : Move) (before after : Streams) : Type 0 where
+  pub rest : List ℕ
+  pub told : IsTold before.input rest
+  pub later : List ℕ
+  pub added : List ℕ
+  pub is : next old.plan (record { state = old.state; rest = rest; output = [] }) mv ≡ record { state = new.state; rest = later; output = added }
+  pub plan : new.plan ≡ old.plan
+  pub leaves : Leaves before after later added
+  pub spent : IsSpent before.input later
+
+-- the instruction in the highest stage is ECALL
+abbrev pub CallsHere : Processor → Type 0
+CallsHere p = Where (passenger_at p.state.cells p.plan.stages) ⊥ (λ q. instruction q ≡ Ecall)
+
+-- the input failed the call behind some bytes: the buffer holds them, and the processor has failed
+pub record FailsToRead (old new : Processor) (before after : Streams) : Type 0 where
+  pub calls : CallsHere old
+  pub fails : FailsReading old.state.regs old.state.mem new.state.mem before after
+  pub processor : new ≡ in_state old (record old.state { mem = new.state.mem; failed = true })
+
+-- the output failed the call behind a front of the buffer's bytes, and the processor has failed
+pub record FailsToWrite (old new : Processor) (before after : Streams) : Type 0 where
+  pub calls : CallsHere old
+  pub fails : FailsWriting old.state.regs old.state.mem before after
+  pub processor : new ≡ in_state old (record old.state { failed = true })
+
+-- Serve was made, or the input or the output failed it
+abbrev pub ServesOrFails : Processor → Processor → Streams → Streams → Result (Unit {0}) Fault → Type 0
+ServesOrFails old new before after (Ok done) = Makes old new Serve before after
+ServesOrFails old new before after (Err fault.Read) = FailsToRead old new before after
+ServesOrFails old new before after (Err fault.Write) = FailsToWrite old new before after
+
+-- the state after the passenger of the highest stage took the answer of the environment
+abbrev pub taken : Processor → Passenger → Served → State
+taken old p (served.Value v) = record old.state { cells = changed old.state.cells old.plan.stages (λ c. with_passenger c (answered p v)) }
+taken old p (served.Exit status) = record old.state { cells = changed old.state.cells old.plan.stages (λ c. with_passenger c (record p { done = true; ending = Some (ending.Exit status) })) }
+taken old p served.ReadFault = record old.state { failed = true }
+taken old p served.WriteFault = record old.state { failed = true }
+
+-- the processor with another memory
+abbrev pub with_memory : Processor → Memory → Processor
+with_memory p mem = in_state p (record p.state { mem = mem })
+
+-- the processor after FENCE.I in its highest stage: the code is what stands in memory
+abbrev pub synchronized : Processor → Passenger → Processor
+synchronized old p = in_state old (taken (with_memory old (synced old.state.mem)) p (served.Value 0))
+
+-- what Serve says of the answer
+abbrev pub told_of : Served → Result (Unit {0}) Fault
+told_of (served.Value v) = Ok tt
+told_of (served.Exit status) = Ok tt
+told_of served.ReadFault = Err fault.Read
+told_of served.WriteFault = Err fault.Write
+
+-- the move was made, with its event; or it was barred by the first bar of its row, and nothing changed; or the input or the output failed it, which only Serve asks
+unfoldable pub Steps : Processor → Processor → Move → Streams → Streams → Step → Type 0
+Steps old new mv before after (Moved e) = (bar old.plan old.state mv ≡ None) × Makes old new mv before after × IsEvent old.plan old.state mv e
+Steps old new mv before after (Barred b) = (bar old.plan old.state mv ≡ Some b) × (new ≡ old) × (after ≡ before)
+Steps old new mv before after ReadFault = (bar old.plan old.state mv ≡ None) × (mv ≡ Serve) × FailsToRead old new before after
+Steps old new mv before after WriteFault = (bar old.plan old.state mv ≡ None) × (mv ≡ Serve) × FailsToWrite old new before after
+
+-- an error where the input failed the step
+abbrev pub input_stepped : Step → Result (Unit {0}) (Unit {0})
+input_stepped ReadFault = Err tt
+input_stepped WriteFault = Ok tt
+input_stepped (Moved e) = Ok tt
+input_stepped (Barred b) = Ok tt
+
+-- an error where the output failed it
+abbrev pub output_stepped : Step → Result (Unit {0}) (Unit {0})
+output_stepped ReadFault = Ok tt
+output_stepped WriteFault = Err tt
+output_stepped (Moved e) = Ok tt
+output_stepped (Barred b) = Ok tt
+
+-- the same of Serve alone
+abbrev pub input_served : Result (Unit {0}) Fault → Result (Unit {0}) (Unit {0})
+input_served (Ok done) = Ok tt
+input_served (Err fault.Read) = Err tt
+input_served (Err fault.Write) = Ok tt
+
+abbrev pub output_served : Result (Unit {0}) Fault → Result (Unit {0}) (Unit {0})
+output_served (Ok done) = Ok tt
+output_served (Err fault.Read) = Ok tt
+output_served (Err fault.Write) = Err tt

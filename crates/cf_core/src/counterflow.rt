@@ -1,0 +1,229 @@
+//! The processor, and what can be seen of it.
+
+ghost use Rattle.std.specs.Prelude.{◌≡◌, ◌+◌, ◌<◌, ◌≤◌, ◌^◌, IfOk, IfSome, Some, length, slice_get, slice_index};
+ghost use Rattle.cf_io.specs.Causes.{HasCause};
+ghost use Rattle.rv_machine.specs.Streams.{streams_of};
+ghost use Rattle.cf_semantics.specs.Bars.{bar as first_bar};
+ghost use Rattle.mem_regions.specs.Access.{bounds_of};
+ghost use Rattle.cf_layout.specs.Layout.{cells_of};
+ghost use Rattle.cf_semantics.specs.State.{cell_at, siding_at};
+ghost use Rattle.cf_semantics.specs.Layouts.{isa_of};
+ghost use Rattle.cf_semantics.specs.Passengers.{cached as kept_value};
+ghost use Rattle.cf_core.specs.Processors.{opened, IsOp, IsProcessor, IsStage};
+ghost use Rattle.cf_core.specs.Stepping.{Steps, input_stepped, output_stepped};
+
+use crate::processor::Processor;
+use crate::step::Step;
+use cf_bind::{Bar, Cell, End, Fetch, Move, Op};
+use cf_ends::Ends;
+use cf_io::{Sink, Source};
+use cf_layout::Layout;
+use cf_sidings::Sidings;
+use cf_stages::Stages;
+use mem_regions::Regions;
+use rv_machine::Machine;
+use std::alloc::{AllocError, Global};
+use std::marker::Model;
+
+/// A counterflow pipeline processor (Sproull, Sutherland and Molnar, "Counterflow Pipeline Processor Architecture", 1994),
+/// seen as its layout and its state. It changes by `step` alone, one local move at a time; no call but `new` takes memory.
+///
+/// Of every processor it holds that each instruction in the pipes is one of its instruction set, that one without an
+/// instruction has ended the program, that each operation in a siding is of a class of the siding, and that memory permits
+/// each load and store there.
+#[derive(Drop)]
+pub struct Core {
+    pub(crate) processor: Processor,
+}
+
+impl Model for Core {
+    ghost use Rattle.cf_core.specs.Processors.{Processor as Whole, IsProcessor};
+
+    ghost Value = { Whole };
+
+    ghost view = { λ c. c.processor };
+
+    ghost invariant = { λ c. IsProcessor c.processor.plan c.processor.state };
+}
+
+impl Core {
+    /// A processor of this layout in which nothing stands: it fetches at the program counter of the machine and has its
+    /// registers, memory and retired count. Where there is no memory for its parts the machine is dropped.
+    #[tactic(auto, using(crate::proofs::Opened::opening), unfolding(crate::specs::Processors::opened, cf_semantics::specs::Runs::opened, cf_sidings::specs::Sidings::empty_sidings))]
+    pub fn new(alloc: Global, layout: Layout, machine: Machine) -> Result<Core, AllocError>
+        ensures { IfOk result (λ core. core ≡ opened layout machine) }
+    {
+        let stages = Stages::new(alloc, layout.stages())?;
+        let sidings = Sidings::new(alloc, &layout)?;
+        let parts = machine.into_parts();
+        let ends = Ends::new(alloc, parts.regs, parts.pc, layout.lane())?;
+        Ok(Core {
+            processor: Processor {
+                layout,
+                stages,
+                sidings,
+                ends,
+                memory: parts.mem,
+                retired: parts.retired,
+                ending: None,
+                failed: false,
+            },
+        })
+    }
+
+    /// The layout.
+    #[inline(always)]
+    pub fn layout(&self) -> &Layout
+        ensures layout { result.now ≡ self.now.plan }
+        ensures facts { IsProcessor self.now.plan self.now.state }
+    {
+        &self.processor.layout
+    }
+
+    /// What stands in the stage of this number, counted from 1 at the bottom.
+    #[inline(always)]
+    #[tactic(auto, using(crate::proofs::Cells::reading))]
+    pub fn stage(&self, i: u32) -> Cell
+        requires above { 0 < i }
+        requires within { i ≤ self.now.plan.stages }
+        ensures cell { Some result ≡ cell_at self.now.state.cells i }
+        ensures facts { IsStage (isa_of self.now.plan) result }
+    {
+        self.processor.stages.cell(i)
+    }
+
+    /// What stands in a cell of a siding; sidings and cells are counted from 0.
+    #[inline(always)]
+    #[tactic(auto, using(crate::proofs::Berths::berths, crate::proofs::Berths::reading))]
+    pub fn siding_cell(&self, k: u32, c: u32) -> Option<Op>
+        requires siding { k < length self.now.plan.sidings }
+        requires cell { c < cells_of self.now.plan k }
+        ensures cell { Some result ≡ slice_get (siding_at self.now.state k) c }
+        ensures facts { IfSome result (IsOp self.now.plan (bounds_of self.now.state.mem) k) }
+    {
+        self.processor.sidings.cell(k, c)
+    }
+
+    /// The cells of a siding, from the one that operations enter by; sidings are counted from 0.
+    #[inline(always)]
+    #[tactic(auto, using(crate::proofs::Berths::berths, crate::proofs::Berths::reading))]
+    pub fn siding(&self, k: u32) -> &[Option<Op>]
+        requires { k < length self.now.plan.sidings }
+        ensures cells { result.now ≡ siding_at self.now.state k }
+        ensures count { length result.now ≡ cells_of self.now.plan k }
+    {
+        self.processor.sidings.siding(k)
+    }
+
+    /// What fetch does.
+    #[inline(always)]
+    pub fn fetch(&self) -> Fetch
+        ensures { result ≡ self.now.state.fetch }
+    {
+        self.processor.ends.fetch()
+    }
+
+    /// How many requests wait for the register file.
+    #[inline(always)]
+    pub fn lane_len(&self) -> u32
+        ensures count { result ≡ length self.now.state.lane }
+        ensures most { result ≤ 64 }
+    {
+        self.processor.ends.lane_len()
+    }
+
+    /// The register of a request, counted from the one to be answered next.
+    #[inline(always)]
+    pub fn lane_at(&self, j: u32) -> u8
+        requires { j < length self.now.state.lane }
+        ensures request { result ≡ slice_index self.now.state.lane j }
+        ensures register { result < 32 }
+    {
+        self.processor.ends.lane_at(j)
+    }
+
+    /// The value of a register.
+    #[inline(always)]
+    pub fn reg(&self, r: u8) -> u32
+        requires { r < 32 }
+        ensures { result ≡ slice_index self.now.state.regs r }
+    {
+        self.processor.ends.reg(r)
+    }
+
+    /// The 32 registers.
+    #[inline(always)]
+    pub fn regs(&self) -> &[u32; 32]
+        ensures { result.now ≡ self.now.state.regs }
+    {
+        self.processor.ends.regs()
+    }
+
+    /// The value that is kept at the bottom for a register, if one is.
+    #[inline(always)]
+    pub fn cached(&self, r: u8) -> Option<u32>
+        requires { r < 32 }
+        ensures { result ≡ kept_value self.now.state.cache r }
+    {
+        self.processor.ends.cached(r)
+    }
+
+    /// The memory.
+    #[inline(always)]
+    pub fn memory(&self) -> &Regions
+        ensures { result.now ≡ self.now.state.mem }
+    {
+        &self.processor.memory
+    }
+
+    /// How many instructions have retired.
+    #[inline(always)]
+    pub fn retired(&self) -> u64
+        ensures { result ≡ self.now.state.retired }
+    {
+        self.processor.retired
+    }
+
+    /// How the program ended, if it has.
+    #[inline(always)]
+    pub fn ending(&self) -> Option<End>
+        ensures { result ≡ self.now.state.ending }
+    {
+        self.processor.ending
+    }
+
+    /// Whether the input or the output has failed a call of the environment, so that no move can be made any more.
+    #[inline(always)]
+    pub fn failed(&self) -> bool
+        ensures { result ≡ self.now.state.failed }
+    {
+        self.processor.failed
+    }
+
+    /// Makes a move, if nothing bars it.
+    ///
+    /// `Barred` tells the first bar of the move's row in the table of moves; nothing has changed then. `Moved` tells what is
+    /// seen of the move from outside. `ReadFault` and `WriteFault` come only of Serve with ECALL in the highest stage, where
+    /// the input or the output failed the call of the environment: the processor bars every move from then on, the guest's
+    /// buffer is as [`rv_machine::serve`] leaves it, and all else is as before.
+    #[inline(always)]
+    #[tactic(auto, using(crate::proofs::KeptServe::keeping))]
+    pub fn step<S: Source, K: Sink>(&mut self, m: Move, input: &mut S, output: &mut K) -> Step
+        requires { self.old.state.retired + 1 < 2 ^ 64 }
+        ensures steps { Steps self.old self.new m
+            (streams_of (S.left input.old) (K.written output.old))
+            (streams_of (S.left input.new) (K.written output.new)) result }
+        ensures input { HasCause (S.faults input.old) (S.faults input.new) (input_stepped result) }
+        ensures output { HasCause (K.faults output.old) (K.faults output.new) (output_stepped result) }
+    {
+        self.processor.step(m, input, output)
+    }
+
+    /// The first bar of the move's row in the table of moves; `None` where it can be made.
+    #[inline(always)]
+    pub fn allowed(&self, m: Move) -> Option<Bar>
+        ensures { result ≡ first_bar self.now.plan self.now.state m }
+    {
+        self.processor.bar(m)
+    }
+}

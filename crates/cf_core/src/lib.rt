@@ -1,0 +1,26 @@
+//! The processor: every change of it is one local move.
+#![tactic(auto)]
+
+mod beside;
+mod bottom;
+mod counterflow;
+mod draining;
+mod fault;
+pub mod laws;
+mod moving;
+mod pipes;
+mod processor;
+mod rows;
+mod serving;
+mod step;
+mod top;
+mod units;
+mod weighing;
+
+pub use cf_bind::{Cell, Op};
+pub use cf_semantics::Event;
+pub use counterflow::Core;
+pub use step::Step;
+
+#[cfg(test)]
+mod tests;

@@ -1,0 +1,118 @@
+//! The table of moves: which row bars a move, and what each move does.
+
+ghost use Rattle.std.specs.Prelude.{◌≡◌, ◌≢◌, ◌+◌, ◌<◌, ◌^◌, None};
+ghost use Rattle.cf_io.specs.Causes.{HasCause};
+ghost use Rattle.rv_machine.specs.Streams.{streams_of};
+ghost use Rattle.cf_bind.specs.declared.moves.Move.TheVariants as mv;
+ghost use Rattle.cf_semantics.specs.Bars.{bar as first_bar, row_bar as bar_of_row};
+ghost use Rattle.cf_semantics.specs.Events.{IsEvent};
+ghost use Rattle.cf_core.specs.Processors.{after_move, IsProcessor};
+ghost use Rattle.cf_core.specs.Stepping.{Steps, input_stepped, output_stepped};
+
+use crate::fault::Fault;
+use crate::processor::Processor;
+use crate::step::Step;
+use cf_bind::{Bar, Move};
+use cf_io::{Sink, Source};
+use cf_semantics::Event;
+
+impl Processor {
+    /// What bars the move, by its row of the table of moves.
+    #[inline(always)]
+    fn row_bar(&self, m: Move) -> Option<Bar>
+        requires { IsProcessor self.now.plan self.now.state }
+        ensures { result ≡ bar_of_row self.now.plan self.now.state m }
+    {
+        match m {
+            Move::Issue(guess) => self.issue_bar(guess),
+            Move::Emit => self.emit_bar(),
+            Move::Climb(i) => self.climb_bar(i),
+            Move::Fall(i) => self.fall_bar(i),
+            Move::Meet(i) => self.meet_bar(i),
+            Move::Execute(i) => self.execute_bar(i),
+            Move::Send(i) => self.send_bar(i),
+            Move::Launch(i) => self.launch_bar(i),
+            Move::Slide(k, c) => self.slide_bar(k, c),
+            Move::Access => self.access_bar(),
+            Move::Recover(i) => self.recover_bar(i),
+            Move::Leave => self.leave_bar(),
+            Move::Exit => self.exit_bar(),
+            Move::Serve => self.serve_bar(),
+        }
+    }
+
+    /// What bars the move. Nothing is allowed once the program has ended, or the input or the output has failed.
+    #[inline(always)]
+    #[tactic(auto, unfolding(cf_semantics::specs::Bars::bar))]
+    pub(crate) fn bar(&self, m: Move) -> Option<Bar>
+        requires { IsProcessor self.now.plan self.now.state }
+        ensures { result ≡ first_bar self.now.plan self.now.state m }
+    {
+        if self.ending.is_some() {
+            Some(Bar::Halted)
+        } else if self.failed {
+            Some(Bar::Failed)
+        } else {
+            self.row_bar(m)
+        }
+    }
+
+    /// Makes an allowed move, which is not Serve, and tells what is seen of it.
+    #[inline(always)]
+    fn make(&mut self, m: Move) -> Event
+        requires facts { IsProcessor self.old.plan self.old.state }
+        requires allowed { bar_of_row self.old.plan self.old.state m ≡ None }
+        requires count { self.old.state.retired + 1 < 2 ^ 64 }
+        requires other { m ≢ mv.Serve }
+        ensures processor { self.new ≡ after_move self.old m }
+        ensures event { IsEvent self.old.plan self.old.state m result }
+    {
+        match m {
+            Move::Issue(guess) => self.issue(guess),
+            Move::Emit => self.emit(),
+            Move::Climb(i) => self.climb(i),
+            Move::Fall(i) => self.fall(i),
+            Move::Meet(i) => return self.meet(i),
+            Move::Execute(i) => self.execute(i),
+            Move::Send(i) => self.send(i),
+            Move::Launch(i) => self.launch(i),
+            Move::Slide(k, c) => self.slide(k, c),
+            Move::Access => self.access(),
+            Move::Recover(i) => self.recover(i),
+            Move::Leave => return self.leave(),
+            Move::Exit => self.exit(),
+            Move::Serve => unreachable!(),
+        }
+        Event::Plain
+    }
+
+    /// Makes the move, where nothing bars it.
+    #[inline(always)]
+    #[tactic(auto, using(crate::proofs::Steps::stepping), unfolding(cf_semantics::specs::Bars::bar, crate::specs::Stepping::Steps))]
+    pub(crate) fn step<S: Source, K: Sink>(
+        &mut self,
+        m: Move,
+        input: &mut S,
+        output: &mut K,
+    ) -> Step
+        requires facts { IsProcessor self.old.plan self.old.state }
+        requires count { self.old.state.retired + 1 < 2 ^ 64 }
+        ensures steps { Steps self.old self.new m
+            (streams_of (S.left input.old) (K.written output.old))
+            (streams_of (S.left input.new) (K.written output.new)) result }
+        ensures input { HasCause (S.faults input.old) (S.faults input.new) (input_stepped result) }
+        ensures output { HasCause (K.faults output.old) (K.faults output.new) (output_stepped result) }
+    {
+        if let Some(bar) = self.bar(m) {
+            return Step::Barred(bar);
+        }
+        match m {
+            Move::Serve => match self.serve(input, output) {
+                Ok(()) => Step::Moved(Event::Plain),
+                Err(Fault::Read) => Step::ReadFault,
+                Err(Fault::Write) => Step::WriteFault,
+            },
+            _ => Step::Moved(self.make(m)),
+        }
+    }
+}

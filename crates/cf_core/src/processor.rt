@@ -1,0 +1,33 @@
+//! The parts of a processor.
+
+use cf_bind::End;
+use cf_ends::Ends;
+use cf_layout::Layout;
+use cf_sidings::Sidings;
+use cf_stages::Stages;
+use mem_regions::Regions;
+use std::marker::Model;
+
+/// A processor: its layout, and its state in parts.
+#[derive(Drop)]
+pub(crate) struct Processor {
+    pub(crate) layout: Layout,
+    pub(crate) stages: Stages,
+    pub(crate) sidings: Sidings,
+    pub(crate) ends: Ends,
+    pub(crate) memory: Regions,
+    pub(crate) retired: u64,
+    pub(crate) ending: Option<End>,
+    pub(crate) failed: bool,
+}
+
+impl Model for Processor {
+    ghost use Rattle.std.specs.Prelude.{◌≡◌};
+    ghost use Rattle.cf_core.specs.Processors.{Processor as Whole};
+
+    ghost Value = { Whole };
+
+    ghost view = { λ p. record { plan = p.layout; state = record { cells = p.stages; sidings = p.sidings; lane = p.ends.lane; fetch = p.ends.fetch; cache = p.ends.cache; regs = p.ends.regs; mem = p.memory; retired = p.retired; ending = p.ending; failed = p.failed } } };
+
+    ghost invariant = { λ p. p.ends.room ≡ p.layout.lane };
+}

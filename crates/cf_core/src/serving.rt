@@ -1,0 +1,139 @@
+//! Serve: the instruction in the highest stage asks the environment.
+
+ghost use Rattle.std.specs.Prelude.{◌≡◌, Some, None};
+ghost use Rattle.cf_io.specs.Causes.{HasCause};
+ghost use Rattle.rv_machine.specs.Streams.{streams_of};
+ghost use Rattle.cf_bind.specs.declared.moves.Move.TheVariants as mv;
+ghost use Rattle.cf_semantics.specs.Instructions.{is_serial as needs_machine};
+ghost use Rattle.cf_semantics.specs.Passengers.{instruction as instruction_of};
+ghost use Rattle.cf_semantics.specs.Bars.{row_bar};
+ghost use Rattle.cf_stages.specs.Changes.{passenger_at};
+ghost use Rattle.cf_core.specs.Processors.{in_state, IsProcessor};
+ghost use Rattle.cf_core.specs.Stepping.{ServesOrFails, input_served, output_served, synchronized, taken, told_of};
+
+use crate::fault::Fault;
+use crate::processor::Processor;
+use crate::rows::first_of;
+use cf_bind::{Bar, Passenger};
+use cf_io::{Sink, Source};
+use cf_passengers::{answered, instruction, kind, quits};
+use rv_inst::{Class, Instr};
+use rv_machine::{Served, serve};
+
+/// Whether the class is the one that needs the whole machine.
+#[inline(always)]
+fn is_serial(class: Class) -> bool
+    ensures { result ≡ needs_machine class }
+{
+    matches!(class, Class::Serial)
+}
+
+impl Processor {
+    /// What bars the instruction in the highest stage from asking the environment.
+    #[inline(always)]
+    pub(crate) fn serve_bar(&self) -> Option<Bar>
+        requires { IsProcessor self.now.plan self.now.state }
+        ensures { result ≡ row_bar self.now.plan self.now.state mv.Serve }
+    {
+        let stage = self.stages.count();
+        let Some(passenger) = self.stages.cell(stage).passenger else {
+            return Some(Bar::NoPassenger);
+        };
+        first_of(&[
+            (passenger.dead, Bar::Dead),
+            (passenger.done, Bar::AlreadyDone),
+            (!is_serial(kind(&passenger)), Bar::NoUnit),
+            (self.stages.is_full(stage), Bar::NotMet),
+        ])
+    }
+
+    /// The environment answers the instruction in the highest stage, ends the program by it, or fails.
+    #[inline(always)]
+    #[tactic(auto, using(crate::proofs::Served::serving))]
+    pub(crate) fn serve<S: Source, K: Sink>(
+        &mut self,
+        input: &mut S,
+        output: &mut K,
+    ) -> Result<(), Fault>
+        requires facts { IsProcessor self.old.plan self.old.state }
+        requires allowed { row_bar self.old.plan self.old.state mv.Serve ≡ None }
+        ensures serves { ServesOrFails self.old self.new
+            (streams_of (S.left input.old) (K.written output.old))
+            (streams_of (S.left input.new) (K.written output.new)) result }
+        ensures input { HasCause (S.faults input.old) (S.faults input.new) (input_served result) }
+        ensures output { HasCause (K.faults output.old) (K.faults output.new) (output_served result) }
+    {
+        let stage = self.stages.count();
+        let Some(passenger) = self.stages.cell(stage).passenger else {
+            unreachable!()
+        };
+        match instruction(&passenger) {
+            Instr::FenceI { .. } => {
+                self.synchronize(stage, passenger);
+                Ok(())
+            }
+            _ => self.call(stage, passenger, input, output),
+        }
+    }
+
+    /// FENCE.I in the highest stage brings the code up to date with memory.
+    #[inline(always)]
+    fn synchronize(&mut self, stage: u32, passenger: Passenger)
+        requires stage { stage ≡ self.old.plan.stages }
+        requires here { passenger_at self.old.state.cells self.old.plan.stages ≡ Some passenger }
+        ensures { self.new ≡ synchronized self.old passenger }
+    {
+        self.memory.sync_code();
+        self.stages.set_passenger(stage, answered(passenger, 0));
+    }
+
+    /// The environment answers the call of the instruction in the highest stage.
+    #[inline(always)]
+    fn call<S: Source, K: Sink>(
+        &mut self,
+        stage: u32,
+        passenger: Passenger,
+        input: &mut S,
+        output: &mut K,
+    ) -> Result<(), Fault>
+        requires stage { stage ≡ self.old.plan.stages }
+        requires here { passenger_at self.old.state.cells self.old.plan.stages ≡ Some passenger }
+        requires call { instruction_of passenger ≡ Instr.Ecall }
+        ensures serves { ServesOrFails self.old self.new
+            (streams_of (S.left input.old) (K.written output.old))
+            (streams_of (S.left input.new) (K.written output.new)) result }
+        ensures input { HasCause (S.faults input.old) (S.faults input.new) (input_served result) }
+        ensures output { HasCause (K.faults output.old) (K.faults output.new) (output_served result) }
+    {
+        let served = serve(self.ends.regs(), &mut self.memory, input, output);
+        self.take(stage, passenger, served)
+    }
+
+    /// The instruction in the highest stage takes what the environment answered.
+    #[inline(always)]
+    fn take(&mut self, stage: u32, passenger: Passenger, served: Served) -> Result<(), Fault>
+        requires stage { stage ≡ self.old.plan.stages }
+        requires here { passenger_at self.old.state.cells self.old.plan.stages ≡ Some passenger }
+        ensures state { self.new ≡ in_state self.old (taken self.old passenger served) }
+        ensures told { result ≡ told_of served }
+    {
+        match served {
+            Served::Value(value) => {
+                self.stages.set_passenger(stage, answered(passenger, value));
+                Ok(())
+            }
+            Served::Exit(status) => {
+                self.stages.set_passenger(stage, quits(passenger, status));
+                Ok(())
+            }
+            Served::ReadFault => {
+                self.failed = true;
+                Err(Fault::Read)
+            }
+            Served::WriteFault => {
+                self.failed = true;
+                Err(Fault::Write)
+            }
+        }
+    }
+}
