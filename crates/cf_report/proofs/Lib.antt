@@ -1,0 +1,3 @@
+pub mod Puttings
+pub mod Listed
+pub mod Pictures

@@ -1,0 +1,131 @@
+-- What a report has after one text was put and then another, or after the first one failed.
+use Rattle.std.proofs.Common.{◌≡◌, ℕ, ◌+◌, ◌≤◌, List, [], ◌++◌, length, take, Option, Some, None, Ok, Err, sym, ap, ◌∙◌, subst, append-nil, append_assoc, arith}
+use Rattle.std.specs.Prelude.{Result}
+use Rattle.std.specs.Result.{IsErr}
+use Rattle.std.proofs.lemmas.Bool.{false≢true}
+use Rattle.std.proofs.lemmas.List.{length-append, take-append-le}
+use Rattle.std.proofs.Math.Seq.{take-append-add}
+use Rattle.cf_io.specs.Puts.{Writes, WritesFront}
+use Rattle.cf_report.specs.Putting.{PutsText}
+
+-- nothing was put
+pub writes-nothing : (told : Option (List ℕ)) → Writes told told []
+writes-nothing None = tt
+writes-nothing (Some told) = ap Some (sym (append-nil told))
+
+pub writes-again : (a b c : Option (List ℕ)) (x y : List ℕ) → Writes a b x → Writes b c y → Writes a c (x ++ y)
+writes-again None b c x y h k = tt
+writes-again (Some told) b c x y h k =
+    let P : Option (List ℕ) → Type 0 = λ o. Writes o c y in
+    let both : c ≡ Some ((told ++ x) ++ y) = subst P h k in
+    both ∙ ap Some (append_assoc told x y)
+
+pub front-again : (a b c : Option (List ℕ)) (x y : List ℕ) → Writes a b x → WritesFront b c y → WritesFront a c (x ++ y)
+front-again a b c x y h (n, short, k) =
+    let both : Writes a c (x ++ take n y) = writes-again a b c x (take n y) h k in
+    let P : List ℕ → Type 0 = λ z. Writes a c z in
+    (length x + n, omega (arith, length-append x y), subst P (sym (take-append-add x y n)) both)
+
+front-more : (a b : Option (List ℕ)) (x y : List ℕ) → WritesFront a b x → WritesFront a b (x ++ y)
+front-more a b x y (n, short, k) =
+    let P : List ℕ → Type 0 = λ z. Writes a b z in
+    (n, omega (arith, length-append x y), subst P (sym (take-append-le n x y short)) k)
+
+again : {T U E : Type 0} (a b c : Option (List ℕ)) (i j k : ℕ) (x y : List ℕ) (t : T) (answer : Result U E)
+    → PutsText {E = E} a b i j x (Ok t) → PutsText b c j k y answer → PutsText a c i k (x ++ y) answer
+again a b c i j k x y t (Ok u) h g = record {
+  all = writes-again a b c x y h.all g.all;
+  front = tt;
+  cause = record { never_falls = omega (arith, h.cause.never_falls, g.cause.never_falls); rose = tt };
+}
+again a b c i j k x y t (Err e) h g = record {
+  all = tt;
+  front = front-again a b c x y h.all g.front;
+  cause = record {
+    never_falls = omega (arith, h.cause.never_falls, g.cause.never_falls);
+    rose = omega (arith, h.cause.never_falls, g.cause.rose);
+  };
+}
+
+-- one text was put, and then another
+pub puts-again : {T U E : Type 0} {a b c : Option (List ℕ)} {i j k : ℕ} {x y : List ℕ} (z : List ℕ) {first : Result T E} {answer : Result U E} {t : T}
+    → first ≡ Ok t → x ++ y ≡ z → PutsText a b i j x first → PutsText b c j k y answer → PutsText a c i k z answer
+puts-again {a = a} {b = b} {c = c} {i = i} {j = j} {k = k} {x = x} {y = y} z {answer = answer} {t = t} ok both h g =
+    rw both at (again a b c i j k x y t answer (rw ok at h) g)
+
+stopped : {T U E : Type 0} (a b : Option (List ℕ)) (i j : ℕ) (x y : List ℕ) (e : E) (answer : Result U E)
+    → IsErr answer → PutsText {T = T} a b i j x (Err e) → PutsText a b i j (x ++ y) answer
+stopped a b i j x y e (Ok u) failed h = absurd (false≢true failed)
+stopped a b i j x y e (Err f) failed h = record {
+  all = tt;
+  front = front-more a b x y h.front;
+  cause = record { never_falls = h.cause.never_falls; rose = h.cause.rose };
+}
+
+-- a text failed, behind which another was to follow
+pub puts-stopped : {T U E : Type 0} {a b : Option (List ℕ)} {i j : ℕ} {x : List ℕ} (y z : List ℕ) {first : Result T E} {answer : Result U E} {e : E}
+    → first ≡ Err e → x ++ y ≡ z → IsErr answer → PutsText a b i j x first → PutsText a b i j z answer
+puts-stopped {a = a} {b = b} {i = i} {j = j} {x = x} y z {answer = answer} {e = e} err both failed h =
+    rw both at (stopped a b i j x y e answer failed (rw err at h))
+
+-- a text was put so far, and no count fell
+pub record HasPut (written after : Option (List ℕ)) (before now : ℕ) (text : List ℕ) : Type 0 where
+  pub told : Writes written after text
+  pub never_falls : before ≤ now
+
+pub put-nothing : (told : Option (List ℕ)) (faults : ℕ) → HasPut told told faults faults []
+put-nothing told faults = record { told = writes-nothing told; never_falls = omega arith }
+
+put-more : {T E : Type 0} (a b c : Option (List ℕ)) (i j k : ℕ) (x y : List ℕ) (t : T) → HasPut a b i j x → PutsText {E = E} b c j k y (Ok t) → HasPut a c i k (x ++ y)
+put-more a b c i j k x y t h g = record {
+  told = writes-again a b c x y h.told g.all;
+  never_falls = omega (arith, h.never_falls, g.cause.never_falls);
+}
+
+-- one more text was put behind it
+pub has-more : {T E : Type 0} {a b c : Option (List ℕ)} {i j k : ℕ} {x y : List ℕ} {answer : Result T E} {t : T} → answer ≡ Ok t → HasPut a b i j x → PutsText b c j k y answer → HasPut a c i k (x ++ y)
+has-more {a = a} {b = b} {c = c} {i = i} {j = j} {k = k} {x = x} {y = y} {t = t} ok h g = put-more a b c i j k x y t h (rw ok at g)
+
+-- the same text
+pub has-same : {a b : Option (List ℕ)} {i j : ℕ} {x : List ℕ} (y : List ℕ) → x ≡ y → HasPut a b i j x → HasPut a b i j y
+has-same y same h = rw (← same) h
+
+-- and that is all
+pub put-all : {E : Type 0} {a b : Option (List ℕ)} {i j : ℕ} {x : List ℕ} (z : List ℕ) (answer : Result (Unit {0}) E) → answer ≡ Ok tt → x ≡ z → HasPut a b i j x → PutsText a b i j z answer
+put-all z answer ok same h = rw (ok, ← same) (record { all = h.told; front = tt; cause = record { never_falls = h.never_falls; rose = tt } })
+
+-- the last text was put behind it, or failed
+put-last : {T E : Type 0} (a b c : Option (List ℕ)) (i j k : ℕ) (x y : List ℕ) (answer : Result T E) → HasPut a b i j x → PutsText b c j k y answer → PutsText a c i k (x ++ y) answer
+put-last a b c i j k x y (Ok t) h g = record {
+  all = writes-again a b c x y h.told g.all;
+  front = tt;
+  cause = record { never_falls = omega (arith, h.never_falls, g.cause.never_falls); rose = tt };
+}
+put-last a b c i j k x y (Err e) h g = record {
+  all = tt;
+  front = front-again a b c x y h.told g.front;
+  cause = record {
+    never_falls = omega (arith, h.never_falls, g.cause.never_falls);
+    rose = omega (arith, h.never_falls, g.cause.rose);
+  };
+}
+
+pub has-last : {T E : Type 0} {a b c : Option (List ℕ)} {i j k : ℕ} {x y : List ℕ} {answer : Result T E} → HasPut a b i j x → PutsText b c j k y answer → PutsText a c i k (x ++ y) answer
+has-last {a = a} {b = b} {c = c} {i = i} {j = j} {k = k} {x = x} {y = y} {answer = answer} h g = put-last a b c i j k x y answer h g
+
+-- what failed is the whole's failure
+pub has-failed : {T U E : Type 0} {a b : Option (List ℕ)} {i j : ℕ} {x : List ℕ} {first : Result T E} (answer : Result U E) {e : E} → first ≡ Err e → IsErr answer → PutsText a b i j x first → PutsText a b i j x answer
+has-failed (Ok u) err failed h = absurd (false≢true failed)
+has-failed {a = a} {b = b} {i = i} {j = j} {x = x} (Err f) {e = e} err failed h =
+    let g = rw err at h in
+    record { all = tt; front = g.front; cause = record { never_falls = g.cause.never_falls; rose = g.cause.rose } }
+
+-- a failed text is a front of a longer one
+pub failed-more : {T E : Type 0} {a b : Option (List ℕ)} {i j : ℕ} {x : List ℕ} (y : List ℕ) (answer : Result T E) → IsErr answer → PutsText a b i j x answer → PutsText a b i j (x ++ y) answer
+failed-more y (Ok t) failed h = absurd (false≢true failed)
+failed-more {a = a} {b = b} {x = x} y (Err e) failed h = record { all = tt; front = front-more a b x y h.front; cause = h.cause }
+
+-- the text behind those so far failed, and more was to follow
+pub has-front : {T U E : Type 0} {a b c : Option (List ℕ)} {i j k : ℕ} {x y z : List ℕ} {first : Result T E} (answer : Result U E) {e : E} → first ≡ Err e → IsErr answer → ((rest : List ℕ) × ((x ++ y) ++ rest ≡ z)) → HasPut a b i j x → PutsText b c j k y first → PutsText a c i k z answer
+has-front {a = a} {c = c} {i = i} {k = k} answer err failed (rest, same) h g =
+    subst (λ text. PutsText a c i k text answer) same (failed-more rest answer failed (has-last h (has-failed answer err failed g)))

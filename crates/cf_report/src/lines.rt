@@ -1,0 +1,84 @@
+//! The lines of a report beside the picture.
+#![tactic(auto, unfolding(crate::specs::Lines::tally_text, crate::specs::Lines::numbered_move))]
+
+ghost use Rattle.std.specs.Prelude.{◌≡◌, ◌++◌, codes, decimal};
+ghost use Rattle.cf_bind.specs.MoveTexts.{move_line};
+ghost use Rattle.cf_texts.specs.Texts.{line as line_of};
+ghost use Rattle.cf_report.specs.Lines.{retired_line, numbered_move, tally_text as text_of_tally, registers_text};
+ghost use Rattle.cf_report.specs.Putting.{PutsText};
+
+use crate::putting::put_text;
+use crate::tally::Tally;
+use cf_bind::{Move, MoveLine, move_text};
+use cf_io::{Failed, Sink};
+use cf_texts::{Page, retirement_line};
+use rv_machine::Retired;
+
+/// Puts the line of an instruction that retired, which makes `n` with it.
+pub fn put_retired<R: Sink>(n: u64, r: &Retired, report: &mut R) -> Result<(), Failed>
+    ensures { PutsText (R.written report.old) (R.written report.new)
+        (R.faults report.old) (R.faults report.new) (retired_line n r.now) result }
+{
+    let page = retirement_line(n, r.pc, r.word, r.reg, r.value);
+    put_text(page.bytes(), report)
+}
+
+fn put_move_text<R: Sink>(mv: Move, report: &mut R) -> Result<(), Failed>
+    ensures { PutsText (R.written report.old) (R.written report.new)
+        (R.faults report.old) (R.faults report.new) (line_of (move_line mv)) result }
+{
+    let mut line = MoveLine::new();
+    move_text(mv, &mut line);
+    put_text(line.bytes(), report)?;
+    put_text(b"\n", report)
+}
+
+fn move_page(n: u64) -> Page
+    ensures { result ≡ codes "move " ++ decimal n ++ codes " " }
+{
+    let mut page = Page::new();
+    page.push(b"move ");
+    page.push_decimal(n);
+    page.push(b" ");
+    page
+}
+
+/// Puts the line of a move, the `n`th.
+pub fn put_move<R: Sink>(n: u64, mv: Move, report: &mut R) -> Result<(), Failed>
+    ensures { PutsText (R.written report.old) (R.written report.new)
+        (R.faults report.old) (R.faults report.new) (numbered_move n mv) result }
+{
+    let page = move_page(n);
+    put_text(page.bytes(), report)?;
+    put_move_text(mv, report)
+}
+
+fn tally_page(tally: &Tally) -> Page
+    ensures { result ≡ text_of_tally tally.now }
+{
+    let mut page = Page::new();
+    page.push_counted(b"moves ", tally.moves);
+    page.push_counted(b"meets ", tally.meets);
+    page.push_counted(b"kills ", tally.kills);
+    page.push_counted(b"dead ", tally.dead);
+    page
+}
+
+/// Puts what was counted, a line each.
+pub fn put_tally<R: Sink>(t: &Tally, report: &mut R) -> Result<(), Failed>
+    ensures { PutsText (R.written report.old) (R.written report.new)
+        (R.faults report.old) (R.faults report.new) (text_of_tally t.now) result }
+{
+    let page = tally_page(t);
+    put_text(page.bytes(), report)
+}
+
+/// Puts the registers, four a line.
+pub fn put_registers<R: Sink>(regs: &[u32; 32], report: &mut R) -> Result<(), Failed>
+    ensures { PutsText (R.written report.old) (R.written report.new)
+        (R.faults report.old) (R.faults report.new) (registers_text regs.now) result }
+{
+    let mut page = Page::new();
+    page.push_registers(regs);
+    put_text(page.bytes(), report)
+}
