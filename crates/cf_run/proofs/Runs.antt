@@ -1,0 +1,238 @@
+-- A run so far, and one move more.
+use Rattle.std.proofs.Common.{◌≡◌, ℕ, zero, suc, ◌+◌, ◌<◌, ◌≤◌, ◌^◌, List, [], ◌∷◌, ◌++◌, length, map, take, drop, Bool, true, false, Option, Some, None, Ok, refl, ap, sym, subst, ◌∙◌, append-nil, append_assoc, add-one, arith}
+use Rattle.std.specs.Prelude.{count_by, unwrap_or}
+use Rattle.std.proofs.lemmas.List.{length-append}
+use Rattle.std.proofs.lemmas.List.Sums.{count_by-le-length, sum_by-append}
+use Rattle.cf_io.specs.Puts.{Writes}
+use Rattle.rv_machine.specs.Streams.{Streams, IsTold, Becomes, Leaves}
+use Rattle.rv_machine.proofs.Told.{rest-told, stays, leaves-again}
+use Rattle.cf_layout.specs.Layout.{Plan}
+use Rattle.cf_bind.specs.declared.moves.Move.{Move}
+use Rattle.cf_semantics.specs.declared.event.Event.{Event}
+use Rattle.cf_semantics.specs.Bars.{bar}
+use Rattle.cf_semantics.specs.Events.{IsEvent}
+use Rattle.cf_semantics.specs.Moves.{next}
+use Rattle.cf_semantics.specs.Runs.{IsRun, run}
+use Rattle.cf_semantics.specs.State.{State, Moment}
+use Rattle.cf_core.specs.Processors.{Processor, in_state}
+use Rattle.cf_core.specs.Stepping.{Makes}
+use Rattle.cf_report.specs.declared.tally.Tally.{Tally}
+use Rattle.cf_sched.specs.Scripts.{Told, next_of, first_of, behind_next}
+use Rattle.cf_sched.specs.declared.refusal.ScriptErr.{ScriptErr}
+use Rattle.cf_run.specs.declared.show.Show.{Show}
+use Rattle.cf_run.specs.Made.{Made, moves_of, is_meeting, is_killed, is_died, tally_of, raised_if, counted, shown, all_shown}
+use Rattle.cf_run.specs.Going.{moment_of, Finds, IsMade, Leads, RunsTo}
+use Rattle.cf_run.specs.Moving.{MakesOne, MakesAndShows, Does}
+use Rattle.cf_run.specs.Scripts.{Stand, no_tally, Reaches, Tries}
+use Rattle.cf_report.proofs.Puttings.{writes-nothing, writes-again}
+use Rattle.cf_run.proofs.Behind.{next-behind, next-retired}
+
+-- one move more
+leads-more : (plan : Plan) (limit : ℕ) (told : Option (List ℕ)) (m : Moment) (trace : List Made) (last : Moment) (rest : List ℕ) (made : Made) → Leads plan limit told m trace last → Finds told last.rest rest → IsMade plan limit (record last { rest = rest }) made
+    → Leads plan limit told m (trace ++ made ∷ []) (next plan (record last { rest = rest }) made.move)
+unfolding Leads
+leads-more plan limit told m [] last rest made h finds is =
+    let P : Moment → Type 0 = λ q. Finds told q.rest rest × IsMade plan limit (record q { rest = rest }) made × (next plan (record last { rest = rest }) made.move ≡ next plan (record q { rest = rest }) made.move) in
+    let k : P m = subst P h (finds, is, refl) in
+    (rest, k.0, k.1, k.2)
+leads-more plan limit told m (first ∷ trace) last rest made (r, f, i, h) finds is = (r, f, i, leads-more plan limit told (next plan (record m { rest = r }) first.move) trace last rest made h finds is)
+
+-- over an input that tells what it has left the moves are a run
+leads-run : (plan : Plan) (limit : ℕ) (told : List ℕ) (m : Moment) (trace : List Made) (last : Moment) → Leads plan limit (Some told) m trace last → IsRun plan m (moves_of trace) × (last ≡ run plan m (moves_of trace))
+unfolding Leads IsRun run
+leads-run plan limit told m [] last h = (tt, h)
+leads-run plan limit told m (made ∷ trace) last (rest, same, is, h) =
+    let P : List ℕ → Type 0 = λ r. (bar plan m.state made.move ≡ None) × IsRun plan (next plan (record m { rest = r }) made.move) (moves_of trace) × (last ≡ run plan (next plan (record m { rest = r }) made.move) (moves_of trace)) in
+    let tail : IsRun plan (next plan (record m { rest = rest }) made.move) (moves_of trace) × (last ≡ run plan (next plan (record m { rest = rest }) made.move) (moves_of trace)) = leads-run plan limit told (next plan (record m { rest = rest }) made.move) trace last h in
+    let k : P m.rest = subst P same (is.allowed, tail.0, tail.1) in
+    ((k.0, k.1), k.2)
+
+runs-to : (plan : Plan) (limit : ℕ) (told : Option (List ℕ)) (m : Moment) (trace : List Made) (last : Moment) → Leads plan limit told m trace last → RunsTo plan told m trace last
+runs-to plan limit None m trace last h = tt
+runs-to plan limit (Some told) m trace last h = leads-run plan limit told m trace last h
+
+-- before the first move
+pub reached-none : (limit : ℕ) (show : Show) (start : Stand) → start.place.tally ≡ no_tally → Reaches limit show start start
+unfolding Leads tally_of all_shown
+reached-none limit show start none =
+    let told : Option (List ℕ) = start.place.streams.input in
+    let rest : List ℕ = unwrap_or told [] in
+    let m : Moment = moment_of start.place.core rest in
+    record {
+      trace = [];
+      rest = rest;
+      told = rest-told told;
+      last = m;
+      leads = refl;
+      run = runs-to start.place.core.plan limit told m [] m refl;
+      core = refl;
+      streams = stays start.place.streams rest (rest-told told);
+      moves = refl;
+      script = refl;
+      tally = none;
+      report = writes-nothing start.place.report;
+    }
+
+-- the input that the next move finds
+finds-rest : (told between : Option (List ℕ)) (left rest : List ℕ) → Becomes told between left → IsTold between rest → Finds told left rest
+finds-rest None between left rest h k = tt
+finds-rest (Some told) between left rest h k =
+    let P : Option (List ℕ) → Type 0 = λ o. IsTold o rest in
+    subst P h k
+
+-- the moment behind it, where something was written before
+next-moment : (plan : Plan) (last : Moment) (mv : Move) (rest later added : List ℕ) (s : State) → next plan (record { state = last.state; rest = rest; output = [] }) mv ≡ record { state = s; rest = later; output = added }
+    → next plan (record last { rest = rest }) mv ≡ record { state = s; rest = later; output = last.output ++ added }
+next-moment plan last mv rest later added s is =
+    let blank : Moment = record { state = last.state; rest = rest; output = [] } in
+    ap (λ (output : List ℕ). next plan (record { state = last.state; rest = rest; output = output }) mv) (sym (append-nil last.output))
+    ∙ next-behind plan last.output blank mv
+    ∙ ap (λ (m : Moment). record m { output = last.output ++ m.output }) is
+
+-- what a move of a processor at a moment leads to
+record Led (plan : Plan) (limit : ℕ) (told : Option (List ℕ)) (m : Moment) (trace : List Made) (start new : Processor) (before after : Streams) : Type 0 where
+  last : Moment
+  leads : Leads plan limit told m trace last
+  core : new ≡ in_state start last.state
+  streams : Leaves before after last.rest last.output
+
+led : (start core new : Processor) (limit : ℕ) (m last : Moment) (trace : List Made) (before between after : Streams) (mv : Move) (e : Event) → core ≡ in_state start last.state → Leads start.plan limit before.input m trace last → Leaves before between last.rest last.output
+    → core.state.retired < limit → bar core.plan core.state mv ≡ None → IsEvent core.plan core.state mv e → Makes core new mv between after
+    → Led start.plan limit before.input m (trace ++ record { move = mv; event = e; state = new.state } ∷ []) start new before after
+led start core new limit m last trace before between after mv e same leads streams below allowed event makes =
+    let made : Made = record { move = mv; event = e; state = new.state } in
+    let P : Processor → Type 0 = λ p. next p.plan (record { state = p.state; rest = makes.rest; output = [] }) mv ≡ record { state = new.state; rest = makes.later; output = makes.added } in
+    let behind : Moment = record { state = new.state; rest = makes.later; output = last.output ++ makes.added } in
+    let is : next start.plan (record last { rest = makes.rest }) mv ≡ behind = next-moment start.plan last mv makes.rest makes.later makes.added new.state (subst P same makes.is) in
+    let Q : Processor → Type 0 = λ p. (p.state.retired < limit) × (bar p.plan p.state mv ≡ None) × IsEvent p.plan p.state mv e in
+    let here : Q (in_state start last.state) = subst Q same (below, allowed, event) in
+    let one : IsMade start.plan limit (record last { rest = makes.rest }) made = record { below = here.0; allowed = here.1; event = here.2; state = ap (λ (q : Moment). q.state) (sym is) } in
+    record {
+      last = behind;
+      leads = subst (Leads start.plan limit before.input m (trace ++ made ∷ [])) is (leads-more start.plan limit before.input m trace last makes.rest made leads (finds-rest before.input between.input last.rest makes.rest streams.input makes.told) one);
+      core = ap (λ (plan : Plan). record { plan = plan; state = new.state }) (makes.plan ∙ ap (λ (p : Processor). p.plan) same);
+      streams = leaves-again before between after last.rest makes.later last.output makes.added streams makes.leaves;
+    }
+
+-- the moves of a longer list
+moves-more : (trace : List Made) (made : Made) → moves_of (trace ++ made ∷ []) ≡ moves_of trace ++ made.move ∷ []
+moves-more [] made = refl
+moves-more (first ∷ trace) made = ap (λ moves. first.move ∷ moves) (moves-more trace made)
+
+length-more : (trace : List Made) (made : Made) → length (trace ++ made ∷ []) ≡ length trace + 1
+length-more trace made = length-append trace (made ∷ [])
+
+-- the next line of a script
+nothing-next : (refused : Option ScriptErr) (line : ℕ) (mv : Move) → first_of [] refused ≡ Ok (Some (line, mv)) → ⊥
+nothing-next None line mv e = absurd (cc)
+nothing-next (Some refusal) line mv e = absurd (cc)
+
+pub taken-more : (moves : List (ℕ × Move)) (refused : Option ScriptErr) (n line : ℕ) (mv : Move) → first_of (drop n moves) refused ≡ Ok (Some (line, mv)) → map (λ line. line.1) (take (suc n) moves) ≡ map (λ line. line.1) (take n moves) ++ mv ∷ []
+taken-more [] refused zero line mv e = absurd (nothing-next refused line mv e)
+taken-more [] refused (suc n) line mv e = absurd (nothing-next refused line mv e)
+taken-more (first ∷ moves) refused zero line mv e =
+    let same : first ≡ (line, mv) = cc in
+    ap (λ (next : ℕ × Move). next.1 ∷ []) same
+taken-more (first ∷ moves) refused (suc n) line mv e = ap (λ rest. first.1 ∷ rest) (taken-more moves refused n line mv e)
+
+dropped-more : {A : Type 0} (moves : List A) (n : ℕ) → drop 1 (drop n moves) ≡ drop (suc n) moves
+dropped-more moves zero = refl
+dropped-more [] (suc n) = refl
+dropped-more (first ∷ moves) (suc n) = dropped-more moves n
+
+-- the count of one move more
+raised-by : (b : Bool) (n : ℕ) → n + count_by (λ (c : Bool). c) (b ∷ []) ≡ raised_if b n
+raised-by true n = omega arith
+raised-by false n = omega arith
+
+count-more : (p : Made → Bool) (trace : List Made) (made : Made) → count_by p (trace ++ made ∷ []) ≡ raised_if (p made) (count_by p trace)
+count-more p trace made = sum_by-append _ trace (made ∷ []) ∙ raised-by (p made) (count_by p trace)
+
+tally-more : (trace : List Made) (made : Made) → tally_of (trace ++ made ∷ []) ≡ counted (tally_of trace) made.move made.event
+unfolding tally_of
+tally-more trace made =
+    rw (length-more trace made, count-more (λ made. is_meeting made.move) trace made, count-more (λ made. is_killed made.event) trace made, count-more (λ made. is_died made.event) trace made) refl
+
+-- what is shown of one move more
+shown-more : (show : Show) (plan : Plan) (n k : ℕ) (trace : List Made) (made : Made) → k ≡ n + length trace → all_shown show plan n (trace ++ made ∷ []) ≡ all_shown show plan n trace ++ shown show plan k made
+unfolding all_shown
+shown-more show plan n k [] made e = let same : k ≡ n = omega arith in rw same (append-nil (shown show plan n made))
+shown-more show plan n k (first ∷ trace) made e =
+    ap (λ text. shown show plan n first ++ text) (shown-more show plan (n + 1) k trace made (omega arith))
+    ∙ sym (append_assoc (shown show plan n first) (all_shown show plan (n + 1) trace) (shown show plan k made))
+
+-- the count of a run so far
+moves-counted : (trace : List Made) (now new : Tally) (mv : Move) (e : Event) → now ≡ tally_of trace → new ≡ counted now mv e → new.moves ≡ 1 + length trace
+unfolding tally_of
+moves-counted trace now new mv e same counts = rw (counts, same) (omega arith)
+
+-- one move more
+more : (limit : ℕ) (show : Show) (start now new : Stand) → Reaches limit show start now → (t : Tries limit show now new None) → MakesAndShows show t.move now.place new.place → Reaches limit show start new
+more limit show start now new h t d =
+    let o : MakesOne t.move now.place new.place = d.makes in
+    let made : Made = record { move = t.move; event = o.event; state = new.place.core.state } in
+    let trace : List Made = h.trace ++ made ∷ [] in
+    let l : Led start.place.core.plan limit start.place.streams.input (moment_of start.place.core h.rest) trace start.place.core new.place.core start.place.streams new.place.streams =
+    led start.place.core now.place.core new.place.core limit (moment_of start.place.core h.rest) h.last h.trace start.place.streams now.place.streams new.place.streams t.move o.event h.core h.leads h.streams t.goes.below o.allowed o.is_event o.makes in
+    let P : Told → Type 0 = λ told. next_of told ≡ Ok (Some (t.line, t.move)) in
+    let next : first_of (drop (length h.trace) start.script.moves) start.script.refused ≡ Ok (Some (t.line, t.move)) = subst P h.script t.next in
+    let size : length trace ≡ suc (length h.trace) = length-more h.trace made ∙ add-one (length h.trace) in
+    let plan : now.place.core.plan ≡ start.place.core.plan = ap (λ (p : Processor). p.plan) h.core in
+    let text : List ℕ = shown show start.place.core.plan new.place.tally.moves made in
+    let last : Writes now.place.report new.place.report text = subst (λ (p : Plan). Writes now.place.report new.place.report (shown show p new.place.tally.moves made)) plan d.report in
+    let number : new.place.tally.moves ≡ 1 + length h.trace = moves-counted h.trace now.place.tally new.place.tally t.move o.event h.tally o.tally in
+    record {
+      trace = trace;
+      rest = h.rest;
+      told = h.told;
+      last = l.last;
+      leads = l.leads;
+      run = runs-to start.place.core.plan limit start.place.streams.input (moment_of start.place.core h.rest) trace l.last l.leads;
+      core = l.core;
+      streams = l.streams;
+      moves = moves-more h.trace made ∙ ap (λ moves. moves ++ t.move ∷ []) h.moves ∙ sym (taken-more start.script.moves start.script.refused (length h.trace) t.line t.move next) ∙ ap (λ (n : ℕ). map (λ (line : ℕ × Move). line.1) (take n start.script.moves)) (sym size);
+      script = t.script ∙ ap behind_next h.script ∙ ap (λ (moves : List (ℕ × Move)). record start.script { moves = moves }) (dropped-more start.script.moves (length h.trace) ∙ ap (λ (n : ℕ). drop n start.script.moves) (sym size));
+      tally = o.tally ∙ ap (λ (tally : Tally). counted tally t.move o.event) h.tally ∙ sym (tally-more h.trace made);
+      report = subst (Writes start.place.report new.place.report) (sym (shown-more show start.place.core.plan 1 new.place.tally.moves h.trace made number)) (writes-again start.place.report now.place.report new.place.report _ text h.report last);
+    }
+
+pub reached-more : (limit : ℕ) (show : Show) (start now new : Stand) → Reaches limit show start now → Tries limit show now new None → Reaches limit show start new
+unfolding Does
+reached-more limit show start now new h t = more limit show start now new h t t.does
+
+-- no more instructions than the limit have retired
+retired-within : (limit : ℕ) (old new : Processor) (mv : Move) (before after : Streams) → old.state.retired < limit → Makes old new mv before after → new.state.retired ≤ limit
+retired-within limit old new mv before after below makes =
+    let m : Moment = record { state = old.state; rest = makes.rest; output = [] } in
+    omega (arith, next-retired old.plan m mv, ap (λ (q : Moment). q.state.retired) makes.is)
+
+pub tried-within : (limit : ℕ) (show : Show) (now new : Stand) → Tries limit show now new None → new.place.core.state.retired ≤ limit
+unfolding Does
+tried-within limit show now new t = retired-within limit now.place.core new.place.core t.move now.place.streams new.place.streams t.goes.below t.does.makes.makes
+
+-- a script has one move less for each that is counted
+lengths : (moves : List (ℕ × Move)) (refused : Option ScriptErr) (line : ℕ) (mv : Move) → first_of moves refused ≡ Ok (Some (line, mv)) → length (drop 1 moves) + 1 ≡ length moves
+lengths [] refused line mv e = absurd (nothing-next refused line mv e)
+lengths (first ∷ moves) refused line mv e = add-one (length moves)
+
+pub tried-left : (limit : ℕ) (show : Show) (now new : Stand) → Tries limit show now new None → length new.script.moves + 1 ≡ length now.script.moves
+tried-left limit show now new t = rw t.script (lengths now.script.moves now.script.refused t.line t.move t.next)
+
+pub tried-counted : (limit : ℕ) (show : Show) (now new : Stand) → Tries limit show now new None → new.place.tally.moves ≡ now.place.tally.moves + 1
+unfolding Does
+tried-counted limit show now new t = ap (λ (tally : Tally). tally.moves) t.does.makes.tally
+
+-- no count is greater than that of the moves
+pub counts-within : (limit : ℕ) (show : Show) (start now : Stand) → Reaches limit show start now → (now.place.tally.meets ≤ now.place.tally.moves) × (now.place.tally.kills ≤ now.place.tally.moves) × (now.place.tally.dead ≤ now.place.tally.moves)
+unfolding tally_of
+counts-within limit show start now h =
+    rw h.tally (count_by-le-length (λ made. is_meeting made.move) h.trace, count_by-le-length (λ made. is_killed made.event) h.trace, count_by-le-length (λ made. is_died made.event) h.trace)
+
+-- a run that has made a move has made fewer than 2 ^ 25 with those that are left
+pub few-made : (made left : ℕ) → (0 < made → made + left < 2 ^ 25) → made ≤ 2 ^ 25
+few-made zero left few = omega arith
+few-made (suc made) left few = let all = few (omega arith) in omega (arith, all)
+
+pub few-more : (made left new behind : ℕ) → (0 < made → made + left < 2 ^ 25) → left < 2 ^ 25 → behind + 1 ≡ left → new ≡ made + 1 → new + behind < 2 ^ 25
+few-more zero left new behind few all one more = omega arith
+few-more (suc made) left new behind few all one more = let now = few (omega arith) in omega (arith, now)

@@ -1,0 +1,26 @@
+use Rattle.std.proofs.Common.{◌+◌, ◌<◌, ◌≤◌, ◌^◌, length}
+use Rattle.rv_machine.specs.Streams.{streams_of}
+use Rattle.cf_run.specs.Moving.{place_of}
+use Rattle.cf_run.specs.Scripts.{Stand, stand_of, Reaches}
+use Rattle.cf_run.proofs.script.run_script.Given as goal
+
+-- the moves that were made so far lead here
+abbrev pub invariant-loop-end : goal.invariant-loop-end
+invariant-loop-end g l =
+    let left = g.S.Source.left in
+    let written = g.K.Sink.written in
+    let reported = g.R.Sink.written in
+    let start : Stand = stand_of (place_of l.initial.core (streams_of (left l.initial.input) (written l.initial.output))
+    (reported l.initial.report) l.initial.tally) l.initial.script in
+    let now : Stand = stand_of (place_of l.core (streams_of (left l.input) (written l.output)) (reported l.report) l.tally) l.script in
+    record {
+      reached : Reaches l.limit l.show start now;
+      within : l.core.state.retired ≤ l.limit;
+      few : 0 < l.tally.moves → l.tally.moves + length l.script.moves < 2 ^ 25;
+      input : g.S.Source.faults l.initial.input ≤ g.S.Source.faults l.input;
+      output : g.K.Sink.faults l.initial.output ≤ g.K.Sink.faults l.output;
+      report : g.R.Sink.faults l.initial.report ≤ g.R.Sink.faults l.report;
+    }
+
+abbrev pub decreases-loop-end : goal.decreases-loop-end
+decreases-loop-end g l = length l.script.moves

@@ -1,0 +1,4 @@
+pub mod Made
+pub mod Going
+pub mod Moving
+pub mod Scripts

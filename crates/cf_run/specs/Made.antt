@@ -1,0 +1,80 @@
+-- Moves that were made: what is counted of them, and what a report shows.
+use Rattle.std.specs.Prelude.{ℕ, ◌+◌, List, [], ◌∷◌, ◌++◌, length, map, count_by, Bool, true, false, if◌then◌else◌}
+use Rattle.cf_layout.specs.Layout.{Plan}
+use Rattle.cf_bind.specs.declared.moves.Move.{Move}
+use Rattle.cf_bind.specs.declared.moves.Move.TheVariants.{Meet}
+use Rattle.cf_semantics.specs.declared.event.Event.{Event}
+use Rattle.cf_semantics.specs.declared.event.Event.TheVariants as event
+use Rattle.cf_semantics.specs.State.{State}
+use Rattle.cf_report.specs.declared.tally.Tally.{Tally}
+use Rattle.cf_report.specs.Lines.{retired_line, numbered_move}
+use Rattle.cf_report.specs.Picture.{picture}
+use Rattle.cf_run.specs.declared.show.Show.{Show}
+use Rattle.cf_run.specs.declared.show.Show.TheVariants as show
+
+-- a move that was made, its event, and the state that it left
+pub record Made : Type 0 where
+  pub move : Move
+  pub event : Event
+  pub state : State
+
+-- the moves of these, in order
+abbrev pub moves_of : List Made → List Move
+moves_of trace = map (λ made. made.move) trace
+
+-- it is a meeting
+abbrev pub is_meeting : Move → Bool
+is_meeting (Meet i) = true
+is_meeting mv = false
+
+-- the result was killed
+abbrev pub is_killed : Event → Bool
+is_killed event.Killed = true
+is_killed e = false
+
+-- a live instruction died
+abbrev pub is_died : Event → Bool
+is_died event.Died = true
+is_died e = false
+
+-- the count of some moves
+unfoldable pub tally_of : List Made → Tally
+tally_of trace = record {
+  moves = length trace;
+  meets = count_by (λ made. is_meeting made.move) trace;
+  kills = count_by (λ made. is_killed made.event) trace;
+  dead = count_by (λ made. is_died made.event) trace;
+}
+
+-- one more where the test holds
+abbrev pub raised_if : Bool → ℕ → ℕ
+raised_if test n = if test then n + 1 else n
+
+-- the count with one more move
+abbrev pub counted : Tally → Move → Event → Tally
+counted tally mv e = record {
+  moves = tally.moves + 1;
+  meets = raised_if (is_meeting mv) tally.meets;
+  kills = raised_if (is_killed e) tally.kills;
+  dead = raised_if (is_died e) tally.dead;
+}
+
+-- the line of an instruction that retired with a move, where so many have with it; no line of another event
+abbrev pub retirement : ℕ → Event → List ℕ
+retirement n (event.Retired line) = retired_line n line
+retirement n event.Plain = []
+retirement n event.Killed = []
+retirement n event.Died = []
+retirement n (event.Ended e) = []
+
+-- what is shown of a move, the one of this number
+unfoldable pub shown : Show → Plan → ℕ → Made → List ℕ
+shown show.Report plan n made = []
+shown show.Retired plan n made = retirement made.state.retired made.event
+shown show.Moves plan n made =
+    numbered_move n made.move ++ retirement made.state.retired made.event ++ picture plan made.state
+
+-- what is shown of some moves, the first of which has this number
+unfoldable pub all_shown : Show → Plan → ℕ → List Made → List ℕ
+all_shown show plan n [] = []
+all_shown show plan n (made ∷ trace) = shown show plan n made ++ all_shown show plan (n + 1) trace

@@ -1,0 +1,28 @@
+//! A move is counted.
+
+ghost use Rattle.std.specs.Prelude.{◌≡◌, ◌+◌, ◌<◌, ◌^◌};
+ghost use Rattle.cf_run.specs.Made.{counted, is_meeting as meets, is_killed as kills, is_died as dies};
+
+use cf_bind::Move;
+use cf_core::Event;
+use cf_report::Tally;
+
+/// Counts a move that was made, and what is seen of it.
+#[inline(always)]
+pub(crate) fn count(tally: &mut Tally, mv: Move, event: &Event)
+    requires moves { tally.old.moves + 1 < 2 ^ 64 }
+    requires meets { tally.old.meets + 1 < 2 ^ 64 }
+    requires kills { tally.old.kills + 1 < 2 ^ 64 }
+    requires dead { tally.old.dead + 1 < 2 ^ 64 }
+    ensures { tally.new ≡ counted tally.old mv event.now }
+{
+    tally.moves += 1;
+    if matches!(mv, Move::Meet(_)) {
+        tally.meets += 1;
+    }
+    match event {
+        Event::Killed => tally.kills += 1,
+        Event::Died => tally.dead += 1,
+        Event::Plain | Event::Retired(_) | Event::Ended(_) => {}
+    }
+}

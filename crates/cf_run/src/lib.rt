@@ -1,0 +1,16 @@
+//! Runs of the processor: move after move, until the program, the limit or the schedule ends them.
+#![tactic(auto)]
+
+mod answer;
+mod counting;
+mod moving;
+mod script;
+mod show;
+mod showing;
+
+pub use answer::{Ran, Scripted};
+pub use script::run_script;
+pub use show::Show;
+
+#[cfg(test)]
+mod tests;

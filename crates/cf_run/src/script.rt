@@ -1,0 +1,109 @@
+//! The run of a script.
+#![tactic(auto, unfolding(crate::specs::Scripts::Stops))]
+
+ghost use Rattle.std.specs.Prelude.{◌≡◌, ◌+◌, ◌<◌, ◌≤◌, ◌^◌, IsNone, MatchOption, Some, false, length};
+ghost use Rattle.cf_io.specs.Causes.{HasCause};
+ghost use Rattle.rv_machine.specs.Streams.{streams_of};
+ghost use Rattle.cf_run.specs.Moving.{place_of};
+ghost use Rattle.cf_run.specs.Scripts.{no_tally, stand_of, GoesOn, IsOver, RunsScript, Turns, input_scripted, output_scripted, report_scripted};
+
+use crate::answer::{Ran, Scripted};
+use crate::moving::make;
+use crate::show::Show;
+use cf_bind::End;
+use cf_core::Core;
+use cf_io::{Sink, Source};
+use cf_report::Tally;
+use cf_sched::Script;
+
+/// Why the run is over, if it is.
+#[inline(always)]
+fn over(core: &Core, limit: u64) -> Option<Ran>
+    requires { core.now.state.retired ≤ limit }
+    ensures { MatchOption result (GoesOn limit core.now.state) (IsOver limit core.now.state) }
+{
+    match core.ending() {
+        Some(End::Exit(status)) => Some(Ran::Exit(status)),
+        Some(End::Trap { cause, pc, detail }) => Some(Ran::Trap { cause, pc, detail }),
+        None if core.retired() == limit => Some(Ran::Limit),
+        None => None,
+    }
+}
+
+/// Makes the next move of the script, or says why the run stops.
+#[inline(always)]
+fn advance<S: Source, K: Sink, R: Sink>(
+    core: &mut Core,
+    script: &mut Script<'_>,
+    limit: u64,
+    show: Show,
+    input: &mut S,
+    output: &mut K,
+    report: &mut R,
+    tally: &mut Tally,
+) -> Option<Scripted>
+    requires limit { limit + 1 < 2 ^ 64 }
+    requires retired { core.old.state.retired ≤ limit }
+    requires moves { tally.old.moves + 1 < 2 ^ 64 }
+    requires meets { tally.old.meets + 1 < 2 ^ 64 }
+    requires kills { tally.old.kills + 1 < 2 ^ 64 }
+    requires dead { tally.old.dead + 1 < 2 ^ 64 }
+    ensures turns { Turns limit show
+        (stand_of (place_of core.old (streams_of (S.left input.old) (K.written output.old))
+        (R.written report.old) tally.old) script.old)
+        (stand_of (place_of core.new (streams_of (S.left input.new) (K.written output.new))
+        (R.written report.new) tally.new) script.new)
+        result }
+    ensures few { IsNone result → length script.old.moves < 2 ^ 25 }
+    ensures input { HasCause (S.faults input.old) (S.faults input.new) (input_scripted result) }
+    ensures output { HasCause (K.faults output.old) (K.faults output.new) (output_scripted result) }
+    ensures report { HasCause (R.faults report.old) (R.faults report.new) (report_scripted result) }
+{
+    if let Some(ran) = over(core, limit) {
+        return Some(Scripted::Ran(ran));
+    }
+    match script.next() {
+        Ok(Some((line, mv))) => make(core, line, mv, show, input, output, report, tally),
+        Ok(None) => Some(Scripted::ScriptEnd),
+        Err(refusal) => Some(Scripted::BadScript(refusal)),
+    }
+}
+
+/// Runs a script: makes its moves one after another until the program ends, as many instructions have
+/// retired as the limit allows, or the next move cannot be read or made. These are looked at in this order
+/// before each move, and no line behind that point is read. What `show` says is put to the report as the run
+/// goes on.
+///
+/// `ReadFault` and `WriteFault` come only where the input, the output failed a call of the environment; that
+/// move is not counted. `ReportFault` comes only where the report failed, behind a move that was made and
+/// counted. The count of the faults of that one rose.
+pub fn run_script<S: Source, K: Sink, R: Sink>(
+    core: &mut Core,
+    script: &mut Script<'_>,
+    limit: u64,
+    show: Show,
+    input: &mut S,
+    output: &mut K,
+    report: &mut R,
+    tally: &mut Tally,
+) -> Scripted
+    requires limit { limit ≤ 1000000000 }
+    requires retired { core.old.state.retired ≤ limit }
+    requires works { core.old.state.failed ≡ false }
+    requires tally { tally.old ≡ no_tally }
+    ensures run { RunsScript limit show
+        (stand_of (place_of core.old (streams_of (S.left input.old) (K.written output.old))
+        (R.written report.old) tally.old) script.old)
+        (stand_of (place_of core.new (streams_of (S.left input.new) (K.written output.new))
+        (R.written report.new) tally.new) script.new)
+        result }
+    ensures input { HasCause (S.faults input.old) (S.faults input.new) (input_scripted (Some result)) }
+    ensures output { HasCause (K.faults output.old) (K.faults output.new) (output_scripted (Some result)) }
+    ensures report { HasCause (R.faults report.old) (R.faults report.new) (report_scripted (Some result)) }
+{
+    loop {
+        if let Some(end) = advance(core, script, limit, show, input, output, report, tally) {
+            return end;
+        }
+    }
+}

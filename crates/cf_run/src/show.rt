@@ -1,0 +1,12 @@
+/// What a run puts to the report as it goes on.
+#[derive(Clone, Copy, PartialEq, Eq)]
+pub enum Show {
+    /// Nothing.
+    Report,
+
+    /// The line of each instruction that retires.
+    Retired,
+
+    /// Of each move its line, the line of the instruction that retires with it, and the picture behind it.
+    Moves,
+}

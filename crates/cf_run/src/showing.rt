@@ -1,0 +1,64 @@
+//! A move is shown.
+#![tactic(auto, unfolding(crate::specs::Made::shown))]
+
+ghost use Rattle.std.specs.Prelude.{◌≡◌};
+ghost use Rattle.cf_report.specs.Putting.{PutsText};
+ghost use Rattle.cf_run.specs.Made.{Made, retirement, shown};
+
+use crate::show::Show;
+use cf_bind::Move;
+use cf_core::{Core, Event};
+use cf_io::{Failed, Sink};
+use cf_report::{put_move, put_picture, put_retired};
+
+/// Puts the line of an instruction that retired, the one of this number, if one did.
+fn put_retirement<R: Sink>(n: u64, event: &Event, report: &mut R) -> Result<(), Failed>
+    ensures { PutsText (R.written report.old) (R.written report.new)
+        (R.faults report.old) (R.faults report.new) (retirement n event.now) result }
+{
+    match event {
+        Event::Retired(line) => put_retired(n, line, report),
+        Event::Plain | Event::Killed | Event::Died | Event::Ended(_) => Ok(()),
+    }
+}
+
+/// Puts all that is shown of a move, the `n`th.
+fn put_whole<R: Sink>(
+    core: &Core,
+    n: u64,
+    mv: Move,
+    event: &Event,
+    report: &mut R,
+) -> Result<(), Failed>
+    ensures { PutsText (R.written report.old) (R.written report.new)
+        (R.faults report.old) (R.faults report.new)
+        (shown Show.Moves core.now.plan n
+        (record { move = mv; event = event.now; state = core.now.state })) result }
+{
+    put_move(n, mv, report)?;
+    put_retirement(core.retired(), event, report)?;
+    put_picture(core, report)
+}
+
+/// Puts what is to be shown of a move, the `n`th, that left the processor as it is.
+// A page is large, and would slow the run down if it were a local of its loop.
+#[inline(never)]
+pub(crate) fn put_shown<R: Sink>(
+    core: &Core,
+    show: Show,
+    n: u64,
+    mv: Move,
+    event: &Event,
+    report: &mut R,
+) -> Result<(), Failed>
+    ensures { PutsText (R.written report.old) (R.written report.new)
+        (R.faults report.old) (R.faults report.new)
+        (shown show core.now.plan n
+        (record { move = mv; event = event.now; state = core.now.state })) result }
+{
+    match show {
+        Show::Report => Ok(()),
+        Show::Retired => put_retirement(core.retired(), event, report),
+        Show::Moves => put_whole(core, n, mv, event, report),
+    }
+}
