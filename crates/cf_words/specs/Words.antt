@@ -13,9 +13,9 @@ use Rattle.cf_words.specs.Options.{Setting, written, takes, most_limit, NoneTwic
 -- the commands that are built: the one place that says so
 unfoldable pub is_built : Name → Bool
 is_built names.Machine = true
-is_built names.Check = false
-is_built names.List = false
-is_built names.Asm = false
+is_built names.Check = true
+is_built names.List = true
+is_built names.Asm = true
 is_built names.Run = false
 
 -- the first word of each command

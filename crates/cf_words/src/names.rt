@@ -21,7 +21,7 @@ impl Name {
     pub(crate) fn is_built(self) -> bool
         ensures { result ≡ is_built self }
     {
-        matches!(self, Name::Machine)
+        matches!(self, Name::Machine | Name::Check | Name::List | Name::Asm)
     }
 
     /// The command that begins with this word.

@@ -82,3 +82,32 @@ fn machine_words(rt: HostRuntime) -> Result<(), Fail> {
     }
     Ok(())
 }
+
+/// Whether the words ask to check the built-in layout, or the file that it is in.
+fn checked(words: &[String]) -> Result<Option<&str>, u32> {
+    match read_words(words)? {
+        Command::Check { layout } => Ok(match layout {
+            LayoutWord::Plain => None,
+            LayoutWord::File(name) => Some(name),
+        }),
+        _ => Err(99),
+    }
+}
+
+#[test]
+fn check_words(rt: HostRuntime) -> Result<(), Fail> {
+    let alloc = rt.alloc();
+    let rows = [
+        (["check", "plain"].as_slice(), Ok(None)),
+        (["check", "plain.toml"].as_slice(), Ok(Some("plain.toml"))),
+        (["check"].as_slice(), Err(1)),
+        (["check", "--mul"].as_slice(), Err(1)),
+        (["check", "p", "q"].as_slice(), Err(2)),
+        (["check", "p", "--limit", "3"].as_slice(), Err(2)),
+    ];
+    for (row, wanted) in rows {
+        let words = words_of(alloc, row)?;
+        assert!(rt; checked(words.as_slice()) == wanted);
+    }
+    Ok(())
+}

@@ -1,7 +1,9 @@
 pub mod Commands
 pub mod Flat
+pub mod Named
 pub mod Programs
 pub mod Reports
 pub mod Runs
 pub mod Segments
 pub mod Tops
+pub mod FileFronts

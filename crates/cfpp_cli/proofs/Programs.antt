@@ -52,7 +52,10 @@ answers-program chosen before after status.NoMemory text name image front comes 
   reports = comes.0;
   streams = comes.1;
 }
+answers-program chosen before after status.Done text name image front comes = comes
+answers-program chosen before after (status.BadSource error) text name image front comes = comes
 answers-program chosen before after (status.BadWords index) text name image front comes = comes
+answers-program chosen before after (status.BadLayout error) text name image front comes = comes
 answers-program chosen before after status.WriteFault text name image front comes =
     record { image = image; front = front; comes_to = comes }
 answers-program chosen before after (status.ReadFault which.Input) text name image front comes =

@@ -1,5 +1,7 @@
 -- Which answers say that the program's input or output failed.
 use Rattle.std.specs.Prelude.{Result, Ok, Err}
+use Rattle.cfpp_cli.specs.declared.listing.ListErr.{ListErr}
+use Rattle.cfpp_cli.specs.declared.listing.ListErr.TheVariants as err
 use Rattle.cfpp_cli.specs.declared.status.Status.{Status}
 use Rattle.cfpp_cli.specs.declared.status.Status.TheVariants as status
 use Rattle.cfpp_cli.specs.declared.status.Which.TheVariants as which
@@ -12,6 +14,12 @@ input_answered (status.ReadFault which.Program) = Ok tt
 input_answered (status.ReadFault which.Script) = Ok tt
 input_answered (status.ReadFault which.Source) = Ok tt
 input_answered _ = Ok tt
+
+-- an error where it is said of a listing that the output failed
+abbrev pub output_listed : Result (Unit {0}) ListErr → Result (Unit {0}) (Unit {0})
+output_listed (Ok u) = Ok tt
+output_listed (Err (err.Refused error)) = Ok tt
+output_listed (Err err.Failed) = Err tt
 
 -- an error where the answer is that the program's output failed
 abbrev pub output_answered : Status → Result (Unit {0}) (Unit {0})

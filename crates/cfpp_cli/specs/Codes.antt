@@ -7,8 +7,11 @@ abbrev pub code_of : Status → ℕ
 code_of (status.Exit code) = code
 code_of (status.Trap cause pc detail) = 120
 code_of (status.Limit limit) = 121
+code_of status.Done = 0
 code_of (status.BadWords index) = 122
+code_of (status.BadLayout error) = 123
 code_of (status.BadProgram error) = 124
+code_of (status.BadSource error) = 127
 code_of (status.ReadFault which) = 128
 code_of status.WriteFault = 129
 code_of status.NoMemory = 130

@@ -7,7 +7,12 @@ pub mod Lines
 pub mod Finish
 pub mod Closing
 pub mod Machine
+pub mod FileCommands
+pub mod Listings
+pub mod Sources
 pub mod Causes
+pub mod Layouts
+pub mod Check
 pub mod Top
 pub mod Deciding
 pub mod Codes

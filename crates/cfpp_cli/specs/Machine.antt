@@ -61,9 +61,12 @@ ComesTo chosen image before after (status.Limit limit) report =
     (limit ≡ Some chosen.limit) × RunsImage chosen image before after finish.Limit report
 ComesTo chosen image before after (status.BadProgram error) report =
     IsRefused image error × (report ≡ bad_program error) × (after ≡ before)
+ComesTo chosen image before after status.Done report = ⊥
+ComesTo chosen image before after (status.BadSource error) report = ⊥
 ComesTo chosen image before after status.NoMemory report =
     (report ≡ line (codes "no memory")) × (after ≡ before)
 ComesTo chosen image before after (status.BadWords index) report = ⊥
+ComesTo chosen image before after (status.BadLayout error) report = ⊥
 ComesTo chosen image before after (status.ReadFault which.Input) report =
     RunsImage chosen image before after finish.ReadFault report
 ComesTo chosen image before after status.WriteFault report =
@@ -103,7 +106,10 @@ AnswersMachine name chosen before after (status.Limit limit) report =
     RunsProgram chosen name before after (status.Limit limit) report
 AnswersMachine name chosen before after (status.BadProgram error) report =
     RunsProgram chosen name before after (status.BadProgram error) report
+AnswersMachine name chosen before after status.Done report = ⊥
+AnswersMachine name chosen before after (status.BadSource error) report = ⊥
 AnswersMachine name chosen before after (status.BadWords index) report = ⊥
+AnswersMachine name chosen before after (status.BadLayout error) report = ⊥
 AnswersMachine name chosen before after (status.ReadFault which.Program) report =
     CannotRead name before after report
 AnswersMachine name chosen before after (status.ReadFault which.Layout) report = ⊥

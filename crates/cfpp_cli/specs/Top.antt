@@ -8,6 +8,10 @@ use Rattle.cfpp_cli.specs.Options.{chosen_of}
 use Rattle.cfpp_cli.specs.Causes.{input_answered, output_answered}
 use Rattle.cfpp_cli.specs.Outside.{Outside, Report}
 use Rattle.cfpp_cli.specs.Machine.{AnswersMachine, BreaksProgram}
+use Rattle.cfpp_cli.specs.Check.{AnswersCheck}
+use Rattle.cfpp_cli.specs.FileCommands.{side_of}
+use Rattle.cfpp_cli.specs.Listings.{AnswersList}
+use Rattle.cfpp_cli.specs.Sources.{AnswersAsm}
 use Rattle.cfpp_cli.specs.declared.status.Status.{Status}
 use Rattle.cfpp_cli.specs.declared.status.Status.TheVariants as status
 
@@ -28,9 +32,14 @@ pub record RefusesWords (index : ℕ) (before after : Outside) (answer : Status)
 abbrev pub Answers : Result Asked ℕ → Outside → Outside → Status → List ℕ → Type 0
 Answers (Ok (machine program limit retired mul)) before after answer report =
     AnswersMachine program (chosen_of limit retired mul) before after answer report
-Answers (Ok (check layout)) before after answer report = ⊥
-Answers (Ok (listing program)) before after answer report = ⊥
-Answers (Ok (asm source)) before after answer report = ⊥
+Answers (Ok (check layout)) before after answer report =
+    AnswersCheck layout before after answer report
+Answers (Ok (listing program)) before after answer report =
+    AnswersList program (side_of before) (side_of after) answer report
+    × (after.streams.input ≡ before.streams.input)
+Answers (Ok (asm source)) before after answer report =
+    AnswersAsm source (side_of before) (side_of after) answer report
+    × (after.streams.input ≡ before.streams.input)
 Answers (Ok (run layout program script limit lines)) before after answer report = ⊥
 Answers (Err index) before after answer report = RefusesWords index before after answer report
 

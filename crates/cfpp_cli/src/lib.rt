@@ -2,7 +2,11 @@
 #![tactic(auto)]
 
 mod answer;
+mod assembling;
+mod check;
 mod closing;
+mod layouts;
+mod listing;
 mod machine;
 mod opening;
 mod parts;
@@ -14,5 +18,9 @@ mod top;
 pub use status::{ProgramErr, Status, Which};
 pub use top::cfpp;
 
+#[cfg(test)]
+mod check_tests;
+#[cfg(test)]
+mod command_tests;
 #[cfg(test)]
 mod tests;

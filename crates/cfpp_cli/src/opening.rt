@@ -32,7 +32,7 @@ pub enum OpenErr {
 }
 
 /// Whether a file begins as an ELF file does.
-fn is_elf(image: &[u8]) -> bool
+pub fn is_elf(image: &[u8]) -> bool
     ensures { result ≡ starts_with_elf image.now }
 {
     image.starts_with(b"\x7fELF")

@@ -1,7 +1,9 @@
 ghost use Rattle.std.specs.Prelude.{◌≡◌};
 
 use elf_view::ElfErr;
+use layout_file::FileErr;
 use mem_regions::LoadErr;
+use rv_asm::AsmErr;
 
 /// What could not be read.
 #[derive(Clone, Copy, Debug, PartialEq, Eq)]
@@ -28,7 +30,7 @@ pub enum ProgramErr {
 }
 
 /// How a call of the simulator ended.
-#[derive(Clone, Copy, Debug, PartialEq, Eq)]
+#[derive(Drop)]
 pub enum Status {
     /// The program ended itself with this code.
     Exit(u8),
@@ -39,11 +41,20 @@ pub enum Status {
     /// So many instructions had retired, and the program had not ended.
     Limit(Option<u64>),
 
+    /// A command that runs no program was carried out.
+    Done,
+
     /// The words are not those of any command: the index of the first that has no place.
     BadWords(u32),
 
+    /// The file is no layout.
+    BadLayout(FileErr),
+
     /// The file is no program.
     BadProgram(ProgramErr),
+
+    /// The assembly source is refused.
+    BadSource(AsmErr),
 
     /// A file or the input could not be read.
     ReadFault(Which),
@@ -58,7 +69,7 @@ pub enum Status {
 impl Status {
     ghost use Rattle.cfpp_cli.specs.Codes.{code_of};
 
-    /// The status that the process ends with: a program's own, or one from 120 on.
+    /// The status that the process ends with: a program's own, 0 after a command that runs none, or one from 120 on.
     pub fn code(&self) -> u8
         ensures { result ≡ code_of self.now }
     {
@@ -66,8 +77,11 @@ impl Status {
             Status::Exit(code) => *code,
             Status::Trap { .. } => 120,
             Status::Limit(_) => 121,
+            Status::Done => 0,
             Status::BadWords(_) => 122,
+            Status::BadLayout(_) => 123,
             Status::BadProgram(_) => 124,
+            Status::BadSource(_) => 127,
             Status::ReadFault(_) => 128,
             Status::WriteFault => 129,
             Status::NoMemory => 130,

@@ -7,8 +7,6 @@ ghost use Rattle.std.specs.Prelude.{◌+◌, ◌≤◌};
 use super::*;
 use byteorder::{ByteOrder, LittleEndian};
 use cf_io::{Empty, MemFiles, MemSink};
-use elf_view::ElfErr;
-use mem_regions::LoadErr;
 use std::alloc::{AllocError, Global};
 use std::process::Abort;
 use std::test::Fail;
@@ -71,16 +69,16 @@ struct Call<'a> {
     report_fails: &'a [u64],
 }
 
-/// What it comes to: the status, the beginning and the end of the report, and the output.
+/// What it comes to: the process's status, the beginning and the end of the report, and the output.
 #[derive(Drop)]
 struct Wanted<'a> {
-    status: Status,
+    code: u8,
     begins: &'a str,
     ends: &'a str,
     output: &'a [u8],
 }
 
-fn words_of(alloc: Global, words: &[&str]) -> Result<Vec<String>, AllocError> {
+pub(crate) fn words_of(alloc: Global, words: &[&str]) -> Result<Vec<String>, AllocError> {
     let mut owned = Vec::new(alloc);
     for word in words {
         owned.push(String::from_str(alloc, word)?)?;
@@ -88,7 +86,7 @@ fn words_of(alloc: Global, words: &[&str]) -> Result<Vec<String>, AllocError> {
     Ok(owned)
 }
 
-fn files_of(alloc: Global, file: &[u8]) -> Result<MemFiles, AllocError> {
+pub(crate) fn files_of(alloc: Global, file: &[u8]) -> Result<MemFiles, AllocError> {
     let mut files = Vec::new(alloc);
     files.push((String::from_str(alloc, "p")?, file.to_vec(alloc)?))?;
     Ok(MemFiles::new(alloc, files, Vec::new(alloc)))
@@ -98,7 +96,7 @@ fn check(rt: &(impl Abort + AllocGlobal), call: &Call, wanted: &Wanted) -> Resul
     let alloc = rt.alloc();
     let words = words_of(alloc, call.words)?;
     let mut files = files_of(alloc, call.file)?;
-    let mut output = MemSink::new(alloc, 10, call.output_fails.to_vec(alloc)?)?;
+    let mut output = MemSink::new(alloc, 1000, call.output_fails.to_vec(alloc)?)?;
     let mut report = MemSink::new(alloc, 1000, call.report_fails.to_vec(alloc)?)?;
     let status = cfpp(
         alloc,
@@ -108,7 +106,7 @@ fn check(rt: &(impl Abort + AllocGlobal), call: &Call, wanted: &Wanted) -> Resul
         &mut output,
         &mut report,
     );
-    assert_eq!(rt; status, wanted.status);
+    assert_eq!(rt; status.code(), wanted.code);
     assert!(rt;
         report.bytes().starts_with(wanted.begins.as_bytes()),
         "{}",
@@ -128,7 +126,7 @@ fn check_machine(
     rt: &(impl Abort + AllocGlobal),
     words: &[&str],
     file: &[u8],
-    status: Status,
+    code: u8,
     begins: &str,
     ends: &str,
 ) -> Result<(), Fail> {
@@ -139,7 +137,7 @@ fn check_machine(
         report_fails: &[],
     };
     let wanted = Wanted {
-        status,
+        code,
         begins,
         ends,
         output: b"",
@@ -147,57 +145,66 @@ fn check_machine(
     check(rt, &call, &wanted)
 }
 
-const fn trap(cause: u8, pc: u32, detail: u32) -> Status {
-    Status::Trap { cause, pc, detail }
-}
+/// The statuses that the process ends with.
+const TRAP: u8 = 120;
+
+const LIMIT: u8 = 121;
+
+const BAD_WORDS: u8 = 122;
+
+const BAD_PROGRAM: u8 = 124;
+
+const READ_FAULT: u8 = 128;
+
+const WRITE_FAULT: u8 = 129;
 
 #[test]
 fn runs_flat_images(rt: HostRuntime) -> Result<(), Fail> {
     let cases = [
-        (P2, Status::Exit(7), "exit 7\nretired 2\n", SEVEN),
+        (P2, 7, "exit 7\nretired 2\n", SEVEN),
         (
             b"".as_slice(),
-            trap(1, 0x1_0000, 0x1_0000),
+            TRAP,
             "trap 1 at 00010000 detail 00010000\nretired 0\n",
             START,
         ),
         (
             // jalr x1, 2(x0)
             b"\xe7\x00\x20\x00".as_slice(),
-            trap(0, 0x1_0000, 2),
+            TRAP,
             "trap 0 at 00010000 detail 00000002\nretired 0\n",
             START,
         ),
         (
             // lui x5, 0x7f100; lw x6, -2(x5)
             b"\xb7\x02\x10\x7f\x03\xa3\xe2\xff".as_slice(),
-            trap(4, 0x1_0004, 0x7f0f_fffe),
+            TRAP,
             "trap 4 at 00010004 detail 7f0ffffe\nretired 1\n",
             "",
         ),
         (
             // lui x5, 0x7f100; lw x6, 0(x5)
             b"\xb7\x02\x10\x7f\x03\xa3\x02\x00".as_slice(),
-            trap(5, 0x1_0004, 0x7f10_0000),
+            TRAP,
             "trap 5 at 00010004 detail 7f100000\nretired 1\n",
             "",
         ),
         (
             // jal x0, 0
             b"\x6f\x00\x00\x00".as_slice(),
-            Status::Limit(Some(10_000_000)),
+            LIMIT,
             "limit 10000000\nretired 10000000\n",
             START,
         ),
         (
             P6,
-            trap(2, 0x1_0008, 0x0273_0533),
+            TRAP,
             "trap 2 at 00010008 detail 02730533\nretired 2\n",
             "",
         ),
     ];
-    for (file, status, begins, ends) in cases {
-        check_machine(&rt, &["machine", "p"], file, status, begins, ends)?;
+    for (file, code, begins, ends) in cases {
+        check_machine(&rt, &["machine", "p"], file, code, begins, ends)?;
     }
     Ok(())
 }
@@ -209,14 +216,11 @@ retire 2 00010004 05d00893 x17=0000005d
 exit 7
 retired 2
 ";
-    let limit = Status::Limit(Some(2));
-    let zero = Status::Limit(Some(0));
-    let seven = Status::Exit(7);
     check_machine(
         &rt,
         &["machine", "p", "--limit", "2"],
         P2,
-        limit,
+        LIMIT,
         "limit 2\nretired 2\n",
         SEVEN,
     )?;
@@ -224,7 +228,7 @@ retired 2
         &rt,
         &["machine", "p", "--limit", "0"],
         P2,
-        zero,
+        LIMIT,
         "limit 0\nretired 0\n",
         START,
     )?;
@@ -232,7 +236,7 @@ retired 2
         &rt,
         &["machine", "p", "--limit", "3"],
         P2,
-        seven,
+        7,
         "exit 7\nretired 2\n",
         SEVEN,
     )?;
@@ -240,7 +244,7 @@ retired 2
         &rt,
         &["machine", "p", "--show", "retired"],
         P2,
-        seven,
+        7,
         shown,
         SEVEN,
     )?;
@@ -248,7 +252,7 @@ retired 2
         &rt,
         &["machine", "p", "--show", "report"],
         P2,
-        seven,
+        7,
         "exit 7\nretired 2\n",
         SEVEN,
     )?;
@@ -256,7 +260,7 @@ retired 2
         &rt,
         &["machine", "p", "--mul"],
         P6,
-        Status::Exit(42),
+        42,
         "exit 42\nretired 4\n",
         "",
     )
@@ -265,23 +269,22 @@ retired 2
 #[test]
 fn refuses(rt: HostRuntime) -> Result<(), Fail> {
     let long = ["machine", "p", "--limit", "1000000001"];
-    let short = Status::BadProgram(ProgramErr::Elf(ElfErr::TooShort(0)));
     let cases = [
-        ([].as_slice(), Status::BadWords(0), "bad words at 0\n"),
-        (long.as_slice(), Status::BadWords(3), "bad words at 3\n"),
+        ([].as_slice(), BAD_WORDS, "bad words at 0\n"),
+        (long.as_slice(), BAD_WORDS, "bad words at 3\n"),
         (
             ["machine", "q"].as_slice(),
-            Status::ReadFault(Which::Program),
+            READ_FAULT,
             "read fault program\n",
         ),
         (
             ["machine", "p"].as_slice(),
-            short,
+            BAD_PROGRAM,
             "bad program: Elf TooShort 0\n",
         ),
     ];
-    for (words, status, line) in cases {
-        check_machine(&rt, words, b"\x7fELF", status, line, line)?;
+    for (words, code, line) in cases {
+        check_machine(&rt, words, b"\x7fELF", code, line, line)?;
     }
     Ok(())
 }
@@ -290,9 +293,15 @@ fn refuses(rt: HostRuntime) -> Result<(), Fail> {
 fn refuses_long_files(rt: HostRuntime) -> Result<(), Fail> {
     let mut file = Vec::new(rt.alloc());
     file.resize(33_554_433, 0)?;
-    let status = Status::BadProgram(ProgramErr::TooLong);
     let line = "bad program: TooLong\n";
-    check_machine(&rt, &["machine", "p"], file.as_slice(), status, line, line)
+    check_machine(
+        &rt,
+        &["machine", "p"],
+        file.as_slice(),
+        BAD_PROGRAM,
+        line,
+        line,
+    )
 }
 
 fn put(file: &mut [u8; 248], at: usize, number: u32)
@@ -359,7 +368,7 @@ fn greets(rt: HostRuntime) -> Result<(), Fail> {
             report_fails: &[],
         };
         let wanted = Wanted {
-            status: Status::Exit(0),
+            code: 0,
             begins: "exit 0\nretired 8\n",
             ends: GREETED,
             output: b"hello\n",
@@ -375,7 +384,7 @@ limit 5
 retired 5
 ";
     let words = ["machine", "p", "--limit", "5", "--show", "retired"];
-    check_machine(&rt, &words, &file, Status::Limit(Some(5)), five, SILENCED)
+    check_machine(&rt, &words, &file, LIMIT, five, SILENCED)
 }
 
 #[test]
@@ -409,7 +418,7 @@ fn ends_where_a_stream_fails(rt: HostRuntime) -> Result<(), Fail> {
             report_fails,
         };
         let wanted = Wanted {
-            status: Status::WriteFault,
+            code: WRITE_FAULT,
             begins,
             ends,
             output: b"",
@@ -419,58 +428,33 @@ fn ends_where_a_stream_fails(rt: HostRuntime) -> Result<(), Fail> {
     Ok(())
 }
 
-fn elf(error: ElfErr) -> Status {
-    Status::BadProgram(ProgramErr::Elf(error))
-}
-
-fn load(error: LoadErr) -> Status {
-    Status::BadProgram(ProgramErr::Load(error))
-}
-
 #[test]
 fn refuses_a_file_that_is_cut(rt: HostRuntime) -> Result<(), Fail> {
     let file = greeting();
-    let flat = trap(1, 0x1_0000, 0x1_0000);
     let trapped = "trap 1 at 00010000 detail 00010000\nretired 0\n";
     for length in 0..4 {
         check_machine(
             &rt,
             &["machine", "p"],
             &file[..length],
-            flat,
+            TRAP,
             trapped,
             START,
         )?;
     }
     let cuts = [
-        (4, ElfErr::TooShort(0), "bad program: Elf TooShort 0\n"),
-        (51, ElfErr::TooShort(0), "bad program: Elf TooShort 0\n"),
-        (52, ElfErr::TooShort(52), "bad program: Elf TooShort 52\n"),
-        (84, ElfErr::TooShort(84), "bad program: Elf TooShort 84\n"),
-        (
-            116,
-            ElfErr::TooShort(116),
-            "bad program: Elf TooShort 116\n",
-        ),
-        (
-            179,
-            ElfErr::TooShort(148),
-            "bad program: Elf TooShort 148\n",
-        ),
-        (
-            180,
-            ElfErr::OutsideFile(1),
-            "bad program: Elf OutsideFile 1\n",
-        ),
-        (
-            221,
-            ElfErr::OutsideFile(2),
-            "bad program: Elf OutsideFile 2\n",
-        ),
+        (4, "bad program: Elf TooShort 0\n"),
+        (51, "bad program: Elf TooShort 0\n"),
+        (52, "bad program: Elf TooShort 52\n"),
+        (84, "bad program: Elf TooShort 84\n"),
+        (116, "bad program: Elf TooShort 116\n"),
+        (179, "bad program: Elf TooShort 148\n"),
+        (180, "bad program: Elf OutsideFile 1\n"),
+        (221, "bad program: Elf OutsideFile 2\n"),
     ];
-    for (length, error, line) in cuts {
+    for (length, line) in cuts {
         let cut = &file[..length.min(248)];
-        check_machine(&rt, &["machine", "p"], cut, elf(error), line, line)?;
+        check_machine(&rt, &["machine", "p"], cut, BAD_PROGRAM, line, line)?;
     }
     Ok(())
 }
@@ -478,78 +462,26 @@ fn refuses_a_file_that_is_cut(rt: HostRuntime) -> Result<(), Fail> {
 #[test]
 fn refuses_what_was_changed(rt: HostRuntime) -> Result<(), Fail> {
     let changes = [
-        (
-            36,
-            1,
-            elf(ElfErr::NeedsCompressed),
-            "bad program: Elf NeedsCompressed\n",
-        ),
-        (
-            28,
-            u32::MAX,
-            elf(ElfErr::TooShort(4_294_967_295)),
-            "bad program: Elf TooShort 4294967295\n",
-        ),
-        (
-            44,
-            65_535,
-            elf(ElfErr::TooShort(244)),
-            "bad program: Elf TooShort 244\n",
-        ),
-        (
-            148,
-            3,
-            elf(ElfErr::NeedsInterpreter),
-            "bad program: Elf NeedsInterpreter\n",
-        ),
-        (
-            88,
-            u32::MAX,
-            elf(ElfErr::OutsideFile(1)),
-            "bad program: Elf OutsideFile 1\n",
-        ),
-        (
-            136,
-            5,
-            elf(ElfErr::FileLargerThanMemory(2)),
-            "bad program: Elf FileLargerThanMemory 2\n",
-        ),
-        (
-            124,
-            0x0001_0010,
-            load(LoadErr::Overlap(0, 1)),
-            "bad program: Load Overlap 0 1\n",
-        ),
-        (
-            136,
-            u32::MAX,
-            load(LoadErr::WrapsAround(1)),
-            "bad program: Load WrapsAround 1\n",
-        ),
-        (
-            136,
-            0x0500_0000,
-            load(LoadErr::TooLarge(84_934_872)),
-            "bad program: Load TooLarge 84934872\n",
-        ),
+        (36, 1, "bad program: Elf NeedsCompressed\n"),
+        (28, u32::MAX, "bad program: Elf TooShort 4294967295\n"),
+        (44, 65_535, "bad program: Elf TooShort 244\n"),
+        (148, 3, "bad program: Elf NeedsInterpreter\n"),
+        (88, u32::MAX, "bad program: Elf OutsideFile 1\n"),
+        (136, 5, "bad program: Elf FileLargerThanMemory 2\n"),
+        (124, 0x0001_0010, "bad program: Load Overlap 0 1\n"),
+        (136, u32::MAX, "bad program: Load WrapsAround 1\n"),
+        (136, 0x0500_0000, "bad program: Load TooLarge 84934872\n"),
     ];
-    for (at, number, status, line) in changes {
+    for (at, number, line) in changes {
         let mut file = greeting();
         put(&mut file, at.min(244), number);
-        check_machine(&rt, &["machine", "p"], &file, status, line, line)?;
+        check_machine(&rt, &["machine", "p"], &file, BAD_PROGRAM, line, line)?;
     }
     // No segments: the entry is not in memory.
     let mut file = greeting();
     put(&mut file, 44, 0);
     let trapped = "trap 1 at 000100b4 detail 000100b4\nretired 0\n";
-    check_machine(
-        &rt,
-        &["machine", "p"],
-        &file,
-        trap(1, 0x1_00b4, 0x1_00b4),
-        trapped,
-        START,
-    )
+    check_machine(&rt, &["machine", "p"], &file, TRAP, trapped, START)
 }
 
 #[test]
@@ -563,7 +495,13 @@ fn refuses_seventeen_parts(rt: HostRuntime) -> Result<(), Fail> {
     for _ in 0..16 {
         file.extend_from_slice(&start[116..148])?;
     }
-    let status = load(LoadErr::TooMany(17));
     let line = "bad program: Load TooMany 17\n";
-    check_machine(&rt, &["machine", "p"], file.as_slice(), status, line, line)
+    check_machine(
+        &rt,
+        &["machine", "p"],
+        file.as_slice(),
+        BAD_PROGRAM,
+        line,
+        line,
+    )
 }

@@ -7,6 +7,9 @@ ghost use Rattle.cfpp_cli.specs.Outside.{outside_of, report_of};
 ghost use Rattle.cfpp_cli.specs.Top.{IsTop};
 
 use crate::answer::Answer;
+use crate::assembling::assemble_program;
+use crate::check::check_layout;
+use crate::listing::list_program;
 use crate::machine::run_program;
 use crate::refusals::bad_words;
 use crate::status::Status;
@@ -38,9 +41,9 @@ fn decide<F: Files, S: Source, K: Sink, R: Sink>(
         Ok(Command::Machine { program, options }) => {
             run_program(alloc, program, options, files, input, output, report)
         }
-        Ok(Command::Check { .. }) => unreachable!(),
-        Ok(Command::List { .. }) => unreachable!(),
-        Ok(Command::Asm { .. }) => unreachable!(),
+        Ok(Command::Check { layout }) => Ok(check_layout(alloc, layout, files, output)),
+        Ok(Command::List { program }) => Ok(list_program(alloc, program, files, output)),
+        Ok(Command::Asm { source }) => Ok(assemble_program(alloc, source, files, output)),
         Ok(Command::Run { .. }) => unreachable!(),
         Err(index) => Ok(Answer {
             status: Status::BadWords(index),
@@ -49,7 +52,9 @@ fn decide<F: Files, S: Source, K: Sink, R: Sink>(
     }
 }
 
-/// Does what the words say: `machine PROGRAM` runs a program's file on the sequential machine.
+/// Does what the words say: `machine PROGRAM` runs a program's file on the sequential machine, `check LAYOUT` writes a
+/// layout's one text to the output, `list PROGRAM` puts a program's listing there, and `asm SOURCE` the ELF file that an
+/// assembly source stands for.
 ///
 /// The file is an ELF executable for RISC-V, whose segments are loaded, or else a flat image, which stands at
 /// 0x00010000 in one region that may be read, written and executed, and begins there; a zeroed stack of 1 MiB
@@ -57,7 +62,7 @@ fn decide<F: Files, S: Source, K: Sink, R: Sink>(
 /// it; `--show retired` puts a line to the report for each instruction as it retires, and `--show report`,
 /// which is the default, none; with `--mul` the machine multiplies and divides. `input` and `output` are the
 /// program's own. The report closes with how the run finished, how many instructions retired, and what the
-/// registers hold; where nothing was run, it is one line that says why. After a report that failed nothing
+/// registers hold; where nothing was run, it is one line that says why, and after `check` it is empty. After a report that failed nothing
 /// more is put to it, and the status is `WriteFault`.
 pub fn cfpp<F: Files, S: Source, K: Sink, R: Sink>(
     alloc: Global,

@@ -1,0 +1,14 @@
+use Rattle.cfpp_cli.proofs.Named.{layout-read, layout-described, layout-refused}
+use Rattle.cfpp_cli.proofs.layouts.read_file.Goals as goal
+
+pub returns-in-Ok-clause-ok : goal.returns-in-Ok-clause-ok
+returns-in-Ok-clause-ok g c =
+    layout-described _ _ _ _ c.read_content.result
+    (layout-read _ _ _ c.in-Ok.file c.in-Ok.ensures.bytes)
+    (rw c.as_slice.ensures.value at c.read_content.ensures.ok)
+
+pub returns-in-Ok-clause-refused : goal.returns-in-Ok-clause-refused
+returns-in-Ok-clause-refused g c =
+    layout-refused _ _ _ _ _ _ c.read_content.result
+    (layout-read _ _ _ c.in-Ok.file c.in-Ok.ensures.bytes)
+    (rw c.as_slice.ensures.value at c.read_content.ensures.refused)

@@ -1,0 +1,63 @@
+-- What the command `asm` answers, and what it leaves of the outside.
+use Rattle.std.specs.Prelude.{◌≡◌, ◌≢◌, ◌⊎◌, ℕ, List, codes, Option, Err}
+use Rattle.cf_texts.specs.Texts.{line}
+use Rattle.rv_asm.specs.declared.object.Object.{Object}
+use Rattle.rv_asm.specs.declared.refusal.AsmErr.{AsmErr}
+use Rattle.rv_asm.specs.declared.refusal.AsmKind.TheVariants as AsmKind
+use Rattle.rv_asm.specs.Assembling.{assembled}
+use Rattle.rv_asm.specs.Objects.{Objects}
+use Rattle.elf_make.specs.Files.{elf_file}
+use Rattle.elf_make.specs.Viewed.{IsView}
+use Rattle.asm_texts.specs.Refusals.{bad_source}
+use Rattle.cfpp_cli.specs.FileCommands.{FileSide, PutsText, FailsText, ComesOfFile, IsUnread, IsUnheld}
+use Rattle.cfpp_cli.specs.declared.status.Status.{Status}
+use Rattle.cfpp_cli.specs.declared.status.Status.TheVariants as status
+use Rattle.cfpp_cli.specs.declared.status.Which.TheVariants as which
+
+-- the greatest length that is read of a source: one byte more than a source may have
+abbrev pub most_source : ℕ
+most_source = 1048577
+
+-- the file is that of the object that the source stands for, and is seen as it
+pub record IsAssembly (source file : List ℕ) : Type 0 where
+  pub object : Object
+  pub stands : Objects object (assembled source)
+  pub file_is : file ≡ elf_file object
+  pub view : IsView object file
+
+-- the file of a source was put to the output
+pub record PutsAssembly (source : List ℕ) (before after : Option (List ℕ)) (report : List ℕ) : Type 0 where
+  pub file : List ℕ
+  pub assembly : IsAssembly source file
+  pub puts : PutsText file before after report
+
+-- the output failed at it
+pub record FailsAssembly (source : List ℕ) (before after : Option (List ℕ)) (report : List ℕ) : Type 0 where
+  pub file : List ℕ
+  pub assembly : IsAssembly source file
+  pub fails : FailsText file before after report
+
+-- the status and the report of a refusal
+abbrev pub Refused : AsmErr → Status → List ℕ → Type 0
+Refused error (status.BadSource told) report =
+    (error.kind ≢ AsmKind.NoMemory) × (told ≡ error) × (report ≡ bad_source error)
+Refused error status.NoMemory report = report ≡ line (codes "no memory")
+Refused error _ report = ⊥
+
+-- the status and the report that a source comes to
+abbrev pub AssemblesSource : List ℕ → Option (List ℕ) → Option (List ℕ) → Status → List ℕ → Type 0
+AssemblesSource source before after status.Done report = PutsAssembly source before after report
+AssemblesSource source before after status.WriteFault report =
+    FailsAssembly source before after report
+AssemblesSource source before after (status.BadSource error) report =
+    (assembled source ≡ Err error) × (report ≡ bad_source error) × (after ≡ before)
+AssemblesSource source before after status.NoMemory report =
+    (report ≡ line (codes "no memory")) × (after ≡ before)
+AssemblesSource source before after _ report = ⊥
+
+-- the answer of `asm` and its report
+abbrev pub AnswersAsm : List ℕ → FileSide → FileSide → Status → List ℕ → Type 0
+AnswersAsm name before after answer report =
+    ComesOfFile AssemblesSource most_source name before after answer report
+    ⊎ (IsUnread which.Source (codes "read fault source") name before after answer report
+    ⊎ IsUnheld before after answer report)

@@ -1,0 +1,60 @@
+//! The command `check`.
+
+ghost use Rattle.std.specs.Prelude.{ℕ, List, Option};
+ghost use Rattle.cf_io.specs.Causes.{HasCause};
+ghost use Rattle.cf_words.specs.Views.{layout_of};
+ghost use Rattle.cfpp_cli.specs.Causes.{output_answered};
+ghost use Rattle.cfpp_cli.specs.Check.{AnswersCheck, WritesText};
+ghost use Rattle.cfpp_cli.specs.Outside.{outside_of};
+
+use crate::answer::Answer;
+use crate::layouts::{layout_at, no_memory};
+use crate::refusals::line;
+use crate::status::Status;
+use cf_io::{Files, Sink, put_all};
+use cf_layout::Layout;
+use cf_texts::Page;
+use cf_words::LayoutWord;
+use layout_file::write_layout;
+use std::alloc::Global;
+
+/// Writes the layout's one text.
+fn write_text<K: Sink>(alloc: Global, layout: &Layout, output: &mut K) -> Answer
+    ensures text { WritesText layout.now (K.written output.old) (K.written output.new) result.status result.closing }
+    ensures output { HasCause (K.faults output.old) (K.faults output.new) (output_answered result.status) }
+{
+    let text = match write_layout(alloc, layout) {
+        Ok(text) => text,
+        Err(_) => return no_memory(),
+    };
+    match put_all(output, text.as_slice()) {
+        Ok(()) => Answer {
+            status: Status::Done,
+            closing: Page::new(),
+        },
+        Err(_) => Answer {
+            status: Status::WriteFault,
+            closing: line(b"write fault output"),
+        },
+    }
+}
+
+/// Carries out `check`: reads the layout that the word names, and writes its one text to the output.
+pub fn check_layout<F: Files, K: Sink>(
+    alloc: Global,
+    word: LayoutWord<'_>,
+    files: &mut F,
+    output: &mut K,
+) -> Answer
+    ensures answers { (left : Option (List ℕ)) (faults : ℕ) → AnswersCheck (layout_of word.entry)
+        (outside_of (F.told files.old) (F.faults files.old) left faults
+        (K.written output.old) (K.faults output.old))
+        (outside_of (F.told files.new) (F.faults files.new) left faults
+        (K.written output.new) (K.faults output.new)) result.status result.closing }
+    ensures output { HasCause (K.faults output.old) (K.faults output.new) (output_answered result.status) }
+{
+    match layout_at(alloc, word, files) {
+        Ok(layout) => write_text(alloc, &layout, output),
+        Err(answer) => answer,
+    }
+}

@@ -1,0 +1,103 @@
+//! The command `list`.
+
+ghost use Rattle.std.specs.Prelude.{◌≡◌, Ok, OnOk, IfErr};
+ghost use Rattle.cf_io.specs.Causes.{HasCause};
+ghost use Rattle.cf_io.specs.Puts.{Writes};
+ghost use Rattle.cfpp_cli.specs.Causes.{input_answered, output_listed, output_answered};
+ghost use Rattle.cfpp_cli.specs.FileCommands.{file_side};
+ghost use Rattle.cfpp_cli.specs.Listings.{listing_of, IsListable, IsNotListed, ListsImage, AnswersList};
+
+use crate::answer::Answer;
+use crate::opening::{MOST_BYTES, is_elf};
+use crate::refusals::{bad_program, line};
+use crate::status::{ProgramErr, Status, Which};
+use cf_io::{Files, FilesErr, Sink};
+use cf_listing::{put_elf_listing, put_flat_listing};
+use cf_texts::Page;
+use elf_view::Elf;
+use std::alloc::Global;
+
+/// Why a listing was not put.
+pub enum ListErr {
+    /// The file is no program.
+    Refused(ProgramErr),
+
+    /// The output failed.
+    Failed,
+}
+
+/// Puts the listing of a program file.
+#[tactic(auto, unfolding(crate::specs::Listings::listing_of))]
+fn put_listing<K: Sink>(image: &[u8], output: &mut K) -> Result<(), ListErr>
+    ensures listable { OnOk result (IsListable image.now) }
+    ensures ok { OnOk result (Writes (K.written output.old) (K.written output.new) (listing_of image.now)) }
+    ensures err { IfErr result (λ e. IsNotListed image.now (K.written output.old) (K.written output.new) e) }
+    ensures cause { HasCause (K.faults output.old) (K.faults output.new) (output_listed result) }
+{
+    if image.len() as u64 > MOST_BYTES {
+        return Err(ListErr::Refused(ProgramErr::TooLong));
+    }
+    if !is_elf(image) {
+        return match put_flat_listing(image, output) {
+            Ok(()) => Ok(()),
+            Err(_) => Err(ListErr::Failed),
+        };
+    }
+    let elf = match Elf::view(image) {
+        Ok(elf) => elf,
+        Err(error) => return Err(ListErr::Refused(ProgramErr::Elf(error))),
+    };
+    match put_elf_listing(&elf, output) {
+        Ok(()) => Ok(()),
+        Err(_) => Err(ListErr::Failed),
+    }
+}
+
+/// Lists a program that was read.
+fn list_image<K: Sink>(image: &[u8], output: &mut K) -> Answer
+    ensures comes { ListsImage image.now (K.written output.old) (K.written output.new) result.status result.closing }
+    ensures input { input_answered result.status ≡ Ok tt }
+    ensures output { HasCause (K.faults output.old) (K.faults output.new) (output_answered result.status) }
+{
+    match put_listing(image, output) {
+        Ok(()) => Answer {
+            status: Status::Done,
+            closing: Page::new(),
+        },
+        Err(ListErr::Refused(error)) => Answer {
+            status: Status::BadProgram(error),
+            closing: bad_program(error),
+        },
+        Err(ListErr::Failed) => Answer {
+            status: Status::WriteFault,
+            closing: line(b"write fault output"),
+        },
+    }
+}
+
+/// Carries out `list`: reads the program's file and puts its listing to the output.
+pub fn list_program<F: Files, K: Sink>(
+    alloc: Global,
+    program: &str,
+    files: &mut F,
+    output: &mut K,
+) -> Answer
+    ensures answers { AnswersList program.now
+        (file_side (F.told files.old) (F.faults files.old) (K.written output.old))
+        (file_side (F.told files.new) (F.faults files.new) (K.written output.new))
+        result.status result.closing }
+    ensures input { input_answered result.status ≡ Ok tt }
+    ensures output { HasCause (K.faults output.old) (K.faults output.new) (output_answered result.status) }
+{
+    match files.read(alloc, program, MOST_BYTES + 1) {
+        Ok(image) => list_image(image.as_slice(), output),
+        Err(FilesErr::Failed) => Answer {
+            status: Status::ReadFault(Which::Program),
+            closing: line(b"read fault program"),
+        },
+        Err(FilesErr::NoMemory) => Answer {
+            status: Status::NoMemory,
+            closing: line(b"no memory"),
+        },
+    }
+}
