@@ -1,6 +1,6 @@
 //! Sets of classes.
 
-ghost use Rattle.std.specs.Prelude.{◌≡◌, ◌∷◌, ◌++◌, if◌then◌else◌, IfOk, [], ◌<◌, ◌^◌, ◌||◌};
+ghost use Rattle.std.specs.Prelude.{◌≡◌, ◌↔◌, IsTrue, ◌∷◌, ◌++◌, if◌then◌else◌, IfOk, [], ◌<◌, ◌^◌, ◌||◌};
 ghost use Rattle.rv_inst.specs.declared.classes.Class.{Class as Kind};
 ghost use Rattle.cf_layout.specs.Layout.{same_class, place_of};
 ghost use Rattle.cf_layout.specs.Words.{has_bit};
@@ -13,7 +13,7 @@ use std::alloc::{AllocError, Global};
 use std::marker::Model;
 
 /// A set of classes that units or sidings compute: for each the bit of its place in class order.
-#[derive(Clone, Copy, PartialEq, Eq)]
+#[derive(Clone, Copy)]
 pub(crate) struct ClassSet {
     word: u32,
 }
@@ -78,6 +78,14 @@ impl ClassSet {
             word = with_class(word, *class);
         }
         ClassSet { word }
+    }
+
+    /// Whether the two sets have the same classes.
+    #[tactic(auto, using(crate::specs::Kept::classes_kept))]
+    pub(crate) fn same(self, other: ClassSet) -> bool
+        ensures { IsTrue result ↔ (self ≡ other) }
+    {
+        self.word == other.word
     }
 
     /// Whether the class is one of the set.

@@ -1,11 +1,13 @@
 //! A siding of an accepted layout.
 
+ghost use Rattle.std.specs.Prelude.{◌≡◌, ◌↔◌, IsTrue};
+
 use crate::class_set::ClassSet;
 use std::marker::Model;
 
 /// A siding: the classes that go through it, the stage from which it launches, the one at which it recovers, and how
 /// many cells it has.
-#[derive(Clone, Copy, PartialEq, Eq)]
+#[derive(Clone, Copy)]
 pub(crate) struct Laid {
     pub(crate) classes: ClassSet,
     pub(crate) launch: u32,
@@ -21,4 +23,16 @@ impl Model for Laid {
     ghost view = { λ s. record { classes = s.classes; launch = s.launch; recover = s.recover; cells = s.cells } };
 
     ghost inverse = { λ s. record { classes = s.classes; launch = s.launch; recover = s.recover; cells = s.cells } };
+}
+
+impl Laid {
+    /// Whether the two sidings have the same classes, stand in the same place and have as many cells.
+    pub(crate) fn same(&self, other: &Laid) -> bool
+        ensures { IsTrue result ↔ (self.now ≡ other.now) }
+    {
+        self.classes.same(other.classes)
+            && self.launch == other.launch
+            && self.recover == other.recover
+            && self.cells == other.cells
+    }
 }

@@ -1,6 +1,6 @@
 //! An accepted layout.
 
-ghost use Rattle.std.specs.Prelude.{◌≡◌, ◌<◌, ◌≤◌, true, All, IfOk, IfSome, length};
+ghost use Rattle.std.specs.Prelude.{◌≡◌, ◌↔◌, IsTrue, ◌<◌, ◌≤◌, true, All, IfOk, IfSome, length};
 ghost use Rattle.cf_layout.specs.Asked.{is_within, IsSmall, plan_of};
 ghost use Rattle.cf_layout.specs.Layout.{stages_of, unit_at, siding_of, recovers_by, is_homed, launch_stage, recover_stage, cells_of, serves, siding_at, has_mul, last_stage};
 ghost use Rattle.cf_layout.specs.Accepted.{IsAccepted};
@@ -9,6 +9,7 @@ use crate::Parts;
 use crate::asked::natural;
 use crate::class_set::ClassSet;
 use crate::classes::place;
+use crate::comparing::{same_sidings, same_units};
 use crate::laid::Laid;
 use crate::laying::{lay_sidings, lay_units, no_siding};
 use crate::stage_set::StageSet;
@@ -17,7 +18,7 @@ use std::alloc::{AllocError, Global};
 use std::marker::Model;
 
 /// An accepted layout.
-#[derive(Clone, Copy, PartialEq, Eq)]
+#[derive(Clone, Copy)]
 pub struct Layout {
     stages: u32,
     lane: u32,
@@ -221,6 +222,17 @@ impl Layout {
         ensures { result ≡ has_mul self.now }
     {
         self.is_homed(Class::Mul) && self.is_homed(Class::Div)
+    }
+
+    /// Whether the two layouts have the same stages, lane, cache, units and sidings.
+    pub fn same(&self, other: &Layout) -> bool
+        ensures { IsTrue result ↔ (self.now ≡ other.now) }
+    {
+        self.stages == other.stages
+            && self.lane == other.lane
+            && self.cache == other.cache
+            && same_units(&self.units, &other.units)
+            && same_sidings(self.sidings(), other.sidings())
     }
 }
 

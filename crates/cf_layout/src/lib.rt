@@ -7,6 +7,7 @@ mod builtin;
 mod checking;
 mod class_set;
 mod classes;
+mod comparing;
 mod laid;
 pub mod laws;
 mod laying;

@@ -1,6 +1,6 @@
 //! Sets of stages.
 
-ghost use Rattle.std.specs.Prelude.{◌≡◌, ◌≤◌, ◌-◌, ◌∷◌, ◌++◌, if◌then◌else◌, IfOk, [], length, ◌<◌, ◌+◌, ℕ, pos, ◌||◌, find, nat_eq, nat_lt};
+ghost use Rattle.std.specs.Prelude.{◌≡◌, ◌↔◌, IsTrue, ◌≤◌, ◌-◌, ◌∷◌, ◌++◌, if◌then◌else◌, IfOk, [], length, ◌<◌, ◌+◌, ℕ, pos, ◌||◌, find, nat_eq, nat_lt};
 ghost use Rattle.cf_layout.specs.Words.{has_bit};
 ghost use Rattle.std.specs.List.{list_any};
 ghost use Rattle.cf_layout.specs.Layout.{last_of};
@@ -11,7 +11,7 @@ use std::alloc::{AllocError, Global};
 use std::marker::Model;
 
 /// A set of stages: bit i - 1 for stage i.
-#[derive(Clone, Copy, PartialEq, Eq)]
+#[derive(Clone, Copy)]
 pub(crate) struct StageSet {
     word: u32,
 }
@@ -83,6 +83,14 @@ impl StageSet {
         ensures { result ≡ nat_eq (length self) 0 }
     {
         self.word == 0
+    }
+
+    /// Whether the two sets have the same stages.
+    #[tactic(auto, using(crate::specs::Kept::stages_kept))]
+    pub(crate) fn same(self, other: StageSet) -> bool
+        ensures { IsTrue result ↔ (self ≡ other) }
+    {
+        self.word == other.word
     }
 
     /// Whether the stage is one of the set.
