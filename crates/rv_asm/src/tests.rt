@@ -2,6 +2,7 @@
 use super::*;
 use rv_text::TextErr;
 use std::process::Abort;
+use std::test::Fail;
 
 const SOURCE: &str = "\
     .globl _start\n\
@@ -98,8 +99,8 @@ fn spell(bytes: &[u8], words: &[u32]) -> bool {
     rest.is_empty()
 }
 
-fn gives(rt: &(impl Abort + AllocGlobal), source: &str, text: &[u32], data: &[u32]) -> bool {
-    match assemble(rt.alloc(), source.as_bytes()) {
+fn gives(rt: &(impl Abort + AllocGlobal), source: &[u8], text: &[u32], data: &[u32]) -> bool {
+    match assemble(rt.alloc(), source) {
         Ok(object) => {
             spell(object.text_bytes.as_slice(), text) && spell(object.data_bytes.as_slice(), data)
         }
@@ -109,8 +110,34 @@ fn gives(rt: &(impl Abort + AllocGlobal), source: &str, text: &[u32], data: &[u3
 
 #[test]
 fn a_program_is_assembled(rt: HostRuntime) {
-    assert!(rt; gives(&rt, SOURCE, &TEXT, &DATA));
-    assert!(rt; gives(&rt, "", &[], &[]));
+    assert!(rt; gives(&rt, SOURCE.as_bytes(), &TEXT, &DATA));
+    assert!(rt; gives(&rt, b"", &[], &[]));
+}
+
+/// Addresses of which the one of the instruction is 4 GiB away, counted in 32 bits, or half as far.
+const FAR: &str = "la a0, 0xfffff800\nla a1, 0x7ffffffc\ncall 0xfffff800\n.text\nnop\n";
+
+#[test]
+fn distances_are_taken_in_32_bits(rt: HostRuntime) {
+    let text = [
+        0xffff_0517,
+        0x8005_0513,
+        0x7fff_0597,
+        0xff45_8593,
+        0xfffe_f097,
+        0x7f00_80e7,
+        0x0000_0013,
+    ];
+    assert!(rt; gives(&rt, FAR.as_bytes(), &text, &[]));
+}
+
+#[test]
+fn a_source_may_have_1048576_bytes(rt: HostRuntime) -> Result<(), Fail> {
+    let mut source = Vec::new(rt.alloc());
+    source.resize(1_048_572, b'\n')?;
+    source.extend_from_slice(b"ret\n")?;
+    assert!(rt; gives(&rt, source.as_slice(), &[0x0000_8067], &[]));
+    Ok(())
 }
 
 fn entry(rt: &(impl Abort + AllocGlobal), source: &str) -> u32 {
@@ -133,7 +160,7 @@ fn refusal(rt: &(impl Abort + AllocGlobal), source: &[u8]) -> Option<(u32, AsmKi
     }
 }
 
-const REFUSALS: [(&[u8], u32, AsmKind); 24] = [
+const REFUSALS: [(&[u8], u32, AsmKind); 25] = [
     (
         b"nop\naddi x1, x2, 2048",
         2,
@@ -141,6 +168,7 @@ const REFUSALS: [(&[u8], u32, AsmKind); 24] = [
     ),
     (b"frob # \xff", 1, AsmKind::NotAscii),
     (b"1: nop", 1, AsmKind::Text(TextErr::UnknownName)),
+    (b"mv x32, x1", 1, AsmKind::Text(TextErr::BadRegister)),
     (b"a : nop", 1, AsmKind::Text(TextErr::UnknownName)),
     (b".frob", 1, AsmKind::UnknownDirective),
     (b".ascii\"x\"", 1, AsmKind::UnknownDirective),
