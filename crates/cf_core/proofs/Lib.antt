@@ -4,6 +4,7 @@ pub mod Meetings
 pub mod Quiet
 pub mod Exits
 pub mod Served
+pub mod Asked
 pub mod Opened
 pub mod Sending
 pub mod Berths
@@ -19,3 +20,5 @@ pub mod Steps
 pub mod KeptServe
 pub mod Empty
 pub mod Weights
+pub mod Sameness
+pub mod Entries

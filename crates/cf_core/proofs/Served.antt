@@ -43,7 +43,7 @@ place_in s i p (Some c) e f = record { cell = c; here = e; rides = f }
 place : (s : State) (i : ℕ) (p : Passenger) → passenger_at s.cells i ≡ Some p → Place s i p
 place s i p f = place_in s i p (cell_at s.cells i) refl f
 
-calls_here : (old : Processor) (p : Passenger) → passenger_at old.state.cells old.plan.stages ≡ Some p → instruction p ≡ Ecall → CallsHere old
+pub calls_here : (old : Processor) (p : Passenger) → passenger_at old.state.cells old.plan.stages ≡ Some p → instruction p ≡ Ecall → CallsHere old
 calls_here old p e f = subst (λ o. Where o ⊥ (λ q. instruction q ≡ Ecall)) (sym e) f
 
 -- the passenger that is asked

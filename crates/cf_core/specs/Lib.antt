@@ -1,4 +1,5 @@
 pub mod Processors
 pub mod Seen
 pub mod Stepping
+pub mod Asking
 pub mod Ends

@@ -11,6 +11,7 @@ use Rattle.cf_bind.specs.declared.moves.Move.{Move}
 use Rattle.cf_semantics.specs.Instructions.{kind_of, is_memory, access_trap}
 use Rattle.cf_semantics.specs.State.{State, siding_at}
 use Rattle.cf_semantics.specs.Layouts.{isa_of}
+use Rattle.cf_semantics.specs.Determined.{IsSame}
 use Rattle.cf_semantics.specs.Moves.{moved}
 use Rattle.cf_semantics.specs.Runs.{opened as opened_on}
 use Rattle.cf_stages.specs.Changes.{IsCell}
@@ -58,3 +59,11 @@ pub record IsProcessor (plan : Plan) (s : State) : Type 0 where
 -- a processor in which nothing stands, with what a machine holds
 unfoldable pub opened : Plan → Hart → Processor
 opened plan hart = record { plan = plan; state = opened_on plan (record { hart = hart; rest = []; output = [] }) }
+
+-- the two have one layout and are in one state, but for the values that are kept at the bottom
+abbrev pub AreSame : Processor → Processor → Type 0
+AreSame p q = (p.plan ≡ q.plan) × IsSame p.state q.state
+
+-- the same stands beside the pipes of the two: the lane, fetch and the registers
+abbrev pub AreSameEnds : State → State → Type 0
+AreSameEnds s t = (s.lane ≡ t.lane) × (s.fetch ≡ t.fetch) × (s.regs ≡ t.regs)

@@ -9,6 +9,7 @@ ghost use Rattle.cf_layout.specs.Layout.{cells_of};
 ghost use Rattle.cf_semantics.specs.State.{cell_at, siding_at};
 ghost use Rattle.cf_semantics.specs.Layouts.{isa_of};
 ghost use Rattle.cf_semantics.specs.Passengers.{cached as kept_value};
+ghost use Rattle.cf_core.specs.Asking.{AsksInput, AsksOutput};
 ghost use Rattle.cf_core.specs.Processors.{opened, IsOp, IsProcessor, IsStage};
 ghost use Rattle.cf_core.specs.Stepping.{Steps, input_stepped, output_stepped};
 
@@ -206,6 +207,9 @@ impl Core {
     /// seen of the move from outside. `ReadFault` and `WriteFault` come only of Serve with ECALL in the highest stage, where
     /// the input or the output failed the call of the environment: the processor bars every move from then on, the guest's
     /// buffer is as [`rv_machine::serve`] leaves it, and all else is as before.
+    ///
+    /// The input is asked only by Serve, where nothing bars it and the instruction in the highest stage is an ECALL whose call
+    /// asks the input; the output likewise. Every other move leaves it as it is, whatever it tells of itself.
     #[inline(always)]
     #[tactic(auto, using(crate::proofs::KeptServe::keeping))]
     pub fn step<S: Source, K: Sink>(&mut self, m: Move, input: &mut S, output: &mut K) -> Step
@@ -215,6 +219,8 @@ impl Core {
             (streams_of (S.left input.new) (K.written output.new)) result }
         ensures input { HasCause (S.faults input.old) (S.faults input.new) (input_stepped result) }
         ensures output { HasCause (K.faults output.old) (K.faults output.new) (output_stepped result) }
+        ensures input_asked { (AsksInput self.old m → ⊥) → input.new ≡ input.old }
+        ensures output_asked { (AsksOutput self.old m → ⊥) → output.new ≡ output.old }
     {
         self.processor.step(m, input, output)
     }

@@ -11,6 +11,7 @@ mod moving;
 mod pipes;
 mod processor;
 mod rows;
+mod same;
 mod serving;
 mod step;
 mod top;

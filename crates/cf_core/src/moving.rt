@@ -6,6 +6,7 @@ ghost use Rattle.rv_machine.specs.Streams.{streams_of};
 ghost use Rattle.cf_bind.specs.declared.moves.Move.TheVariants as mv;
 ghost use Rattle.cf_semantics.specs.Bars.{bar as first_bar, row_bar as bar_of_row};
 ghost use Rattle.cf_semantics.specs.Events.{IsEvent};
+ghost use Rattle.cf_core.specs.Asking.{AsksInput, AsksOutput};
 ghost use Rattle.cf_core.specs.Processors.{after_move, IsProcessor};
 ghost use Rattle.cf_core.specs.Stepping.{Steps, input_stepped, output_stepped};
 
@@ -102,6 +103,8 @@ impl Processor {
             (streams_of (S.left input.new) (K.written output.new)) result }
         ensures input { HasCause (S.faults input.old) (S.faults input.new) (input_stepped result) }
         ensures output { HasCause (K.faults output.old) (K.faults output.new) (output_stepped result) }
+        ensures input_asked { (AsksInput self.old m → ⊥) → input.new ≡ input.old }
+        ensures output_asked { (AsksOutput self.old m → ⊥) → output.new ≡ output.old }
     {
         if let Some(bar) = self.bar(m) {
             return Step::Barred(bar);

@@ -8,6 +8,7 @@ ghost use Rattle.cf_semantics.specs.Instructions.{is_serial as needs_machine};
 ghost use Rattle.cf_semantics.specs.Passengers.{instruction as instruction_of};
 ghost use Rattle.cf_semantics.specs.Bars.{row_bar};
 ghost use Rattle.cf_stages.specs.Changes.{passenger_at};
+ghost use Rattle.cf_core.specs.Asking.{CallsInput, CallsOutput};
 ghost use Rattle.cf_core.specs.Processors.{in_state, IsProcessor};
 ghost use Rattle.cf_core.specs.Stepping.{ServesOrFails, input_served, output_served, synchronized, taken, told_of};
 
@@ -62,6 +63,8 @@ impl Processor {
             (streams_of (S.left input.new) (K.written output.new)) result }
         ensures input { HasCause (S.faults input.old) (S.faults input.new) (input_served result) }
         ensures output { HasCause (K.faults output.old) (K.faults output.new) (output_served result) }
+        ensures input_asked { (CallsInput self.old → ⊥) → input.new ≡ input.old }
+        ensures output_asked { (CallsOutput self.old → ⊥) → output.new ≡ output.old }
     {
         let stage = self.stages.count();
         let Some(passenger) = self.stages.cell(stage).passenger else {
@@ -104,6 +107,8 @@ impl Processor {
             (streams_of (S.left input.new) (K.written output.new)) result }
         ensures input { HasCause (S.faults input.old) (S.faults input.new) (input_served result) }
         ensures output { HasCause (K.faults output.old) (K.faults output.new) (output_served result) }
+        ensures input_asked { (CallsInput self.old → ⊥) → input.new ≡ input.old }
+        ensures output_asked { (CallsOutput self.old → ⊥) → output.new ≡ output.old }
     {
         let served = serve(self.ends.regs(), &mut self.memory, input, output);
         self.take(stage, passenger, served)

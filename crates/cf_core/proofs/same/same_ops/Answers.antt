@@ -1,0 +1,7 @@
+-- What the operations answer decides for the lists of them.
+use Rattle.std.proofs.lemmas.Slice.Eq.{slice_eq-Decides}
+use Rattle.cf_core.proofs.Sameness.{option_decides, op_decides}
+use Rattle.cf_core.proofs.same.same_ops.Goals as goal
+
+pub returns : goal.returns
+returns c = slice_eq-Decides (option_decides op_decides) c.args.ops.now c.args.other.now c.eq.result c.eq.ensures

@@ -1,0 +1,30 @@
+-- What a move asks of the input and of the output: only the call of an ECALL asks anything ("Counterflow Pipeline Processor Architecture", 1994).
+use Rattle.std.specs.Prelude.{◌≡◌, IsTrue, None}
+use Rattle.rv_machine.specs.Call.{asks_input, asks_output}
+use Rattle.cf_bind.specs.declared.moves.Move.{Move}
+use Rattle.cf_bind.specs.declared.moves.Move.TheVariants.{Serve}
+use Rattle.cf_semantics.specs.Bars.{bar}
+use Rattle.cf_core.specs.Processors.{Processor}
+use Rattle.cf_core.specs.Stepping.{CallsHere}
+
+-- the instruction in the highest stage is ECALL, and its call asks the input
+pub record CallsInput (p : Processor) : Type 0 where
+  pub calls : CallsHere p
+  pub asks : IsTrue (asks_input p.state.regs p.state.mem)
+
+-- the same of the output
+pub record CallsOutput (p : Processor) : Type 0 where
+  pub calls : CallsHere p
+  pub asks : IsTrue (asks_output p.state.regs p.state.mem)
+
+-- the move asks the input: it is Serve, nothing bars it, and the call asks the input
+pub record AsksInput (p : Processor) (mv : Move) : Type 0 where
+  pub serves : mv ≡ Serve
+  pub allowed : bar p.plan p.state mv ≡ None
+  pub call : CallsInput p
+
+-- the same of the output
+pub record AsksOutput (p : Processor) (mv : Move) : Type 0 where
+  pub serves : mv ≡ Serve
+  pub allowed : bar p.plan p.state mv ≡ None
+  pub call : CallsOutput p
