@@ -1,3 +1,9 @@
 pub mod Moves
 pub mod Behind
 pub mod Runs
+pub mod Asked
+pub mod Retirements
+pub mod Fronts
+pub mod Settling
+pub mod Arrived
+pub mod Headline

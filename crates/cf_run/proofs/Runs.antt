@@ -38,7 +38,7 @@ leads-more plan limit told m [] last rest made h finds is =
 leads-more plan limit told m (first ∷ trace) last rest made (r, f, i, h) finds is = (r, f, i, leads-more plan limit told (next plan (record m { rest = r }) first.move) trace last rest made h finds is)
 
 -- over an input that tells what it has left the moves are a run
-leads-run : (plan : Plan) (limit : ℕ) (told : List ℕ) (m : Moment) (trace : List Made) (last : Moment) → Leads plan limit (Some told) m trace last → IsRun plan m (moves_of trace) × (last ≡ run plan m (moves_of trace))
+pub leads-run : (plan : Plan) (limit : ℕ) (told : List ℕ) (m : Moment) (trace : List Made) (last : Moment) → Leads plan limit (Some told) m trace last → IsRun plan m (moves_of trace) × (last ≡ run plan m (moves_of trace))
 unfolding Leads IsRun run
 leads-run plan limit told m [] last h = (tt, h)
 leads-run plan limit told m (made ∷ trace) last (rest, same, is, h) =
@@ -199,6 +199,11 @@ more limit show start now new h t d =
 pub reached-more : (limit : ℕ) (show : Show) (start now new : Stand) → Reaches limit show start now → Tries limit show now new None → Reaches limit show start new
 unfolding Does
 reached-more limit show start now new h t = more limit show start now new h t t.does
+
+-- the moves that led here, and that one
+pub reached-trace : (limit : ℕ) (show : Show) (start now new : Stand) (h : Reaches limit show start now) (t : Tries limit show now new None) → (made : Made) × (made.move ≡ t.move) × ((reached-more limit show start now new h t).trace ≡ h.trace ++ made ∷ [])
+unfolding Does more reached-more
+reached-trace limit show start now new h t = (record { move = t.move; event = t.does.makes.event; state = new.place.core.state }, refl, refl)
 
 -- no more instructions than the limit have retired
 retired-within : (limit : ℕ) (old new : Processor) (mv : Move) (before after : Streams) → old.state.retired < limit → Makes old new mv before after → new.state.retired ≤ limit

@@ -2,3 +2,5 @@ pub mod Made
 pub mod Going
 pub mod Moving
 pub mod Scripts
+pub mod Asking
+pub mod Headline

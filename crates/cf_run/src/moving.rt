@@ -4,6 +4,7 @@
 ghost use Rattle.std.specs.Prelude.{◌≡◌, ◌+◌, ◌<◌, ◌^◌};
 ghost use Rattle.cf_io.specs.Causes.{HasCause};
 ghost use Rattle.rv_machine.specs.Streams.{streams_of};
+ghost use Rattle.cf_core.specs.Asking.{AsksInput, AsksOutput};
 ghost use Rattle.cf_run.specs.Moving.{place_of, Does};
 ghost use Rattle.cf_run.specs.Scripts.{input_scripted, output_scripted, report_scripted};
 
@@ -42,6 +43,8 @@ pub(crate) fn make<S: Source, K: Sink, R: Sink>(
     ensures input { HasCause (S.faults input.old) (S.faults input.new) (input_scripted result) }
     ensures output { HasCause (K.faults output.old) (K.faults output.new) (output_scripted result) }
     ensures report { HasCause (R.faults report.old) (R.faults report.new) (report_scripted result) }
+    ensures input_asked { (AsksInput core.old mv → ⊥) → input.new ≡ input.old }
+    ensures output_asked { (AsksOutput core.old mv → ⊥) → output.new ≡ output.old }
 {
     match core.step(mv, input, output) {
         Step::Moved(event) => {

@@ -4,7 +4,11 @@
 ghost use Rattle.std.specs.Prelude.{◌≡◌, ◌+◌, ◌<◌, ◌≤◌, ◌^◌, IsNone, MatchOption, Some, false, length};
 ghost use Rattle.cf_io.specs.Causes.{HasCause};
 ghost use Rattle.rv_machine.specs.Streams.{streams_of};
+ghost use Rattle.cf_core.specs.Asking.{AsksInput, AsksOutput};
+ghost use Rattle.cf_run.specs.Asking.{NextAsks, RunsUnasked};
+ghost use Rattle.cf_layout.specs.Accepted.{IsAccepted};
 ghost use Rattle.cf_run.specs.Moving.{place_of};
+ghost use Rattle.cf_run.specs.Headline.{RunsSequentially};
 ghost use Rattle.cf_run.specs.Scripts.{no_tally, stand_of, GoesOn, IsOver, RunsScript, Turns, input_scripted, output_scripted, report_scripted};
 
 use crate::answer::{Ran, Scripted};
@@ -58,6 +62,10 @@ fn advance<S: Source, K: Sink, R: Sink>(
     ensures input { HasCause (S.faults input.old) (S.faults input.new) (input_scripted result) }
     ensures output { HasCause (K.faults output.old) (K.faults output.new) (output_scripted result) }
     ensures report { HasCause (R.faults report.old) (R.faults report.new) (report_scripted result) }
+    ensures input_asked { (NextAsks AsksInput limit core.old script.old → ⊥) →
+        input.new ≡ input.old }
+    ensures output_asked { (NextAsks AsksOutput limit core.old script.old → ⊥) →
+        output.new ≡ output.old }
 {
     if let Some(ran) = over(core, limit) {
         return Some(Scripted::Ran(ran));
@@ -69,6 +77,24 @@ fn advance<S: Source, K: Sink, R: Sink>(
     }
 }
 
+/// The register file has 32 registers. It does nothing.
+#[inline(always)]
+fn all_registers(regs: &[u32; 32])
+    ensures { length regs.now ≡ 32 }
+{
+    let _ = regs;
+}
+
+/// What every processor keeps: its layout is accepted, and it has 32 registers. It does nothing.
+#[inline(always)]
+fn known(core: &Core)
+    ensures accepted { IsAccepted core.now.plan }
+    ensures registers { length core.now.state.regs ≡ 32 }
+{
+    let _ = core.layout();
+    all_registers(core.regs());
+}
+
 /// Runs a script: makes its moves one after another until the program ends, as many instructions have
 /// retired as the limit allows, or the next move cannot be read or made. These are looked at in this order
 /// before each move, and no line behind that point is read. What `show` says is put to the report as the run
@@ -77,6 +103,12 @@ fn advance<S: Source, K: Sink, R: Sink>(
 /// `ReadFault` and `WriteFault` come only where the input, the output failed a call of the environment; that
 /// move is not counted. `ReportFault` comes only where the report failed, behind a move that was made and
 /// counted. The count of the faults of that one rose.
+///
+/// Where no move of the run asks the input, the input is left as it was, whatever it tells of itself; the output
+/// likewise. Only Serve asks them, for an ECALL whose call does.
+///
+/// Where the processor was opened on a machine and the input tells what it has left, the run is one of that
+/// machine, in whatever order the script makes its moves.
 pub fn run_script<S: Source, K: Sink, R: Sink>(
     core: &mut Core,
     script: &mut Script<'_>,
@@ -97,10 +129,23 @@ pub fn run_script<S: Source, K: Sink, R: Sink>(
         (stand_of (place_of core.new (streams_of (S.left input.new) (K.written output.new))
         (R.written report.new) tally.new) script.new)
         result }
+    ensures sequential { RunsSequentially show
+        (stand_of (place_of core.old (streams_of (S.left input.old) (K.written output.old))
+        (R.written report.old) tally.old) script.old)
+        (place_of core.new (streams_of (S.left input.new) (K.written output.new))
+        (R.written report.new) tally.new)
+        result }
     ensures input { HasCause (S.faults input.old) (S.faults input.new) (input_scripted (Some result)) }
     ensures output { HasCause (K.faults output.old) (K.faults output.new) (output_scripted (Some result)) }
     ensures report { HasCause (R.faults report.old) (R.faults report.new) (report_scripted (Some result)) }
+    ensures asked { RunsUnasked limit show
+        (stand_of (place_of core.old (streams_of (S.left input.old) (K.written output.old))
+        (R.written report.old) tally.old) script.old)
+        (stand_of (place_of core.new (streams_of (S.left input.new) (K.written output.new))
+        (R.written report.new) tally.new) script.new)
+        result (input.new ≡ input.old) (output.new ≡ output.old) }
 {
+    known(core);
     loop {
         if let Some(end) = advance(core, script, limit, show, input, output, report, tally) {
             return end;

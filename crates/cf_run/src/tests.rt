@@ -11,7 +11,7 @@ use rv_machine::Machine;
 use std::process::Abort;
 use std::test::Fail;
 
-const TINY: &[u8] =
+pub(crate) const TINY: &[u8] =
     b"format = 1\nstages = 2\nlane = 4\n[units]\nadd = [1, 2]\nlogic = [1]\nshift = [2]\n\
         compare = [1]\nbranch = [1]\njump = [1]\n[[siding]]\nclasses = [\"memory\"]\n\
         launch = 1\nrecover = 2\ncells = 1\n";
@@ -29,14 +29,14 @@ const EARLY_JUMPS: &[u8] =
         classes = [\"memory\"]\nlaunch = 4\nrecover = 6\ncells = 2\n";
 
 /// Eight stages, and a siding for shifts.
-const SHIFT_SIDING: &[u8] =
+pub(crate) const SHIFT_SIDING: &[u8] =
     b"format = 1\nstages = 8\nlane = 16\n[units]\nadd = [2, 4, 6]\nlogic = [2, 4]\n\
         compare = [2, 4]\nbranch = [3]\njump = [3]\n[[siding]]\nclasses = [\"memory\"]\n\
         launch = 4\nrecover = 6\ncells = 2\n[[siding]]\nclasses = [\"shift\"]\nlaunch = 1\n\
         recover = 3\ncells = 2\n";
 
 /// `addi x10, x0, 7`, `addi x17, x0, 93` and `ecall`: the program ends with status 7.
-const SEVEN: &[u32] = &[0x0070_0513, 0x05d0_0893, 0x0000_0073];
+pub(crate) const SEVEN: &[u32] = &[0x0070_0513, 0x05d0_0893, 0x0000_0073];
 
 /// A run: the layout, the words of the program, the script, the limit and what is shown; how it finishes, and what the
 /// report has then, the count and the picture besides.
@@ -51,7 +51,11 @@ struct Row {
     report: &'static [u8],
 }
 
-fn core_of(rt: &(impl Abort + AllocGlobal), layout: &[u8], words: &[u32]) -> Result<Core, Fail> {
+pub(crate) fn core_of(
+    rt: &(impl Abort + AllocGlobal),
+    layout: &[u8],
+    words: &[u32],
+) -> Result<Core, Fail> {
     assert!(rt; words.len() <= 4, "too many words");
     let mut file = Vec::new(rt.alloc());
     for word in words {

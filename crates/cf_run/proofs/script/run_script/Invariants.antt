@@ -1,5 +1,7 @@
-use Rattle.std.proofs.Common.{◌+◌, ◌<◌, ◌≤◌, ◌^◌, length}
+use Rattle.std.proofs.Common.{◌≡◌, ◌+◌, ◌<◌, ◌≤◌, ◌^◌, length}
 use Rattle.rv_machine.specs.Streams.{streams_of}
+use Rattle.cf_core.specs.Asking.{AsksInput, AsksOutput}
+use Rattle.cf_run.specs.Asking.{SomeAsks}
 use Rattle.cf_run.specs.Moving.{place_of}
 use Rattle.cf_run.specs.Scripts.{Stand, stand_of, Reaches}
 use Rattle.cf_run.proofs.script.run_script.Given as goal
@@ -15,6 +17,8 @@ invariant-loop-end g l =
     let now : Stand = stand_of (place_of l.core (streams_of (left l.input) (written l.output)) (reported l.report) l.tally) l.script in
     record {
       reached : Reaches l.limit l.show start now;
+      input_asked : (SomeAsks AsksInput start.place.core.plan start.place.core.state reached.trace → ⊥) → l.input ≡ l.initial.input;
+      output_asked : (SomeAsks AsksOutput start.place.core.plan start.place.core.state reached.trace → ⊥) → l.output ≡ l.initial.output;
       within : l.core.state.retired ≤ l.limit;
       few : 0 < l.tally.moves → l.tally.moves + length l.script.moves < 2 ^ 25;
       input : g.S.Source.faults l.initial.input ≤ g.S.Source.faults l.input;

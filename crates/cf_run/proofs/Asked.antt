@@ -1,0 +1,56 @@
+-- What the moves of a run ask, with one move more.
+use Rattle.std.proofs.Common.{◌≡◌, ℕ, List, [], ◌∷◌, ◌++◌, Option, Some, None, inl, inr, ap, sym, subst, ◌∙◌}
+use Rattle.std.specs.Prelude.{◌⊎◌, Result, Ok}
+use Rattle.cf_layout.specs.Layout.{Plan}
+use Rattle.cf_bind.specs.declared.moves.Move.{Move}
+use Rattle.cf_semantics.specs.Moves.{next}
+use Rattle.cf_semantics.specs.State.{State, Moment}
+use Rattle.cf_core.specs.Processors.{Processor}
+use Rattle.cf_sched.specs.Scripts.{next_of}
+use Rattle.cf_run.specs.declared.show.Show.{Show}
+use Rattle.cf_run.specs.Made.{Made}
+use Rattle.cf_run.specs.Going.{moment_of, Leads}
+use Rattle.cf_run.specs.Scripts.{Stand, Reaches, Tries}
+use Rattle.cf_run.specs.Asking.{SomeAsks, NextAsks}
+use Rattle.cf_run.proofs.Runs.{reached-more, reached-trace}
+
+-- the moves of a longer list, where one of the first asks
+some-first : (asks : Processor → Move → Type 0) (plan : Plan) (s : State) (trace others : List Made) → SomeAsks asks plan s trace → SomeAsks asks plan s (trace ++ others)
+unfolding SomeAsks
+some-first asks plan s [] others h = absurd h
+some-first asks plan s (made ∷ trace) others (inl h) = inl h
+some-first asks plan s (made ∷ trace) others (inr h) = inr (some-first asks plan made.state trace others h)
+
+-- and where the last does
+some-last : (asks : Processor → Move → Type 0) (plan : Plan) (limit : ℕ) (told : Option (List ℕ)) (m : Moment) (trace : List Made) (last : Moment) (made : Made) → Leads plan limit told m trace last → asks (record { plan = plan; state = last.state }) made.move → SomeAsks asks plan m.state (trace ++ made ∷ [])
+unfolding SomeAsks Leads
+some-last asks plan limit told m [] last made h k = inl (subst (λ (q : Moment). asks (record { plan = plan; state = q.state }) made.move) h k)
+some-last asks plan limit told m (first ∷ trace) last made (rest, finds, is, h) k =
+    inr (subst (λ (s : State). SomeAsks asks plan s (trace ++ made ∷ [])) (sym is.state) (some-last asks plan limit told (next plan (record m { rest = rest }) first.move) trace last made h k))
+
+-- a script has one next move
+same_next : {E : Type 0} (answer : Result (Option (ℕ × Move)) E) (line other : ℕ) (mv last : Move) → answer ≡ Ok (Some (line, mv)) → answer ≡ Ok (Some (other, last)) → mv ≡ last
+same_next answer line other mv last e f =
+    let same : (line, mv) ≡ (other, last) = cc in
+    ap (λ (next : ℕ × Move). next.1) same
+
+-- what the moves that were made ask, or the next one, the moves with that one ask
+one-more : (asks : Processor → Move → Type 0) (limit : ℕ) (show : Show) (start now : Stand) (h : Reaches limit show start now) (line : ℕ) (mv : Move) (made : Made) → next_of now.script ≡ Ok (Some (line, mv)) → made.move ≡ mv → SomeAsks asks start.place.core.plan start.place.core.state h.trace ⊎ NextAsks asks limit now.place.core now.script
+    → SomeAsks asks start.place.core.plan start.place.core.state (h.trace ++ made ∷ [])
+one-more asks limit show start now h line mv made e same (inl some) = some-first asks start.place.core.plan start.place.core.state h.trace (made ∷ []) some
+one-more asks limit show start now h line mv made e same (inr next) =
+    let last : asks now.place.core made.move = subst (asks now.place.core) (same_next (next_of now.script) next.line line next.move mv next.next e ∙ sym same) next.asked in
+    some-last asks start.place.core.plan limit start.place.streams.input (moment_of start.place.core h.rest) h.trace h.last made h.leads (subst (λ (p : Processor). asks p made.move) h.core last)
+
+-- the same of a run with one move more
+asked-more : (asks : Processor → Move → Type 0) (limit : ℕ) (show : Show) (start now new : Stand) (h : Reaches limit show start now) (t : Tries limit show now new None) → SomeAsks asks start.place.core.plan start.place.core.state h.trace ⊎ NextAsks asks limit now.place.core now.script
+    → SomeAsks asks start.place.core.plan start.place.core.state (reached-more limit show start now new h t).trace
+asked-more asks limit show start now new h t asked =
+    let made = reached-trace limit show start now new h t in
+    subst (SomeAsks asks start.place.core.plan start.place.core.state) (sym made.2) (one-more asks limit show start now h t.line t.move made.0 t.next made.1 asked)
+
+-- what no move asked has stayed as it was, with one move more
+pub unasked-more : {T : Type 0} (asks : Processor → Move → Type 0) (limit : ℕ) (show : Show) (start now new : Stand) (h : Reaches limit show start now) (t : Tries limit show now new None) (first between last : T) → ((SomeAsks asks start.place.core.plan start.place.core.state h.trace → ⊥) → between ≡ first) → ((NextAsks asks limit now.place.core now.script → ⊥) → last ≡ between)
+    → (SomeAsks asks start.place.core.plan start.place.core.state (reached-more limit show start now new h t).trace → ⊥) → last ≡ first
+unasked-more asks limit show start now new h t first between last before one unasked =
+    one (λ next. unasked (asked-more asks limit show start now new h t (inr next))) ∙ before (λ some. unasked (asked-more asks limit show start now new h t (inl some)))

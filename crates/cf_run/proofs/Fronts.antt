@@ -1,0 +1,129 @@
+-- What was written where the output failed is a front of what the sequential machine writes with its next step.
+use Rattle.std.proofs.Common.{◌≡◌, ℕ, zero, suc, ◌+◌, List, [], ◌∷◌, ◌++◌, Option, Some, None, true, false, refl, sym, ap, subst, ◌∙◌, length, take, drop, append_assoc, arith}
+use Rattle.std.specs.Prelude.{IsTrue}
+use Rattle.std.proofs.lemmas.List.{take-append-drop}
+use Rattle.mem_regions.specs.Memory.{Memory}
+use Rattle.mem_regions.specs.Ranges.{range_of}
+use Rattle.rv_inst.specs.declared.isa.Isa.{Isa}
+use Rattle.rv_inst.specs.declared.instruction.Instr.{Instr}
+use Rattle.rv_inst.specs.declared.instruction.Instr.TheVariants.{Ecall}
+use Rattle.rv_machine.specs.After.{after}
+use Rattle.rv_machine.specs.Call.{Called, Answer, call, write, asks_output, second_argument, third_argument}
+use Rattle.rv_machine.specs.Call as called
+use Rattle.rv_machine.specs.Machine.{Machine}
+use Rattle.cf_layout.specs.Layout.{Plan}
+use Rattle.cf_layout.specs.Accepted.{IsAccepted}
+use Rattle.cf_bind.specs.declared.cell.Cell.{Cell}
+use Rattle.cf_bind.specs.declared.moves.Move.{Move}
+use Rattle.cf_bind.specs.declared.moves.Move.TheVariants.{Serve}
+use Rattle.cf_bind.specs.declared.passenger.Passenger.{Passenger}
+use Rattle.cf_semantics.specs.Ahead.{served_count, has_served, one}
+use Rattle.cf_semantics.specs.Bars.{bar}
+use Rattle.cf_semantics.specs.Instructions.{is_serial, serve_of}
+use Rattle.cf_semantics.specs.Layouts.{isa_of}
+use Rattle.cf_semantics.specs.Moves.{answered, next, served, with_passenger}
+use Rattle.cf_semantics.specs.Options.{on, Where}
+use Rattle.cf_semantics.specs.Passengers.{instruction, kind}
+use Rattle.cf_semantics.specs.Refines.{Spoke, gained}
+use Rattle.cf_semantics.specs.Runs.{IsRun, run, start}
+use Rattle.cf_semantics.specs.State.{Moment, cell_at, put_cell}
+use Rattle.cf_refinement.specs.Invariant.{HoldsAfter, HoldsAt, Sound}
+use Rattle.cf_refinement.specs.Sure as sure
+use Rattle.cf_refinement.proofs.Kept.{bar_row}
+use Rattle.cf_refinement.proofs.Runs.{going, serve_counts}
+use Rattle.cf_refinement.proofs.Serve.{Serves, Scene, scene, serve_ready, next-serve}
+use Rattle.cf_refinement.proofs.Theorems.{holds_after, run_refines}
+use Rattle.cf_stages.specs.Changes.{passenger_at}
+use Rattle.cf_run.specs.Headline.{IsFrontAfter}
+
+-- one move more
+pub run-more : (plan : Plan) (m : Moment) (moves : List Move) (mv : Move) → IsRun plan m moves → bar plan (run plan m moves).state mv ≡ None
+    → IsRun plan m (moves ++ mv ∷ []) × (run plan m (moves ++ mv ∷ []) ≡ next plan (run plan m moves) mv)
+unfolding IsRun run
+run-more plan m [] mv h free = ((free, tt), refl)
+run-more plan m (first ∷ moves) mv h free =
+    let k = run-more plan (next plan m first) moves mv h.1 free in
+    ((h.0, k.0), k.1)
+
+-- a write that passes its tests adds the bytes of its buffer to the output
+asked_bytes : (regs : List ℕ) (mem : Memory) (rest bytes : List ℕ) → IsTrue (asks_output regs mem) → range_of mem (second_argument regs) (third_argument regs) ≡ Some bytes
+    → call regs mem rest ≡ called.Value (record { value = third_argument regs; mem = mem; rest = rest; output = bytes })
+unfolding asks_output call write
+asked_bytes regs mem rest bytes asks is = grind arith
+
+serve_ecall : (i : Instr) (regs : List ℕ) (mem : Memory) (rest : List ℕ) → i ≡ Ecall → serve_of i regs mem rest ≡ call regs mem rest
+unfolding serve_of
+serve_ecall i regs mem rest e = rw e refl
+
+-- the stage that was put is there
+put_there : (cells : List Cell) (n : ℕ) (c d : Cell) → cell_at cells n ≡ Some c → cell_at (put_cell cells n d) n ≡ Some d
+put_there cells zero c d e = absurd (cc)
+put_there [] (suc zero) c d e = absurd (cc)
+put_there (first ∷ cells) (suc zero) c d e = refl
+put_there [] (suc (suc n)) c d e = absurd (cc)
+put_there (first ∷ cells) (suc (suc n)) c d e = put_there cells (suc n) c d e
+
+-- an answered call was served
+has_answered : (p : Passenger) (v : ℕ) → p.dead ≡ false → is_serial (kind p) ≡ true → p.ending ≡ None → one (has_served (answered p v)) ≡ 1
+has_answered p v d k e = grind arith
+
+count_there : (cells : List Cell) (n : ℕ) (c : Cell) (p q : Passenger) → cell_at cells n ≡ Some c → one (has_served q) ≡ 1 → on (cell_at (put_cell cells n (with_passenger c q)) n) 0 (λ c. on c.passenger 0 (λ p. one (has_served p))) ≡ 1
+count_there cells n c p q e k = rw (put_there cells n c (with_passenger c q) e, k) refl
+
+-- the instruction in the highest stage is that of the passenger there
+calls_there : (cells : List Cell) (n : ℕ) (c : Cell) (p : Passenger) → cell_at cells n ≡ Some c → c.passenger ≡ Some p → Where (passenger_at cells n) ⊥ (λ q. instruction q ≡ Ecall) → instruction p ≡ Ecall
+calls_there cells n c p e f h =
+    let is : passenger_at cells n ≡ Some p = rw e f in
+    let P : Option Passenger → Type 0 = λ o. Where o ⊥ (λ q. instruction q ≡ Ecall) in
+    subst P is h
+
+-- what serving a write comes to
+record Wrote (plan : Plan) (m : Moment) (bytes : List ℕ) : Type 0 where
+  output : (next plan m Serve).output ≡ m.output ++ bytes
+  count : served_count plan (next plan m Serve).state ≡ 1
+
+wrote : (plan : Plan) (m : Moment) (bytes : List ℕ) (r : Serves plan m.state) → r.who.ending ≡ None → Where (passenger_at m.state.cells plan.stages) ⊥ (λ q. instruction q ≡ Ecall)
+    → IsTrue (asks_output m.state.regs m.state.mem) → range_of m.state.mem (second_argument m.state.regs) (third_argument m.state.regs) ≡ Some bytes → Wrote plan m bytes
+wrote plan m bytes r unended calls asks is =
+    let ecall : instruction r.who ≡ Ecall = calls_there m.state.cells plan.stages r.here r.who r.at_here r.sits calls in
+    let a : Answer = record { value = third_argument m.state.regs; mem = m.state.mem; rest = m.rest; output = bytes } in
+    let answer : serve_of (instruction r.who) m.state.regs m.state.mem m.rest ≡ called.Value a = serve_ecall (instruction r.who) m.state.regs m.state.mem m.rest ecall ∙ asked_bytes m.state.regs m.state.mem m.rest bytes asks is in
+    let to : next plan m Serve ≡ served m plan.stages r.here r.who (called.Value a) = next-serve plan m r.here r.who (called.Value a) r.at_here r.sits answer in
+    record {
+      output = ap (λ (q : Moment). q.output) to;
+      count = ap (λ (q : Moment). served_count plan q.state) to ∙ count_there m.state.cells plan.stages r.here r.who (answered r.who a.value) r.at_here (has_answered r.who a.value r.live (ap is_serial r.serial) unended);
+    }
+
+-- the passenger that is to be served has not ended
+unended_here : (plan : Plan) (m : Moment) (x : Machine) (r : Serves plan m.state) → Sound plan m.state m.rest m.output x → r.who.ending ≡ None
+unfolding sure.SureAt
+unended_here plan m x r h =
+    let c : Scene plan m.state m.rest m.output x r = scene plan m.state x r h in
+    c.certain.0.unended r.undone
+
+-- a front of more bytes
+front_of : (isa : Isa) (x : Machine) (n : ℕ) (output bytes : List ℕ) (k : ℕ) (at : Machine) → after isa x n ≡ Some at → at.output ≡ output ++ bytes → IsFrontAfter isa x n (output ++ take k bytes)
+front_of isa x n output bytes k at count is = record {
+  at = at;
+  count = count;
+  more = drop k bytes;
+  front = is ∙ ap (λ (z : List ℕ). output ++ z) (sym (take-append-drop k bytes)) ∙ sym (append_assoc output (take k bytes) (drop k bytes));
+}
+
+-- after a run and a write that the output failed: the output of the run and any front of the buffer's bytes
+pub front-after : (plan : Plan) (x : Machine) (moves : List Move) (bytes : List ℕ) (k : ℕ) → IsAccepted plan → length x.hart.regs ≡ 32 → IsRun plan (start plan x) moves → (m : Moment) → m ≡ run plan (start plan x) moves → bar plan m.state Serve ≡ None
+    → Where (passenger_at m.state.cells plan.stages) ⊥ (λ q. instruction q ≡ Ecall) → IsTrue (asks_output m.state.regs m.state.mem) → range_of m.state.mem (second_argument m.state.regs) (third_argument m.state.regs) ≡ Some bytes
+    → IsFrontAfter (isa_of plan) x (gained x m.state + 1) (m.output ++ take k bytes)
+front-after plan x moves bytes k accepted wide allowed m is free calls asks buffer =
+    let free' : bar plan (run plan (start plan x) moves).state Serve ≡ None = subst (λ (q : Moment). bar plan q.state Serve ≡ None) is free in
+    let h : HoldsAfter plan x m = subst (HoldsAfter plan x) (sym is) (holds_after plan x moves accepted wide allowed) in
+    let sound : Sound plan m.state m.rest m.output h.machine = subst (HoldsAt plan m.state m.rest m.output h.machine) (going plan m.state Serve free) h.stage in
+    let r : Serves plan m.state = serve_ready plan m.state (bar_row plan m.state Serve free) in
+    let w : Wrote plan m bytes = wrote plan m bytes r (unended_here plan m h.machine r sound) calls asks buffer in
+    let longer = run-more plan (start plan x) moves Serve allowed free' in
+    let t : Moment = next plan m Serve in
+    let there : run plan (start plan x) (moves ++ Serve ∷ []) ≡ t = longer.1 ∙ ap (λ (q : Moment). next plan q Serve) (sym is) in
+    let refines = run_refines plan x (moves ++ Serve ∷ []) accepted wide longer.0 in
+    let spoke : Spoke (isa_of plan) x (gained x t.state + served_count plan t.state) t = subst (λ (q : Moment). Spoke (isa_of plan) x (gained x q.state + served_count plan q.state) q) there refines.spoke in
+    let number : gained x t.state + served_count plan t.state ≡ gained x m.state + 1 = omega (arith, (serve_counts plan m).retired, w.count) in
+    front_of (isa_of plan) x (gained x m.state + 1) m.output bytes k spoke.at (ap (after (isa_of plan) x) (sym number) ∙ spoke.count) (sym spoke.output ∙ w.output)

@@ -1,0 +1,138 @@
+-- The headline: a run leaves what the sequential machine leaves on which the processor was opened, and comes to rest ("Counterflow Pipeline Processor Architecture", 1994: the order of the local actions is free).
+use Rattle.std.specs.Prelude.{◌≡◌, ℕ, ◌+◌, ◌≤◌, List, [], ◌∷◌, ◌++◌, length, map, take, Option, Some, None}
+use Rattle.cf_io.specs.Puts.{Writes, WritesFront}
+use Rattle.rv_inst.specs.declared.isa.Isa.{Isa}
+use Rattle.rv_machine.specs.After.{after}
+use Rattle.rv_machine.specs.Hart.{Hart}
+use Rattle.rv_machine.specs.Machine.{Machine}
+use Rattle.rv_machine.specs.Streams.{Streams, Leaves}
+use Rattle.rv_machine.specs.declared.outcome.Retired.{Retired}
+use Rattle.cf_layout.specs.Layout.{Plan}
+use Rattle.cf_bind.specs.declared.moves.Move.{Move}
+use Rattle.cf_bind.specs.declared.moves.Move.TheVariants.{Serve}
+use Rattle.cf_semantics.specs.Bars.{bar}
+use Rattle.cf_semantics.specs.Determined.{Drains, EndsAs, EndAlike}
+use Rattle.cf_semantics.specs.Events.{Shows}
+use Rattle.cf_semantics.specs.Layouts.{isa_of}
+use Rattle.cf_semantics.specs.Lines.{Line, lines, sequence}
+use Rattle.cf_semantics.specs.Refines.{Refines, gained}
+use Rattle.cf_semantics.specs.Runs.{IsRun, run, start as start_on}
+use Rattle.cf_semantics.specs.State.{State, Moment}
+use Rattle.cf_semantics.specs.Weight.{issues, weight}
+use Rattle.cf_core.specs.Processors.{in_state, opened}
+use Rattle.cf_core.specs.Stepping.{FailsToRead, FailsToWrite}
+use Rattle.cf_report.specs.Lines.{retired_line}
+use Rattle.cf_run.specs.declared.answer.Ran.TheVariants as ran
+use Rattle.cf_run.specs.declared.answer.Scripted.{Scripted}
+use Rattle.cf_run.specs.declared.answer.Scripted.TheVariants.{Ran}
+use Rattle.cf_run.specs.declared.show.Show.{Show}
+use Rattle.cf_run.specs.declared.show.Show.TheVariants as show
+use Rattle.cf_run.specs.Moving.{Place}
+use Rattle.cf_run.specs.Scripts.{Stand}
+
+-- The sequential machine as a run begins: the hart on which the processor was opened, with the whole input before it and nothing written.
+abbrev pub machine_on : Hart → List ℕ → Machine
+machine_on hart rest = record { hart = hart; rest = rest; output = [] }
+
+-- The moment to which moves lead from the machine.
+abbrev pub moment_after : Plan → Machine → List Move → Moment
+moment_after plan x moves = run plan (start_on plan x) moves
+
+-- The instructions that the machine retires, as many as have retired there.
+abbrev pub lines_after : Plan → Machine → List Move → List Line
+lines_after plan x moves = sequence (isa_of plan) x (gained x (moment_after plan x moves).state)
+
+-- With issue held back the processor drains, within a stated number of moves, to one state.
+pub record Settles (plan : Plan) (x : Machine) (m : Moment) : Type 0 where
+  -- every run without Issue has at most as many moves as the weight of the state
+  pub bounded : (moves : List Move) → IsRun plan m moves → issues moves ≡ 0 → length moves ≤ weight plan m.state
+  -- there is one that cannot be extended
+  pub drains : (t : Moment) × Drains plan m t
+  -- where the program goes on, one that cannot be extended retires what stands on the sequential path, and ends drained there or with the program's end
+  pub ends : m.state.ending ≡ None → (t : Moment) → Drains plan m t → EndsAs plan x m t
+  -- any two that cannot be extended end alike
+  pub alike : (t u : Moment) → Drains plan m t → Drains plan m u → EndAlike t u
+
+-- The moves are a run of the processor from the machine. At the moment to which they lead, the retired instructions, the registers and the ending are those of the sequential machine after as many instructions, and input, output and memory are those after the instructions that were served or have passed the memory port; and from there the processor drains.
+pub record IsRight (plan : Plan) (x : Machine) (moves : List Move) : Type 0 where
+  pub allowed : IsRun plan (start_on plan x) moves
+  pub refines : Refines plan x (lines plan (start_on plan x) moves) (moment_after plan x moves)
+  pub settles : Settles plan x (moment_after plan x moves)
+
+-- The processor stands at the moment: what is left of the input and what was written to the output are the moment's.
+pub record StandsAt (m : Moment) (begin new : Place) : Type 0 where
+  pub core : new.core ≡ in_state begin.core m.state
+  pub streams : Leaves begin.streams new.streams m.rest m.output
+
+-- Registers, count and ending are those of the moment.
+pub record IsUnmoved (m : Moment) (s : State) : Type 0 where
+  pub regs : s.regs ≡ m.state.regs
+  pub retired : s.retired ≡ m.state.retired
+  pub ending : s.ending ≡ m.state.ending
+
+-- The input failed the call that was to be served at the moment: registers, count and ending are those before the call, and the output is the moment's.
+pub record FailsInput (m : Moment) (begin new : Place) : Type 0 where
+  pub allowed : bar begin.core.plan m.state Serve ≡ None
+  pub before : Streams
+  pub reached : Leaves begin.streams before m.rest m.output
+  pub fails : FailsToRead (in_state begin.core m.state) new.core before new.streams
+  pub unmoved : IsUnmoved m new.core.state
+  pub output : Writes begin.streams.output new.streams.output m.output
+
+-- The bytes are a front of what the machine has written after n steps, all of which it makes.
+pub record IsFrontAfter (isa : Isa) (x : Machine) (n : ℕ) (written : List ℕ) : Type 0 where
+  pub at : Machine
+  pub count : after isa x n ≡ Some at
+  pub more : List ℕ
+  pub front : at.output ≡ written ++ more
+
+-- The output failed the call that was to be served at the moment: registers, count and ending are those before the call, and what was written is a front of what the sequential machine has written after its next step, which is the call.
+pub record FailsOutput (x : Machine) (m : Moment) (begin new : Place) : Type 0 where
+  pub allowed : bar begin.core.plan m.state Serve ≡ None
+  pub before : Streams
+  pub reached : Leaves begin.streams before m.rest m.output
+  pub fails : FailsToWrite (in_state begin.core m.state) new.core before new.streams
+  pub unmoved : IsUnmoved m new.core.state
+  pub written : List ℕ
+  pub output : Writes begin.streams.output new.streams.output written
+  pub front : IsFrontAfter (isa_of begin.core.plan) x (gained x m.state + 1) written
+
+-- Where the run stops: at the moment, or where a call failed that was to be served there.
+unfoldable pub StopsAt : Machine → Moment → (begin new : Place) → Scripted → Type 0
+StopsAt x m begin new (Ran ran.ReadFault) = FailsInput m begin new
+StopsAt x m begin new (Ran ran.WriteFault) = FailsOutput x m begin new
+StopsAt x m begin new answer = StandsAt m begin new
+
+-- The text is a line for each of these instructions that retired, numbered from n on.
+abbrev pub AreTexts : ℕ → List Line → List ℕ → Type 0
+AreTexts n [] text = text ≡ []
+AreTexts n (line ∷ more) text =
+    (shown : Retired) × (behind : List ℕ) × Shows line shown × (text ≡ retired_line n shown ++ behind) × AreTexts (n + 1) more behind
+
+-- The report got the text, or a front of it where it failed.
+unfoldable pub Gets : Option (List ℕ) → Option (List ℕ) → Scripted → List ℕ → Type 0
+Gets before after (Ran ran.ReportFault) text = WritesFront before after text
+Gets before after answer text = Writes before after text
+
+-- Where retirements alone are shown, the report got the lines of these instructions.
+abbrev pub ReportsLines : Show → ℕ → List Line → (begin new : Place) → Scripted → Type 0
+ReportsLines show.Retired n written begin new answer =
+    (text : List ℕ) × AreTexts n written text × Gets begin.report new.report answer text
+ReportsLines show.Report n written begin new answer = Unit {0}
+ReportsLines show.Moves n written begin new answer = Unit {0}
+
+-- The run is one of this machine, by these moves: they are right, it stops at the moment to which they lead, and the instructions that it reports are those that the machine retires, numbered by the machine's count.
+pub record RunsAs (shows : Show) (x : Machine) (moves : List Move) (begin new : Place) (answer : Scripted) : Type 0 where
+  pub right : IsRight begin.core.plan x moves
+  pub stops : StopsAt x (moment_after begin.core.plan x moves) begin new answer
+  pub report : ReportsLines shows (x.hart.retired + 1) (lines_after begin.core.plan x moves) begin new answer
+
+-- The moves that the run of a script made: its first, as many as were counted.
+abbrev pub moves_made : Stand → Place → List Move
+moves_made begin new = map (λ line. line.1) (take new.tally.moves begin.script.moves)
+
+-- The headline: on whatever hart the processor was opened, and whatever the input tells, the run is one of the machine that starts with them. Of an input that does not tell what it has left, nothing is claimed here.
+unfoldable pub RunsSequentially : Show → Stand → Place → Scripted → Type 0
+RunsSequentially shows begin new answer =
+    (plan : Plan) (hart : Hart) (rest : List ℕ) → begin.place.core ≡ opened plan hart → begin.place.streams.input ≡ Some rest →
+    RunsAs shows (machine_on hart rest) (moves_made begin new) begin.place new answer

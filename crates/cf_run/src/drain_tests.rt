@@ -1,0 +1,175 @@
+//! The weight of what stands in a processor, and drains of one state, worked by hand from the table of moves.
+use crate::tests::{SEVEN, SHIFT_SIDING, TINY, core_of};
+use cf_bind::{Fetch, Guess, Move};
+use cf_core::{Core, Step};
+use cf_io::{Empty, Nowhere};
+use std::process::Abort;
+use std::test::Fail;
+
+/// `beq x0, x0, 16` and `slli x1, x2, 1`: what stands behind the branch is fetched by a wrong guess.
+const WRONG_GUESS: &[u32] = &[0x0000_0863, 0x0011_1093];
+
+/// Makes the moves in order, each of which nothing bars.
+fn make(rt: &(impl Abort + AllocGlobal), core: &mut Core, moves: &[Move]) {
+    for m in moves {
+        assert!(rt; core.allowed(*m).is_none(), "barred");
+        assert!(rt; core.retired() <= 1000, "too many retired");
+        let step = core.step(*m, &mut Empty, &mut Nowhere);
+        assert!(rt; matches!(step, Step::Moved(_)), "not moved");
+    }
+}
+
+/// What stands nowhere weighs nothing. The first instruction weighs 3 in stage 1 of 2, 4 as it is not done, and 4 as it is
+/// not launched where the longest siding has one cell; it requests no register.
+#[test]
+fn bounds(rt: HostRuntime) -> Result<(), Fail> {
+    let mut core = core_of(&rt, TINY, SEVEN)?;
+    assert_eq!(rt; core.bound(), 0);
+    make(&rt, &mut core, &[Move::Issue(Guess::Next)]);
+    assert_eq!(rt; core.bound(), 11);
+    Ok(())
+}
+
+/// The branch stands in stage 3, where its unit is, and has not been executed; the shift behind it stands in stage 1, from
+/// which its siding launches, and has requested x2.
+fn guessed(rt: &(impl Abort + AllocGlobal)) -> Result<Core, Fail> {
+    let mut core = core_of(rt, SHIFT_SIDING, WRONG_GUESS)?;
+    let moves = [
+        Move::Issue(Guess::Next),
+        Move::Climb(1),
+        Move::Climb(2),
+        Move::Issue(Guess::Next),
+    ];
+    make(rt, &mut core, &moves);
+    Ok(core)
+}
+
+/// The turn of the branch reaches the shift before its source does: the shift dies in stage 1 and is never launched.
+const DIES_FIRST: &[Move] = &[
+    Move::Execute(3),
+    Move::Send(3),
+    Move::Fall(3),
+    Move::Fall(2),
+    Move::Meet(1),
+    Move::Exit,
+    Move::Climb(3),
+    Move::Climb(4),
+    Move::Climb(5),
+    Move::Climb(6),
+    Move::Climb(7),
+    Move::Leave,
+    Move::Climb(1),
+    Move::Climb(2),
+    Move::Climb(3),
+    Move::Climb(4),
+    Move::Climb(5),
+    Move::Climb(6),
+    Move::Climb(7),
+    Move::Leave,
+    Move::Emit,
+    Move::Fall(8),
+    Move::Fall(7),
+    Move::Fall(6),
+    Move::Fall(5),
+    Move::Fall(4),
+    Move::Fall(3),
+    Move::Fall(2),
+    Move::Exit,
+];
+
+/// The shift is launched, dies in stage 2, and takes its operation out of the siding when it is dead.
+const DIES_LAUNCHED: &[Move] = &[
+    Move::Emit,
+    Move::Fall(8),
+    Move::Fall(7),
+    Move::Fall(6),
+    Move::Fall(5),
+    Move::Fall(4),
+    Move::Meet(3),
+    Move::Fall(3),
+    Move::Fall(2),
+    Move::Meet(1),
+    Move::Exit,
+    Move::Launch(1),
+    Move::Climb(1),
+    Move::Execute(3),
+    Move::Send(3),
+    Move::Climb(3),
+    Move::Fall(3),
+    Move::Meet(2),
+    Move::Slide(1, 0),
+    Move::Climb(2),
+    Move::Recover(3),
+    Move::Fall(2),
+    Move::Exit,
+    Move::Climb(4),
+    Move::Climb(5),
+    Move::Climb(6),
+    Move::Climb(7),
+    Move::Leave,
+    Move::Climb(3),
+    Move::Climb(4),
+    Move::Climb(5),
+    Move::Climb(6),
+    Move::Climb(7),
+    Move::Leave,
+];
+
+/// The shift comes back from the siding beside the turn and owes its value, which it must not send, as it dies there.
+const DIES_OWING: &[Move] = &[
+    Move::Emit,
+    Move::Fall(8),
+    Move::Fall(7),
+    Move::Fall(6),
+    Move::Fall(5),
+    Move::Fall(4),
+    Move::Meet(3),
+    Move::Fall(3),
+    Move::Fall(2),
+    Move::Meet(1),
+    Move::Launch(1),
+    Move::Slide(1, 0),
+    Move::Climb(1),
+    Move::Execute(3),
+    Move::Send(3),
+    Move::Climb(3),
+    Move::Climb(2),
+    Move::Recover(3),
+    Move::Meet(3),
+    Move::Fall(3),
+    Move::Exit,
+    Move::Fall(2),
+    Move::Exit,
+    Move::Climb(4),
+    Move::Climb(5),
+    Move::Climb(6),
+    Move::Climb(7),
+    Move::Leave,
+    Move::Climb(3),
+    Move::Climb(4),
+    Move::Climb(5),
+    Move::Climb(6),
+    Move::Climb(7),
+    Move::Leave,
+];
+
+/// The state after the moves, in which nothing stands any more: the branch has retired, and fetch goes on at its target.
+fn drained(rt: &(impl Abort + AllocGlobal), moves: &[Move]) -> Result<Core, Fail> {
+    let mut core = guessed(rt)?;
+    make(rt, &mut core, moves);
+    assert!(rt; core.drained(), "not drained");
+    assert!(rt; core.fetch() == Fetch::Running(0x1_0010), "elsewhere");
+    assert_eq!(rt; core.retired(), 1);
+    Ok(core)
+}
+
+/// All orders of moves that drain one state lead to one state.
+#[test]
+fn drains_end_in_one_state(rt: HostRuntime) -> Result<(), Fail> {
+    let first = drained(&rt, DIES_FIRST)?;
+    let second = drained(&rt, DIES_LAUNCHED)?;
+    let third = drained(&rt, DIES_OWING)?;
+    assert!(rt; first.same(&second) && second.same(&third) && first.same(&third));
+    assert!(rt; !first.same(&guessed(&rt)?));
+    Ok(())
+}
