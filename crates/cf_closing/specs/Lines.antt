@@ -1,0 +1,70 @@
+-- The first line of the report that closes a run of the processor: how the run finished (a format of this project).
+use Rattle.std.specs.Prelude.{ℕ, List, [], ◌++◌, codes, decimal}
+use Rattle.cf_bind.specs.declared.moves.Bar.{Bar}
+use Rattle.cf_bind.specs.declared.moves.Bar.TheVariants as bar
+use Rattle.cf_sched.specs.declared.refusal.ScriptErr.{ScriptErr}
+use Rattle.cf_sched.specs.declared.refusal.ScriptKind.{ScriptKind}
+use Rattle.cf_sched.specs.declared.refusal.ScriptKind.TheVariants as script
+use Rattle.cf_texts.specs.Texts.{line, counted_line, trap_line, register_name}
+use Rattle.cf_run.specs.declared.answer.Ran.{Ran as Answer}
+use Rattle.cf_run.specs.declared.answer.Ran.TheVariants as ran
+use Rattle.cf_run.specs.declared.answer.Scripted.{Scripted}
+use Rattle.cf_run.specs.declared.answer.Scripted.TheVariants.{Ran, ScriptEnd, BadScript, BarredAt}
+
+-- what bars a move: its name, and behind a space the register of a source without a value
+unfoldable pub bar_text : Bar → List ℕ
+bar_text bar.Halted = codes "Halted"
+bar_text bar.Failed = codes "Failed"
+bar_text bar.NoSuchSite = codes "NoSuchSite"
+bar_text bar.NoPassenger = codes "NoPassenger"
+bar_text bar.NoPacket = codes "NoPacket"
+bar_text bar.Occupied = codes "Occupied"
+bar_text bar.NotMet = codes "NotMet"
+bar_text bar.AlreadyMet = codes "AlreadyMet"
+bar_text (bar.SourceMissing r) = codes "SourceMissing " ++ register_name r
+bar_text bar.NoUnit = codes "NoUnit"
+bar_text bar.NotDone = codes "NotDone"
+bar_text bar.Owes = codes "Owes"
+bar_text bar.OwesNothing = codes "OwesNothing"
+bar_text bar.OpNotThere = codes "OpNotThere"
+bar_text bar.LaneFull = codes "LaneFull"
+bar_text bar.LaneEmpty = codes "LaneEmpty"
+bar_text bar.FetchWaiting = codes "FetchWaiting"
+bar_text bar.BadGuess = codes "BadGuess"
+bar_text bar.Dead = codes "Dead"
+bar_text bar.AlreadyDone = codes "AlreadyDone"
+
+-- why a line of a script tells no move: the name
+unfoldable pub script_text : ScriptKind → List ℕ
+script_text script.UnknownMove = codes "UnknownMove"
+script_text script.BadNumber = codes "BadNumber"
+script_text script.ExtraWords = codes "ExtraWords"
+script_text script.NotAscii = codes "NotAscii"
+
+-- what happened at the line of a script of this number, before the cause
+unfoldable pub place_in_script : List ℕ → ℕ → List ℕ
+place_in_script what number = what ++ decimal number ++ codes ": "
+
+-- a line of the script tells no move
+unfoldable pub bad_line : ScriptErr → List ℕ
+bad_line refusal = line (place_in_script (codes "bad script line ") refusal.line ++ script_text refusal.kind)
+
+-- the move of a line of the script is barred
+unfoldable pub barred_line : ℕ → Bar → List ℕ
+barred_line number bar = line (place_in_script (codes "barred at line ") number ++ bar_text bar)
+
+-- how a run finished, under this limit; a report that failed is told nothing
+unfoldable pub line_of_run : ℕ → Answer → List ℕ
+line_of_run limit (ran.Exit status) = counted_line (codes "exit ") status
+line_of_run limit (ran.Trap cause pc detail) = trap_line cause pc detail
+line_of_run limit ran.Limit = counted_line (codes "limit ") limit
+line_of_run limit ran.ReadFault = line (codes "read fault input")
+line_of_run limit ran.WriteFault = line (codes "write fault output")
+line_of_run limit ran.ReportFault = []
+
+-- how the run of a script finished, under this limit, with so many moves made
+unfoldable pub first_line : (limit moves : ℕ) → Scripted → List ℕ
+first_line limit moves (Ran answer) = line_of_run limit answer
+first_line limit moves ScriptEnd = line (codes "script end after " ++ decimal moves ++ codes " moves")
+first_line limit moves (BadScript refusal) = bad_line refusal
+first_line limit moves (BarredAt number bar) = barred_line number bar

@@ -1,0 +1,79 @@
+//! The report that closes a run.
+#![tactic(auto, unfolding(crate::specs::Closing::closing, crate::specs::Closing::whole_closing))]
+
+ghost use Rattle.std.specs.Prelude.{◌≡◌, ◌++◌, codes};
+ghost use Rattle.cf_texts.specs.Texts.{counted_line};
+ghost use Rattle.cf_report.specs.Putting.{PutsText};
+ghost use Rattle.cf_closing.specs.Lines.{first_line};
+ghost use Rattle.cf_closing.specs.Closing.{whole_closing, closing};
+
+use crate::first_line::push_first_line;
+use cf_core::Core;
+use cf_io::{Failed, Sink, put_all};
+use cf_report::{Tally, put_picture, put_registers, put_tally};
+use cf_run::{Ran, Scripted};
+use cf_texts::Page;
+
+/// How the run finished, and how many instructions have retired.
+fn head_page(limit: u64, moves: u64, answer: Scripted, retired: u64) -> Page
+    ensures { result ≡ first_line limit moves answer ++ counted_line (codes "retired ") retired }
+{
+    let mut page = Page::new();
+    push_first_line(&mut page, limit, moves, answer);
+    page.push_counted(b"retired ", retired);
+    page
+}
+
+fn put_head<R: Sink>(
+    limit: u64,
+    moves: u64,
+    answer: Scripted,
+    retired: u64,
+    report: &mut R,
+) -> Result<(), Failed>
+    ensures { PutsText (R.written report.old) (R.written report.new)
+        (R.faults report.old) (R.faults report.new)
+        (first_line limit moves answer ++ counted_line (codes "retired ") retired) result }
+{
+    let page = head_page(limit, moves, answer, retired);
+    put_all(report, page.bytes())
+}
+
+fn put_whole<R: Sink>(
+    core: &Core,
+    limit: u64,
+    answer: Scripted,
+    tally: &Tally,
+    report: &mut R,
+) -> Result<(), Failed>
+    ensures { PutsText (R.written report.old) (R.written report.new)
+        (R.faults report.old) (R.faults report.new)
+        (whole_closing limit answer core.now.plan core.now.state tally.now) result }
+{
+    put_head(limit, tally.moves, answer, core.retired(), report)?;
+    put_tally(tally, report)?;
+    put_registers(core.regs(), report)?;
+    put_picture(core, report)
+}
+
+/// Puts the report that closes a run under this limit, which finished with this answer and left the processor and the
+/// count so: the line that tells how it finished, how many instructions have retired, what was counted, the registers,
+/// and the picture of the processor. Nothing is put where the report failed in the run. After `Failed` a front of it
+/// was put.
+pub fn put_closing<R: Sink>(
+    core: &Core,
+    limit: u64,
+    answer: Scripted,
+    tally: &Tally,
+    report: &mut R,
+) -> Result<(), Failed>
+    ensures { PutsText (R.written report.old) (R.written report.new)
+        (R.faults report.old) (R.faults report.new)
+        (closing limit answer core.now.plan core.now.state tally.now) result }
+{
+    if matches!(answer, Scripted::Ran(Ran::ReportFault)) {
+        Ok(())
+    } else {
+        put_whole(core, limit, answer, tally, report)
+    }
+}

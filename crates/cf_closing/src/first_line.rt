@@ -1,0 +1,135 @@
+//! The first line of a closing report.
+#![tactic(auto, unfolding(crate::specs::Lines::bad_line, crate::specs::Lines::barred_line, crate::specs::Lines::line_of_run, crate::specs::Lines::first_line))]
+
+ghost use Rattle.std.specs.Prelude.{◌≡◌, ◌+◌, ◌≤◌, ◌++◌, length, codes, decimal};
+ghost use Rattle.cf_texts.specs.Texts.{line as line_of};
+ghost use Rattle.cf_closing.specs.Lines.{bar_text, script_text, place_in_script, bad_line, barred_line, line_of_run, first_line};
+
+use cf_bind::Bar;
+use cf_run::{Ran, Scripted};
+use cf_sched::{ScriptErr, ScriptKind};
+use cf_texts::Page;
+
+/// What bars a move: its name, and the register of a source without a value.
+#[tactic(auto, unfolding(crate::specs::Lines::bar_text))]
+fn push_bar(page: &mut Page, bar: Bar)
+    requires { length page.old + 20 ≤ 640 }
+    ensures text { page.new ≡ page.old ++ bar_text bar }
+    ensures size { length page.new ≤ length page.old + 20 }
+{
+    match bar {
+        Bar::Halted => page.push(b"Halted"),
+        Bar::Failed => page.push(b"Failed"),
+        Bar::NoSuchSite => page.push(b"NoSuchSite"),
+        Bar::NoPassenger => page.push(b"NoPassenger"),
+        Bar::NoPacket => page.push(b"NoPacket"),
+        Bar::Occupied => page.push(b"Occupied"),
+        Bar::NotMet => page.push(b"NotMet"),
+        Bar::AlreadyMet => page.push(b"AlreadyMet"),
+        Bar::SourceMissing(register) => {
+            page.push(b"SourceMissing ");
+            page.push_register_name(register);
+        }
+        Bar::NoUnit => page.push(b"NoUnit"),
+        Bar::NotDone => page.push(b"NotDone"),
+        Bar::Owes => page.push(b"Owes"),
+        Bar::OwesNothing => page.push(b"OwesNothing"),
+        Bar::OpNotThere => page.push(b"OpNotThere"),
+        Bar::LaneFull => page.push(b"LaneFull"),
+        Bar::LaneEmpty => page.push(b"LaneEmpty"),
+        Bar::FetchWaiting => page.push(b"FetchWaiting"),
+        Bar::BadGuess => page.push(b"BadGuess"),
+        Bar::Dead => page.push(b"Dead"),
+        Bar::AlreadyDone => page.push(b"AlreadyDone"),
+    }
+}
+
+/// Why a line of a script tells no move.
+#[tactic(auto, unfolding(crate::specs::Lines::script_text))]
+fn push_script(page: &mut Page, kind: ScriptKind)
+    requires { length page.old + 20 ≤ 640 }
+    ensures text { page.new ≡ page.old ++ script_text kind }
+    ensures size { length page.new ≤ length page.old + 20 }
+{
+    match kind {
+        ScriptKind::UnknownMove => page.push(b"UnknownMove"),
+        ScriptKind::BadNumber => page.push(b"BadNumber"),
+        ScriptKind::ExtraWords => page.push(b"ExtraWords"),
+        ScriptKind::NotAscii => page.push(b"NotAscii"),
+    }
+}
+
+/// What happened at the line of a script of this number, before the cause.
+#[tactic(auto, unfolding(crate::specs::Lines::place_in_script))]
+fn push_place(page: &mut Page, what: &[u8], number: u32)
+    requires { length page.old + length what.now + 22 ≤ 640 }
+    ensures text { page.new ≡ page.old ++ place_in_script what.now number }
+    ensures size { length page.new ≤ length page.old + length what.now + 22 }
+{
+    page.push(what);
+    page.push_decimal(u64::from(number));
+    page.push(b": ");
+}
+
+/// The line of a script that tells no move, and why.
+fn push_bad_line(page: &mut Page, refusal: ScriptErr)
+    requires { length page.old + 80 ≤ 640 }
+    ensures text { page.new ≡ page.old ++ bad_line refusal }
+    ensures size { length page.new ≤ length page.old + 80 }
+{
+    push_place(page, b"bad script line ", refusal.line);
+    push_script(page, refusal.kind);
+    page.push(b"\n");
+}
+
+/// The line of a script whose move is barred, and what bars it.
+fn push_barred(page: &mut Page, number: u32, bar: Bar)
+    requires { length page.old + 80 ≤ 640 }
+    ensures text { page.new ≡ page.old ++ barred_line number bar }
+    ensures size { length page.new ≤ length page.old + 80 }
+{
+    push_place(page, b"barred at line ", number);
+    push_bar(page, bar);
+    page.push(b"\n");
+}
+
+/// How many moves a script had.
+fn push_script_end(page: &mut Page, moves: u64)
+    requires { length page.old + 80 ≤ 640 }
+    ensures text { page.new ≡ page.old ++ line_of (codes "script end after " ++ decimal moves ++ codes " moves") }
+    ensures size { length page.new ≤ length page.old + 80 }
+{
+    page.push(b"script end after ");
+    page.push_decimal(moves);
+    page.push(b" moves\n");
+}
+
+/// How a run finished, whatever its schedule.
+fn push_ran(page: &mut Page, limit: u64, answer: Ran)
+    requires { length page.old + 80 ≤ 640 }
+    ensures text { page.new ≡ page.old ++ line_of_run limit answer }
+    ensures size { length page.new ≤ length page.old + 80 }
+{
+    match answer {
+        Ran::Exit(status) => page.push_counted(b"exit ", u64::from(status)),
+        Ran::Trap { cause, pc, detail } => page.push_trap(cause, pc, detail),
+        Ran::Limit => page.push_counted(b"limit ", limit),
+        Ran::ReadFault => page.push_line(b"read fault input"),
+        Ran::WriteFault => page.push_line(b"write fault output"),
+        Ran::ReportFault => {}
+    }
+}
+
+/// The first line of a closing report: how the run of a script finished under a limit, with so many moves made.
+pub(crate) fn push_first_line(page: &mut Page, limit: u64, moves: u64, answer: Scripted)
+    requires { length page.old + 80 ≤ 640 }
+    ensures text { page.new ≡ page.old ++ first_line limit moves answer }
+    ensures size { length page.new ≤ length page.old + 80 }
+{
+    match answer {
+        Scripted::Ran(answer) => push_ran(page, limit, answer),
+        Scripted::ScriptEnd => push_script_end(page, moves),
+        Scripted::BadScript(refusal) => push_bad_line(page, refusal),
+        Scripted::BarredAt { line, bar } => push_barred(page, line, bar),
+    }
+}
