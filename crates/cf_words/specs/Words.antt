@@ -16,7 +16,7 @@ is_built names.Machine = true
 is_built names.Check = true
 is_built names.List = true
 is_built names.Asm = true
-is_built names.Run = false
+is_built names.Run = true
 
 -- the first word of each command
 abbrev pub word_of : Name → List ℕ

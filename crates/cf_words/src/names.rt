@@ -21,7 +21,10 @@ impl Name {
     pub(crate) fn is_built(self) -> bool
         ensures { result ≡ is_built self }
     {
-        matches!(self, Name::Machine | Name::Check | Name::List | Name::Asm)
+        matches!(
+            self,
+            Name::Machine | Name::Check | Name::List | Name::Asm | Name::Run
+        )
     }
 
     /// The command that begins with this word.

@@ -56,7 +56,7 @@ fn machine_words(rt: HostRuntime) -> Result<(), Fail> {
         ),
         ([].as_slice(), Err(0)),
         (["machines"].as_slice(), Err(0)),
-        (["run", "plain", "p", "--script", "s"].as_slice(), Err(0)),
+        (["debug", "plain", "p"].as_slice(), Err(0)),
         (["machine"].as_slice(), Err(1)),
         (["machine", ""].as_slice(), Err(1)),
         (["machine", "--mul", "p"].as_slice(), Err(1)),
@@ -108,6 +108,48 @@ fn check_words(rt: HostRuntime) -> Result<(), Fail> {
     for (row, wanted) in rows {
         let words = words_of(alloc, row)?;
         assert!(rt; checked(words.as_slice()) == wanted);
+    }
+    Ok(())
+}
+
+/// Whether the words ask to run the processor by the script `s`, and the limit of that run.
+fn run_asked(words: &[String]) -> Result<(bool, u64), u32> {
+    match read_words(words)? {
+        Command::Run { options, .. } => Ok((options.script == "s", options.limit)),
+        _ => Err(99),
+    }
+}
+
+#[test]
+fn run_words(rt: HostRuntime) -> Result<(), Fail> {
+    let alloc = rt.alloc();
+    let rows = [
+        (
+            ["run", "plain", "p", "--script", "s"].as_slice(),
+            Ok((true, 10_000_000)),
+        ),
+        (
+            [
+                "run", "l", "p", "--show", "moves", "--limit", "0", "--script", "s",
+            ]
+            .as_slice(),
+            Ok((true, 0)),
+        ),
+        (["run"].as_slice(), Err(1)),
+        (["run", "plain"].as_slice(), Err(2)),
+        // A run needs a script; schedules by a seed are not built.
+        (["run", "plain", "p"].as_slice(), Err(3)),
+        (["run", "plain", "p", "--seed", "1"].as_slice(), Err(3)),
+        (["run", "plain", "p", "--mul"].as_slice(), Err(3)),
+        (["run", "plain", "p", "--script"].as_slice(), Err(4)),
+        (
+            ["run", "plain", "p", "--script", "s", "--seed", "1"].as_slice(),
+            Err(5),
+        ),
+    ];
+    for (row, wanted) in rows {
+        let words = words_of(alloc, row)?;
+        assert!(rt; run_asked(words.as_slice()) == wanted);
     }
     Ok(())
 }

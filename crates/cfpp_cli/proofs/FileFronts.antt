@@ -1,9 +1,9 @@
 -- What a read of a file leaves, for any greatest length.
-use Rattle.std.proofs.Common.{◌≡◌, ℕ, List, take, Option, Some, None, Result, Ok, refl}
+use Rattle.std.proofs.Common.{◌≡◌, ℕ, List, take, Option, Some, None, Ok, refl}
 use Rattle.std.specs.Prelude.{option_map, Vec}
 use Rattle.std.specs.Global.{Global}
 use Rattle.cf_io.specs.Reads.{Told, Reads}
-use Rattle.cfpp_cli.specs.FileCommands.{IsFrontOf}
+use Rattle.cfpp_cli.specs.Files.{IsFrontOf, TellSame}
 
 -- the file that the front was taken of
 front-of : (most : ℕ) (told : Told) (after : Option Told) (name bytes : List ℕ) (content : Option (List ℕ)) →
@@ -18,3 +18,9 @@ pub file-front : (most : ℕ) (told after : Option Told) (name : List ℕ) (byte
 file-front most None after name bytes h = tt
 file-front most (Some told) after name bytes h =
     front-of most told after name bytes.items (told.content name) refl h.0 h.1
+
+-- nor does it change what the files tell
+pub front-tells : (most : ℕ) (told after : Option Told) (name bytes : List ℕ) →
+    IsFrontOf most told after name bytes → TellSame told after
+front-tells most None after name bytes front = tt
+front-tells most (Some told) after name bytes front = front.3

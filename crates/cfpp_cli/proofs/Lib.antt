@@ -1,9 +1,10 @@
-pub mod Commands
 pub mod Flat
 pub mod Named
-pub mod Programs
+pub mod ProgramFiles
 pub mod Reports
 pub mod Runs
 pub mod Segments
 pub mod Tops
 pub mod FileFronts
+pub mod RunFiles
+pub mod ScriptRuns

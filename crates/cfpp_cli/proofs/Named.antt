@@ -9,7 +9,7 @@ use Rattle.cf_layout.specs.Layout.{Plan}
 use Rattle.layout_file.specs.Answers.{Describes}
 use Rattle.cf_words.specs.Words.{Layout, plain, in_file}
 use Rattle.cfpp_cli.specs.Causes.{input_answered, output_answered}
-use Rattle.cfpp_cli.specs.Machine.{TellSame}
+use Rattle.cfpp_cli.specs.Files.{TellSame}
 use Rattle.cfpp_cli.specs.Layouts.{most_layout_bytes, IsLayoutFront, IsLayoutAt, RefusesFile, HasNoLayout, LacksLayout}
 use Rattle.cfpp_cli.specs.Check.{WritesText, AnswersCheck}
 use Rattle.cfpp_cli.specs.Outside.{Outside, outside_of}
@@ -64,6 +64,9 @@ file-refused told after sooner later name file status.Done report front h = h
 file-refused told after sooner later name file (status.BadWords index) report front h = h
 file-refused told after sooner later name file (status.BadProgram error) report front h = h
 file-refused told after sooner later name file (status.BadSource error) report front h = h
+file-refused told after sooner later name file (status.BadScript fault) report front h = h
+file-refused told after sooner later name file (status.BarredAt line bar) report front h = h
+file-refused told after sooner later name file (status.ScriptEnd moves) report front h = h
 file-refused told after sooner later name file (status.ReadFault kind) report front h = absurd h
 file-refused told after sooner later name file status.WriteFault report front h = h
 
@@ -113,6 +116,12 @@ checks-layout word told again sooner later left faults blank full before after p
     h
 checks-layout word told again sooner later left faults blank full before after plan (status.BadSource error) report named h =
     h
+checks-layout word told again sooner later left faults blank full before after plan (status.BadScript fault) report named h =
+    h
+checks-layout word told again sooner later left faults blank full before after plan (status.BarredAt line bar) report named h =
+    h
+checks-layout word told again sooner later left faults blank full before after plan (status.ScriptEnd moves) report named h =
+    h
 checks-layout word told again sooner later left faults blank full before after plan (status.ReadFault kind) report named h =
     absurd h
 
@@ -143,6 +152,12 @@ lacks-file name told again sooner later left faults blank before after (status.B
 lacks-file name told again sooner later left faults blank before after (status.BadProgram error) report h =
     h
 lacks-file name told again sooner later left faults blank before after (status.BadSource error) report h =
+    h
+lacks-file name told again sooner later left faults blank before after (status.BadScript fault) report h =
+    h
+lacks-file name told again sooner later left faults blank before after (status.BarredAt line bar) report h =
+    h
+lacks-file name told again sooner later left faults blank before after (status.ScriptEnd moves) report h =
     h
 lacks-file name told again sooner later left faults blank before after (status.ReadFault which.Program) report h =
     h
@@ -187,6 +202,12 @@ no-output name told again sooner later n (status.BadProgram error) report h =
     record { never_falls = omega arith; rose = tt }
 no-output name told again sooner later n (status.BadSource error) report h =
     record { never_falls = omega arith; rose = tt }
+no-output name told again sooner later n (status.BadScript fault) report h =
+    record { never_falls = omega arith; rose = tt }
+no-output name told again sooner later n (status.BarredAt line bar) report h =
+    record { never_falls = omega arith; rose = tt }
+no-output name told again sooner later n (status.ScriptEnd moves) report h =
+    record { never_falls = omega arith; rose = tt }
 
 pub lacks-output : (word : Layout) (told again : Option Told) (sooner later n : ℕ) (answer : Status)
     (report : List ℕ) → LacksLayout word told again sooner later answer report →
@@ -227,4 +248,10 @@ check-input word before after n (status.BadWords index) report h =
 check-input word before after n (status.BadProgram error) report h =
     record { never_falls = omega arith; rose = tt }
 check-input word before after n (status.BadSource error) report h =
+    record { never_falls = omega arith; rose = tt }
+check-input word before after n (status.BadScript fault) report h =
+    record { never_falls = omega arith; rose = tt }
+check-input word before after n (status.BarredAt line bar) report h =
+    record { never_falls = omega arith; rose = tt }
+check-input word before after n (status.ScriptEnd moves) report h =
     record { never_falls = omega arith; rose = tt }

@@ -6,7 +6,7 @@ use Rattle.layout_file.specs.Text.{text_of}
 use Rattle.cf_texts.specs.Texts.{line}
 use Rattle.cf_words.specs.Words.{Layout}
 use Rattle.cfpp_cli.specs.Outside.{Outside}
-use Rattle.cfpp_cli.specs.Machine.{TellSame}
+use Rattle.cfpp_cli.specs.Files.{TellSame}
 use Rattle.cfpp_cli.specs.Layouts.{IsLayoutAt, LacksLayout}
 use Rattle.cfpp_cli.specs.declared.status.Status.{Status}
 use Rattle.cfpp_cli.specs.declared.status.Status.TheVariants as status

@@ -7,10 +7,13 @@ abbrev pub code_of : Status → ℕ
 code_of (status.Exit code) = code
 code_of (status.Trap cause pc detail) = 120
 code_of (status.Limit limit) = 121
+code_of (status.ScriptEnd moves) = 0
 code_of status.Done = 0
 code_of (status.BadWords index) = 122
 code_of (status.BadLayout error) = 123
 code_of (status.BadProgram error) = 124
+code_of (status.BadScript fault) = 125
+code_of (status.BarredAt line bar) = 126
 code_of (status.BadSource error) = 127
 code_of (status.ReadFault which) = 128
 code_of status.WriteFault = 129

@@ -1,21 +1,14 @@
 -- What a command answers that reads one file and puts a text to the output, and what it leaves of the outside.
-use Rattle.std.specs.Prelude.{◌≡◌, ℕ, List, [], take, codes, Option, Some, None}
+use Rattle.std.specs.Prelude.{◌≡◌, ℕ, List, [], codes, Option}
 use Rattle.cf_io.specs.Causes.{Rose}
 use Rattle.cf_io.specs.Puts.{Writes, WritesFront}
 use Rattle.cf_io.specs.Reads.{Told}
 use Rattle.cf_texts.specs.Texts.{line}
 use Rattle.cfpp_cli.specs.Outside.{Outside}
-use Rattle.cfpp_cli.specs.Machine.{TellSame, NotesFailure}
+use Rattle.cfpp_cli.specs.Files.{IsFrontOf, TellSame, NotesFailure}
 use Rattle.cfpp_cli.specs.declared.status.Status.{Status}
 use Rattle.cfpp_cli.specs.declared.status.Status.TheVariants as status
 use Rattle.cfpp_cli.specs.declared.status.Which.{Which}
-
--- the file's first bytes, at most so many; the read leaves what the files tell as it was
-abbrev pub IsFrontOf : ℕ → Option Told → Option Told → List ℕ → List ℕ → Type 0
-IsFrontOf most None after name bytes = Unit {0}
-IsFrontOf most (Some told) after name bytes =
-    (content : List ℕ) × (told.content name ≡ Some content) × (bytes ≡ take most content)
-    × (after ≡ Some told)
 
 -- what such a command deals with at one moment: the files, and what was written to the output
 pub record FileSide : Type 0 where

@@ -10,7 +10,7 @@ use Rattle.layout_file.specs.Answers.{Fails, Describes}
 use Rattle.layout_refusals.specs.Texts.{bad_layout}
 use Rattle.cf_texts.specs.Texts.{line}
 use Rattle.cf_words.specs.Words.{Layout, plain, in_file}
-use Rattle.cfpp_cli.specs.Machine.{TellSame, NotesFailure}
+use Rattle.cfpp_cli.specs.Files.{TellSame, NotesFailure}
 use Rattle.cfpp_cli.specs.declared.status.Status.{Status}
 use Rattle.cfpp_cli.specs.declared.status.Status.TheVariants as status
 use Rattle.cfpp_cli.specs.declared.status.Which.TheVariants as which

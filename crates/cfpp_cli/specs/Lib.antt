@@ -1,4 +1,5 @@
 pub mod Options
+pub mod Files
 pub mod Outside
 pub mod Image
 pub mod Opening
@@ -6,6 +7,7 @@ pub mod Refusals
 pub mod Lines
 pub mod Finish
 pub mod Closing
+pub mod Programs
 pub mod Machine
 pub mod FileCommands
 pub mod Listings
@@ -13,6 +15,9 @@ pub mod Sources
 pub mod Causes
 pub mod Layouts
 pub mod Check
+pub mod Scripts
+pub mod RunFiles
+pub mod Run
 pub mod Top
 pub mod Deciding
 pub mod Codes

@@ -12,6 +12,8 @@ use Rattle.cfpp_cli.specs.Check.{AnswersCheck}
 use Rattle.cfpp_cli.specs.FileCommands.{side_of}
 use Rattle.cfpp_cli.specs.Listings.{AnswersList}
 use Rattle.cfpp_cli.specs.Sources.{AnswersAsm}
+use Rattle.cfpp_cli.specs.RunFiles.{run_asked}
+use Rattle.cfpp_cli.specs.Run.{AnswersRun, BreaksRun}
 use Rattle.cfpp_cli.specs.declared.status.Status.{Status}
 use Rattle.cfpp_cli.specs.declared.status.Status.TheVariants as status
 
@@ -28,7 +30,7 @@ pub record RefusesWords (index : ℕ) (before after : Outside) (answer : Status)
   pub reports : report ≡ counted_line (codes "bad words at ") index
   pub streams : after.streams ≡ before.streams
 
--- the answer and the whole report, by what the words ask; the commands that are not built are asked by no words
+-- the answer and the whole report, by what the words ask
 abbrev pub Answers : Result Asked ℕ → Outside → Outside → Status → List ℕ → Type 0
 Answers (Ok (machine program limit retired mul)) before after answer report =
     AnswersMachine program (chosen_of limit retired mul) before after answer report
@@ -40,17 +42,19 @@ Answers (Ok (listing program)) before after answer report =
 Answers (Ok (asm source)) before after answer report =
     AnswersAsm source (side_of before) (side_of after) answer report
     × (after.streams.input ≡ before.streams.input)
-Answers (Ok (run layout program script limit lines)) before after answer report = ⊥
+Answers (Ok (run layout program script limit lines)) before after answer report =
+    AnswersRun (run_asked layout program script limit lines) before after answer report
 Answers (Err index) before after answer report = RefusesWords index before after answer report
 
--- the report failed before the command was carried out
+-- the report failed at what the command itself put to it
 abbrev pub Breaks : Result Asked ℕ → Outside → Outside → Option (List ℕ) → Option (List ℕ) → Type 0
 Breaks (Ok (machine program limit retired mul)) before after blank full =
     BreaksProgram program (chosen_of limit retired mul) before after blank full
 Breaks (Ok (check layout)) before after blank full = ⊥
 Breaks (Ok (listing program)) before after blank full = ⊥
 Breaks (Ok (asm source)) before after blank full = ⊥
-Breaks (Ok (run layout program script limit lines)) before after blank full = ⊥
+Breaks (Ok (run layout program script limit lines)) before after blank full =
+    BreaksRun (run_asked layout program script limit lines) before after blank full
 Breaks (Err index) before after blank full = ⊥
 
 -- the whole report was put, and the status is the answer; or the report failed behind a front of it, and the status is WriteFault

@@ -1,6 +1,6 @@
 //! The layouts that words of the command line name.
 
-ghost use Rattle.std.specs.Prelude.{◌≡◌, IfOk, IfErr, codes};
+ghost use Rattle.std.specs.Prelude.{◌≡◌, ◌≤◌, IfOk, IfErr, codes};
 ghost use Rattle.cf_texts.specs.Texts.{line as line_of};
 ghost use Rattle.cf_words.specs.Words.{in_file};
 ghost use Rattle.cf_words.specs.Views.{layout_of};
@@ -53,6 +53,7 @@ fn read_file<F: Files>(alloc: Global, name: &str, files: &mut F) -> Result<Layou
     ensures ok { IfOk result (IsLayoutAt (in_file name.now) (F.told files.old) (F.told files.new)) }
     ensures refused { IfErr result (λ answer. HasNoLayout name.now (F.told files.old) (F.told files.new)
         (F.faults files.old) (F.faults files.new) answer.status answer.closing) }
+    ensures faults { F.faults files.old ≤ F.faults files.new }
 {
     match files.read(alloc, name, MOST_BYTES + 1) {
         Ok(file) => read_content(alloc, file.as_slice()),
@@ -73,6 +74,7 @@ pub fn layout_at<F: Files>(
     ensures ok { IfOk result (IsLayoutAt (layout_of word.entry) (F.told files.old) (F.told files.new)) }
     ensures refused { IfErr result (λ answer. LacksLayout (layout_of word.entry) (F.told files.old)
         (F.told files.new) (F.faults files.old) (F.faults files.new) answer.status answer.closing) }
+    ensures faults { F.faults files.old ≤ F.faults files.new }
 {
     match word {
         LayoutWord::Plain => Ok(plain()),

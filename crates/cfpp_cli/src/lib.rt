@@ -10,12 +10,16 @@ mod listing;
 mod machine;
 mod opening;
 mod parts;
+mod programs;
 mod refusals;
+mod run;
+mod run_files;
 mod running;
+mod scripts;
 mod status;
 mod top;
 
-pub use status::{ProgramErr, Status, Which};
+pub use status::{ProgramErr, ScriptFault, Status, Which};
 pub use top::cfpp;
 
 #[cfg(test)]

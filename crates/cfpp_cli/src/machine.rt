@@ -4,18 +4,18 @@ ghost use Rattle.std.specs.Prelude.{◌≡◌};
 ghost use Rattle.cf_io.specs.Causes.{HasCause};
 ghost use Rattle.rv_machine.specs.Streams.{streams_of};
 ghost use Rattle.cfpp_cli.specs.Deciding.{Decides, input_decided, output_decided};
-ghost use Rattle.cfpp_cli.specs.Machine.{ComesTo, BreaksImage, AnswersMachine, BreaksProgram, status_of as status_for};
+ghost use Rattle.cfpp_cli.specs.Machine.{RunsHart, BreaksHart, AnswersMachine, BreaksProgram, status_of as status_for};
 ghost use Rattle.cfpp_cli.specs.Options.{chosen_of};
 ghost use Rattle.cfpp_cli.specs.Outside.{outside_of};
 
 use crate::answer::Answer;
 use crate::closing::closing_page;
-use crate::opening::{MOST_BYTES, OpenErr, open};
-use crate::refusals::{bad_program, line};
+use crate::programs::program_at;
 use crate::running::{Finish, run};
 use crate::status::{Status, Which};
-use cf_io::{Failed, Files, FilesErr, Sink, Source};
+use cf_io::{Failed, Files, Sink, Source};
 use cf_words::MachineOptions;
+use rv_machine::Machine;
 use std::alloc::Global;
 
 fn status_of(limit: u64, finish: Finish) -> Status
@@ -30,20 +30,20 @@ fn status_of(limit: u64, finish: Finish) -> Status
     }
 }
 
-/// Runs a program that was read, and puts the lines that it shows.
-fn run_image<S: Source, K: Sink, R: Sink>(
-    alloc: Global,
-    image: &[u8],
+/// Runs a machine that has retired nothing yet, and puts the lines that it shows.
+fn run_machine<S: Source, K: Sink, R: Sink>(
+    mut machine: Machine,
     options: MachineOptions,
     input: &mut S,
     output: &mut K,
     report: &mut R,
 ) -> Result<Answer, Failed>
-    ensures comes { Decides
-        (ComesTo (chosen_of options.limit options.show_retired options.mul) image.now
+    requires { machine.retired ≡ 0 }
+    ensures runs { Decides
+        (RunsHart (chosen_of options.limit options.show_retired options.mul) machine
         (streams_of (S.left input.old) (K.written output.old))
         (streams_of (S.left input.new) (K.written output.new)))
-        (BreaksImage (chosen_of options.limit options.show_retired options.mul) image.now
+        (BreaksHart (chosen_of options.limit options.show_retired options.mul) machine
         (streams_of (S.left input.old) (K.written output.old))
         (streams_of (S.left input.new) (K.written output.new)) (R.written report.old) (R.written report.new))
         (R.written report.old) (R.written report.new) result }
@@ -51,21 +51,6 @@ fn run_image<S: Source, K: Sink, R: Sink>(
     ensures output { HasCause (K.faults output.old) (K.faults output.new) (output_decided result) }
     ensures report { HasCause (R.faults report.old) (R.faults report.new) result }
 {
-    let mut machine = match open(alloc, image) {
-        Ok(machine) => machine,
-        Err(OpenErr::Refused(error)) => {
-            let status = Status::BadProgram(error);
-            let closing = bad_program(error);
-            return Ok(Answer { status, closing });
-        }
-        Err(OpenErr::NoMemory) => {
-            let closing = line(b"no memory");
-            return Ok(Answer {
-                status: Status::NoMemory,
-                closing,
-            });
-        }
-    };
     let finish = run(&mut machine, options, input, output, report)?;
     let closing = closing_page(options.limit, finish, &machine);
     let status = status_of(options.limit, finish);
@@ -99,19 +84,8 @@ pub fn run_program<F: Files, S: Source, K: Sink, R: Sink>(
     ensures output { HasCause (K.faults output.old) (K.faults output.new) (output_decided result) }
     ensures report { HasCause (R.faults report.old) (R.faults report.new) result }
 {
-    match files.read(alloc, program, MOST_BYTES + 1) {
-        Ok(image) => run_image(alloc, image.as_slice(), options, input, output, report),
-        Err(FilesErr::Failed) => {
-            let status = Status::ReadFault(Which::Program);
-            let closing = line(b"read fault program");
-            Ok(Answer { status, closing })
-        }
-        Err(FilesErr::NoMemory) => {
-            let closing = line(b"no memory");
-            Ok(Answer {
-                status: Status::NoMemory,
-                closing,
-            })
-        }
+    match program_at(alloc, program, files) {
+        Ok(machine) => run_machine(machine, options, input, output, report),
+        Err(answer) => Ok(answer),
     }
 }

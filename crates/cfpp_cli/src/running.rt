@@ -89,6 +89,41 @@ fn show_line<R: Sink>(shows: bool, count: u64, line: Retired, report: &mut R) ->
     }
 }
 
+/// Runs a machine that multiplies and divides where `mul` says so, and shows lines where `shows` does.
+// Where the two are constants, as they are at each call, the loop has no test of them.
+#[inline(always)]
+fn run_as<S: Source, K: Sink, R: Sink>(
+    machine: &mut Machine,
+    mul: bool,
+    shows: bool,
+    limit: u64,
+    input: &mut S,
+    output: &mut K,
+    report: &mut R,
+) -> Result<Finish, Failed>
+    requires { machine.old.retired + limit < 2 ^ 64 }
+    ensures ran { Ran (chosen_of limit shows mul) machine.old machine.new
+        (streams_of (S.left input.old) (K.written output.old))
+        (streams_of (S.left input.new) (K.written output.new))
+        (R.written report.old) (R.written report.new) result }
+    ensures input { HasCause (S.faults input.old) (S.faults input.new) (input_finished result) }
+    ensures output { HasCause (K.faults output.old) (K.faults output.new) (output_finished result) }
+    ensures report { HasCause (R.faults report.old) (R.faults report.new) result }
+{
+    for done in 0..limit {
+        match step(machine, mul, input, output) {
+            Stepped::Next(line) => {
+                show_line(shows, machine.retired(), line, report)?;
+            }
+            Stepped::Exit(status) => return Ok(Finish::Exit(status)),
+            Stepped::Trap { cause, pc, detail } => return Ok(Finish::Trap { cause, pc, detail }),
+            Stepped::ReadFault => return Ok(Finish::ReadFault),
+            Stepped::WriteFault => return Ok(Finish::WriteFault),
+        }
+    }
+    Ok(Finish::Limit)
+}
+
 /// Runs the machine until the program ends, traps or is failed by one of its streams, or until so many more
 /// instructions have retired as the options allow. Each retired instruction's line is put to the report as it comes,
 /// where the options ask for that; the run ends with `Failed` where the report does, which is then put nothing more.
@@ -108,16 +143,10 @@ pub fn run<S: Source, K: Sink, R: Sink>(
     ensures output { HasCause (K.faults output.old) (K.faults output.new) (output_finished result) }
     ensures report { HasCause (R.faults report.old) (R.faults report.new) result }
 {
-    for done in 0..options.limit {
-        match step(machine, options.mul, input, output) {
-            Stepped::Next(line) => {
-                show_line(options.show_retired, machine.retired(), line, report)?;
-            }
-            Stepped::Exit(status) => return Ok(Finish::Exit(status)),
-            Stepped::Trap { cause, pc, detail } => return Ok(Finish::Trap { cause, pc, detail }),
-            Stepped::ReadFault => return Ok(Finish::ReadFault),
-            Stepped::WriteFault => return Ok(Finish::WriteFault),
-        }
+    let limit = options.limit;
+    match (options.mul, options.show_retired) {
+        (false, false) => run_as(machine, false, false, limit, input, output, report),
+        (true, false) => run_as(machine, true, false, limit, input, output, report),
+        (mul, true) => run_as(machine, mul, true, limit, input, output, report),
     }
-    Ok(Finish::Limit)
 }

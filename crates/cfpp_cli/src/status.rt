@@ -1,5 +1,7 @@
 ghost use Rattle.std.specs.Prelude.{◌≡◌};
 
+use cf_bind::Bar;
+use cf_sched::ScriptErr;
 use elf_view::ElfErr;
 use layout_file::FileErr;
 use mem_regions::LoadErr;
@@ -29,6 +31,16 @@ pub enum ProgramErr {
     Load(LoadErr),
 }
 
+/// Why a file is no script of moves that can be made.
+#[derive(Clone, Copy, Debug, PartialEq, Eq)]
+pub enum ScriptFault {
+    /// It has over 16,777,216 bytes.
+    TooLong,
+
+    /// The line that was reached tells no move.
+    Line(ScriptErr),
+}
+
 /// How a call of the simulator ended.
 #[derive(Drop)]
 pub enum Status {
@@ -41,6 +53,9 @@ pub enum Status {
     /// So many instructions had retired, and the program had not ended.
     Limit(Option<u64>),
 
+    /// The script had no further move after so many that were made, and the program had not ended.
+    ScriptEnd(u64),
+
     /// A command that runs no program was carried out.
     Done,
 
@@ -52,6 +67,12 @@ pub enum Status {
 
     /// The file is no program.
     BadProgram(ProgramErr),
+
+    /// The file is no script, or a line of it that was reached tells no move.
+    BadScript(ScriptFault),
+
+    /// The move of this line of the script could not be made: the bar is the first of its row in the table of moves.
+    BarredAt { line: u32, bar: Bar },
 
     /// The assembly source is refused.
     BadSource(AsmErr),
@@ -69,7 +90,8 @@ pub enum Status {
 impl Status {
     ghost use Rattle.cfpp_cli.specs.Codes.{code_of};
 
-    /// The status that the process ends with: a program's own, 0 after a command that runs none, or one from 120 on.
+    /// The status that the process ends with: a program's own, 0 after a command that runs none or at a script's end, or
+    /// one from 120 on.
     pub fn code(&self) -> u8
         ensures { result ≡ code_of self.now }
     {
@@ -77,10 +99,13 @@ impl Status {
             Status::Exit(code) => *code,
             Status::Trap { .. } => 120,
             Status::Limit(_) => 121,
+            Status::ScriptEnd(_) => 0,
             Status::Done => 0,
             Status::BadWords(_) => 122,
             Status::BadLayout(_) => 123,
             Status::BadProgram(_) => 124,
+            Status::BadScript(_) => 125,
+            Status::BarredAt { .. } => 126,
             Status::BadSource(_) => 127,
             Status::ReadFault(_) => 128,
             Status::WriteFault => 129,

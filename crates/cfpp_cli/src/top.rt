@@ -12,13 +12,13 @@ use crate::check::check_layout;
 use crate::listing::list_program;
 use crate::machine::run_program;
 use crate::refusals::bad_words;
+use crate::run::run_processor;
 use crate::status::Status;
 use cf_io::{Failed, Files, Sink, Source, put_all};
 use cf_words::{Command, read_words};
 use std::alloc::Global;
 
 /// Carries out what the words ask, but for the closing lines of the report.
-#[tactic(auto, using(crate::proofs::Commands::commands))]
 fn decide<F: Files, S: Source, K: Sink, R: Sink>(
     alloc: Global,
     words: &[String],
@@ -44,7 +44,15 @@ fn decide<F: Files, S: Source, K: Sink, R: Sink>(
         Ok(Command::Check { layout }) => Ok(check_layout(alloc, layout, files, output)),
         Ok(Command::List { program }) => Ok(list_program(alloc, program, files, output)),
         Ok(Command::Asm { source }) => Ok(assemble_program(alloc, source, files, output)),
-        Ok(Command::Run { .. }) => unreachable!(),
+        Ok(
+            Command::Run {
+                layout,
+                program,
+                options,
+            },
+        ) => run_processor(
+            alloc, layout, program, options, files, input, output, report,
+        ),
         Err(index) => Ok(Answer {
             status: Status::BadWords(index),
             closing: bad_words(index),
@@ -52,9 +60,10 @@ fn decide<F: Files, S: Source, K: Sink, R: Sink>(
     }
 }
 
-/// Does what the words say: `machine PROGRAM` runs a program's file on the sequential machine, `check LAYOUT` writes a
-/// layout's one text to the output, `list PROGRAM` puts a program's listing there, and `asm SOURCE` the ELF file that an
-/// assembly source stands for.
+/// Does what the words say: `machine PROGRAM` runs a program's file on the sequential machine, `run LAYOUT PROGRAM
+/// --script FILE` on the processor of a layout by the moves of a script, `check LAYOUT` writes a layout's one text to
+/// the output, `list PROGRAM` puts a program's listing there, and `asm SOURCE` the ELF file that an assembly source
+/// stands for.
 ///
 /// The file is an ELF executable for RISC-V, whose segments are loaded, or else a flat image, which stands at
 /// 0x00010000 in one region that may be read, written and executed, and begins there; a zeroed stack of 1 MiB

@@ -1,8 +1,20 @@
-use Rattle.cfpp_cli.proofs.Programs.{front-read, decides-program}
+use Rattle.std.proofs.Common.{inr, refl, []}
+use Rattle.cfpp_cli.proofs.ProgramFiles.{decides-program, no-cause, lacks-program-input, lacks-program-output}
+use Rattle.cfpp_cli.proofs.Reports.{writes-nothing}
 use Rattle.cfpp_cli.proofs.machine.run_program.Goals as goal
 
 pub returns-in-Ok-clause-answers : goal.returns-in-Ok-clause-answers
 returns-in-Ok-clause-answers g c =
-    decides-program _ _ _ _ _ _ _ _
-    (front-read _ _ _ c.in-Ok.image c.in-Ok.ensures.bytes)
-    (rw c.as_slice.ensures.value at c.run_image.ensures.comes)
+    decides-program _ _ _ _ c.in-Ok.machine _ _ _ c.in-Ok.ensures.ok c.run_machine.ensures.runs
+
+pub returns-in-Err-clause-answers : goal.returns-in-Err-clause-answers
+returns-in-Err-clause-answers g c =
+    ([], writes-nothing _, inr (record { lacks = c.in-Err.ensures.refused; streams = refl }))
+
+pub returns-in-Err-clause-input : goal.returns-in-Err-clause-input
+returns-in-Err-clause-input g c =
+    no-cause _ _ (lacks-program-input _ _ _ _ _ c.in-Err.ensures.refused)
+
+pub returns-in-Err-clause-output : goal.returns-in-Err-clause-output
+returns-in-Err-clause-output g c =
+    no-cause _ _ (lacks-program-output _ _ _ _ _ c.in-Err.ensures.refused)

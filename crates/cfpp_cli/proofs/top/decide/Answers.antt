@@ -1,5 +1,5 @@
 use Rattle.std.proofs.Common.{Ok, Err, None, refl, []}
-use Rattle.cf_words.specs.Words.{machine, check, listing, asm}
+use Rattle.cf_words.specs.Words.{machine, check, listing, asm, run}
 use Rattle.cf_words.specs.Views.{layout_of}
 use Rattle.cfpp_cli.proofs.Named.{check-input}
 use Rattle.cfpp_cli.proofs.Reports.{writes-nothing}
@@ -38,6 +38,15 @@ returns-in-Ok-Asm-clause-decided g c = record {
   reads = rw c.in-Ok-Asm.field-0-is at c.in-Ok-Asm.ensures.answers;
   decides = ([], writes-nothing _, (c.assemble_program.ensures.answers, refl));
 }
+
+pub returns-in-Ok-Run-clause-decided : goal.returns-in-Ok-Run-clause-decided
+returns-in-Ok-Run-clause-decided g c =
+    let o = c.in-Ok-Run.options in
+    record {
+      reading = Ok (run (layout_of c.in-Ok-Run.layout) c.in-Ok-Run.program.now o.script.now o.limit o.show);
+      reads = rw c.in-Ok-Run.field-0-is at c.in-Ok-Run.ensures.answers;
+      decides = c.run_processor.ensures.answers;
+    }
 
 pub returns-in-Err-clause-decided : goal.returns-in-Err-clause-decided
 returns-in-Err-clause-decided g c = record {

@@ -1,7 +1,7 @@
 use Rattle.std.proofs.Common.{arith}
 use Rattle.std.proofs.lemmas.Result.{err_from_is_err_and}
 use Rattle.cfpp_cli.proofs.Runs.{reached-none, reached-next, breaks-off, ran-failed, runs-exit, runs-trap, runs-read-fault, runs-write-fault}
-use Rattle.cfpp_cli.proofs.running.run.Goals as goal
+use Rattle.cfpp_cli.proofs.running.run_as.Goals as goal
 
 pub loop-done-init : goal.loop-done-init
 loop-done-init g c = record {

@@ -2,7 +2,7 @@ use Rattle.std.proofs.Common.{◌≡◌, ◌+◌, ◌≤◌}
 use Rattle.rv_machine.specs.Streams.{streams_of}
 use Rattle.cfpp_cli.specs.Options.{chosen_of}
 use Rattle.cfpp_cli.proofs.Runs.{Reached, told_of}
-use Rattle.cfpp_cli.proofs.running.run.Given as goal
+use Rattle.cfpp_cli.proofs.running.run_as.Given as goal
 
 abbrev pub invariant-loop-done : goal.invariant-loop-done
 invariant-loop-done g l =
@@ -10,7 +10,7 @@ invariant-loop-done g l =
     let written = g.K.Sink.written in
     let reported = g.R.Sink.written in
     record {
-      reached : Reached (chosen_of l.options.limit l.options.show_retired l.options.mul)
+      reached : Reached (chosen_of l.limit l.shows l.mul)
           l.initial.machine l.machine
           (told_of (streams_of (left l.initial.input) (written l.initial.output))
           (streams_of (left l.input) (written l.output))

@@ -1,0 +1,19 @@
+use Rattle.std.proofs.Common.{inr, refl, []}
+use Rattle.cfpp_cli.proofs.Reports.{writes-nothing}
+use Rattle.cfpp_cli.proofs.RunFiles.{decides-run, lacks-input, lacks-output}
+use Rattle.cfpp_cli.proofs.run.run_processor.Goals as goal
+
+pub returns-in-Ok-clause-answers : goal.returns-in-Ok-clause-answers
+returns-in-Ok-clause-answers g c =
+    decides-run _ _ _ c.in-Ok.ready.layout c.in-Ok.ready.machine _ _ _ _
+    c.in-Ok.ensures.ready c.run_ready.ensures.comes
+
+pub returns-in-Err-clause-answers : goal.returns-in-Err-clause-answers
+returns-in-Err-clause-answers g c =
+    ([], writes-nothing _, inr (record { lacks = c.in-Err.ensures.lacks; streams = refl }))
+
+pub returns-in-Err-clause-input : goal.returns-in-Err-clause-input
+returns-in-Err-clause-input g c = lacks-input _ _ _ _ _ _ c.in-Err.ensures.lacks
+
+pub returns-in-Err-clause-output : goal.returns-in-Err-clause-output
+returns-in-Err-clause-output g c = lacks-output _ _ _ _ _ _ c.in-Err.ensures.lacks

@@ -1,0 +1,79 @@
+-- The three files that `run` reads, one after another: the layout's, the program's and the script's.
+use Rattle.std.specs.Prelude.{◌≤◌, ◌⊎◌, ℕ, List}
+use Rattle.rv_machine.specs.Hart.{Hart}
+use Rattle.cf_layout.specs.Layout.{Plan}
+use Rattle.cf_words.specs.Words.{Layout}
+use Rattle.cf_words.specs.declared.options.Show.{Show as ShowWord}
+use Rattle.cf_words.specs.declared.options.Show.TheVariants as word
+use Rattle.cf_run.specs.declared.show.Show.{Show}
+use Rattle.cf_run.specs.declared.show.Show.TheVariants as show
+use Rattle.cfpp_cli.specs.Files.{FilesAt}
+use Rattle.cfpp_cli.specs.Layouts.{IsLayoutAt, LacksLayout}
+use Rattle.cfpp_cli.specs.Programs.{IsProgramAt, LacksProgram}
+use Rattle.cfpp_cli.specs.Scripts.{IsScriptAt, LacksScript}
+use Rattle.cfpp_cli.specs.declared.status.Status.{Status}
+
+-- what a run of the processor is to show, by the word for it
+abbrev pub show_of : ShowWord → Show
+show_of word.Report = show.Report
+show_of word.Retired = show.Retired
+show_of word.Moves = show.Moves
+
+-- what the words ask of `run`: where the layout is, the files with the program and the script, the retired instructions at which the run stops, and what it shows
+pub record RunAsked : Type 0 where
+  pub layout : Layout
+  pub program : List ℕ
+  pub script : List ℕ
+  pub limit : ℕ
+  pub show : Show
+
+abbrev pub run_asked : Layout → List ℕ → List ℕ → ℕ → ShowWord → RunAsked
+run_asked layout program script limit lines = record {
+  layout = layout;
+  program = program;
+  script = script;
+  limit = limit;
+  show = show_of lines;
+}
+
+-- the word names this layout
+pub record IsLaid (layout : Layout) (before after : FilesAt) (plan : Plan) : Type 0 where
+  pub layout_at : IsLayoutAt layout before.told after.told plan
+  pub faults : before.faults ≤ after.faults
+
+-- the word names this layout, and behind it was read the program that begins on this hart
+pub record IsLoaded (asked : RunAsked) (before after : FilesAt) (plan : Plan) (hart : Hart) : Type 0 where
+  pub between : FilesAt
+  pub laid : IsLaid asked.layout before between plan
+  pub program : IsProgramAt asked.program between after hart
+
+-- all three are there: behind layout and program this script was read
+pub record IsReady (asked : RunAsked) (before after : FilesAt) (plan : Plan) (hart : Hart)
+    (text : List ℕ) : Type 0 where
+  pub between : FilesAt
+  pub loaded : IsLoaded asked before between plan hart
+  pub script : IsScriptAt asked.script between after text
+
+-- there is a layout, and no program
+pub record StopsAtProgram (asked : RunAsked) (before after : FilesAt) (answer : Status)
+    (report : List ℕ) : Type 0 where
+  pub plan : Plan
+  pub between : FilesAt
+  pub laid : IsLaid asked.layout before between plan
+  pub lacks : LacksProgram asked.program between after answer report
+
+-- there are a layout and a program, and no script
+pub record StopsAtScript (asked : RunAsked) (before after : FilesAt) (answer : Status)
+    (report : List ℕ) : Type 0 where
+  pub plan : Plan
+  pub hart : Hart
+  pub between : FilesAt
+  pub loaded : IsLoaded asked before between plan hart
+  pub lacks : LacksScript asked.script between after answer report
+
+-- the first of the three that is not there, the status that says why, and the report
+abbrev pub LacksFile : RunAsked → FilesAt → FilesAt → Status → List ℕ → Type 0
+LacksFile asked before after answer report =
+    LacksLayout asked.layout before.told after.told before.faults after.faults answer report
+    ⊎ (StopsAtProgram asked before after answer report
+    ⊎ StopsAtScript asked before after answer report)
