@@ -250,14 +250,38 @@ fn greeting() -> [u8; 248] {
     file
 }
 
+/// What the greeting comes to.
+const GREETED: Row = Row {
+    layout: None,
+    words: &[],
+    script: GREETS,
+    code: 0,
+    head: "exit 0\nretired 8\nmoves 128\nmeets 1\nkills 1\ndead 0\n",
+    written: &[(11, 0x1_10d8), (12, 6), (17, 0x5d)],
+    picture: "fetch wait\nlane -\n",
+};
+
+/// The same where the output fails: the call stands in the highest stage as before it.
+const SILENCED: Row = Row {
+    layout: None,
+    words: &[],
+    script: GREETS,
+    code: 129,
+    head: "write fault output\nretired 5\nmoves 81\nmeets 1\nkills 1\ndead 0\n",
+    written: &[(10, 1), (11, 0x1_10d8), (12, 6), (17, 0x40)],
+    picture: "fetch wait\nlane -\nstage 8 instruction | 000100c8 next new - - x10=? -\n",
+};
+
 #[test]
 fn greets(rt: HostRuntime) -> Result<(), Fail> {
     let file = greeting();
     let outcome = called(rt.alloc(), &run(None, &file, GREETS.as_bytes()))?;
-    assert_eq!(rt; outcome.code, 0);
+    assert_eq!(rt; outcome.code, GREETED.code);
     assert_eq!(rt; outcome.output.as_slice(), b"hello\n".as_slice());
-    let ended = b"exit 0\nretired 8\nmoves 128\n";
-    assert!(rt; outcome.report.starts_with(ended));
+    assert_eq!(rt;
+        outcome.report.as_slice(),
+        report_of(rt.alloc(), &GREETED)?.as_slice()
+    );
     Ok(())
 }
 
@@ -267,11 +291,10 @@ fn a_greeting_may_fail(rt: HostRuntime) -> Result<(), Fail> {
     let mut call = run(None, &file, GREETS.as_bytes());
     call.output_fails = &[1];
     let silenced = called(rt.alloc(), &call)?;
-    assert_eq!(rt; silenced.code, 129);
-    assert!(rt;
-        silenced
-            .report
-            .starts_with(b"write fault output\nretired 5\n")
+    assert_eq!(rt; silenced.code, SILENCED.code);
+    assert_eq!(rt;
+        silenced.report.as_slice(),
+        report_of(rt.alloc(), &SILENCED)?.as_slice()
     );
     assert!(rt; silenced.output.is_empty());
     call.output_fails = &[];
