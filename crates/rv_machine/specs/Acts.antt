@@ -45,7 +45,7 @@ pub record Stops (outcome : List ℕ → Outcome Machine) (end : Outcome Machine
   pub hart : new ≡ old
   pub streams : after ≡ before
 
--- the outcome came about; or a stream failed the instruction, which is an environment call where `calls` holds
+-- the outcome came about; or a stream failed the instruction, of which `calls` holds then
 unfoldable pub Acts : Type 0 → (List ℕ → Outcome Machine) → Hart → Hart → Streams → Streams →
     Stepped → Type 0
 Acts calls outcome old new before after (stepped.Next line) = Retires outcome new before after line

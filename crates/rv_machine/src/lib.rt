@@ -1,4 +1,4 @@
-//! The sequential machine: RV32I, one instruction at a time.
+//! The sequential machine: RV32I or RV32IM, one instruction at a time, and its environment calls.
 #![tactic(auto)]
 
 mod machine;

@@ -1,6 +1,6 @@
 #![tactic(auto, unfolding(crate::specs::Step::retire, crate::specs::Step::compute, crate::specs::Step::access_memory, crate::specs::Step::pass, crate::specs::Step::synchronize))]
 
-ghost use Rattle.std.specs.Prelude.{◌≡◌, ◌+◌, ◌<◌, ◌^◌, Some, length, slice_index, true, IsTrue};
+ghost use Rattle.std.specs.Prelude.{◌≡◌, ◌+◌, ◌<◌, ◌^◌, Some, length, slice_index, true, false, IsTrue};
 ghost use Rattle.cf_io.specs.Causes.{HasCause};
 ghost use Rattle.mem_regions.specs.Access.{IsWidth, bounds_of, permits_at};
 ghost use Rattle.mem_regions.specs.Ranges.{load_at};
@@ -12,8 +12,8 @@ ghost use Rattle.rv_inst.specs.Operands.{class_of as class_name};
 ghost use Rattle.rv_mul.specs.Values.{computes};
 ghost use Rattle.rv_machine.specs.Machine.{start_hart};
 ghost use Rattle.rv_machine.specs.Streams.{streams_of};
-ghost use Rattle.rv_machine.specs.Acts.{Acts, Does, Steps, Counts};
-ghost use Rattle.rv_machine.specs.Call.{call};
+ghost use Rattle.rv_machine.specs.Acts.{Acts, Does, Steps, Counts, CallsHere};
+ghost use Rattle.rv_machine.specs.Call.{call, asks_input, asks_output};
 ghost use Rattle.rv_machine.specs.Faults.{input_stepped, output_stepped};
 ghost use Rattle.rv_machine.specs.Step.{with_register, retire as retirement, first_value, second_value, compute as computation, loads, stores, access_memory as memory_access, pass as passing, synchronize as synchronization, environment, serial as serial_step, execute as execution, interpret as interpretation, breaks as is_breaking, synchronizes as is_synchronizing};
 
@@ -293,6 +293,8 @@ impl Machine {
         ensures count { Counts self.old.retired self.new.retired result }
         ensures input { HasCause (S.faults input.old) (S.faults input.new) (input_stepped result) }
         ensures output { HasCause (K.faults output.old) (K.faults output.new) (output_stepped result) }
+        ensures input_asked { asks_input self.old.regs self.old.mem ≡ false → input.new ≡ input.old }
+        ensures output_asked { asks_output self.old.regs self.old.mem ≡ false → output.new ≡ output.old }
     {
         match serve(&self.regs, &mut self.mem, input, output) {
             Served::Value(value) => self.retire(word, self.pc.wrapping_add(4), 10, value),
@@ -325,6 +327,8 @@ impl Machine {
         ensures count { Counts self.old.retired self.new.retired result }
         ensures input { HasCause (S.faults input.old) (S.faults input.new) (input_stepped result) }
         ensures output { HasCause (K.faults output.old) (K.faults output.new) (output_stepped result) }
+        ensures input_asked { (i ≡ Instr.Ecall → asks_input self.old.regs self.old.mem ≡ false) → input.new ≡ input.old }
+        ensures output_asked { (i ≡ Instr.Ecall → asks_output self.old.regs self.old.mem ≡ false) → output.new ≡ output.old }
     {
         if synchronizes(i) {
             self.synchronize(word)
@@ -351,6 +355,8 @@ impl Machine {
         ensures count { Counts self.old.retired self.new.retired result }
         ensures input { HasCause (S.faults input.old) (S.faults input.new) (input_stepped result) }
         ensures output { HasCause (K.faults output.old) (K.faults output.new) (output_stepped result) }
+        ensures input_asked { (i ≡ Instr.Ecall → asks_input self.old.regs self.old.mem ≡ false) → input.new ≡ input.old }
+        ensures output_asked { (i ≡ Instr.Ecall → asks_output self.old.regs self.old.mem ≡ false) → output.new ≡ output.old }
     {
         // An arm for each instruction: what is inlined there is made for it.
         match i {
@@ -387,6 +393,8 @@ impl Machine {
         ensures count { Counts self.old.retired self.new.retired result }
         ensures input { HasCause (S.faults input.old) (S.faults input.new) (input_stepped result) }
         ensures output { HasCause (K.faults output.old) (K.faults output.new) (output_stepped result) }
+        ensures input_asked { (decoded_as isa word ≡ Some Instr.Ecall → asks_input self.old.regs self.old.mem ≡ false) → input.new ≡ input.old }
+        ensures output_asked { (decoded_as isa word ≡ Some Instr.Ecall → asks_output self.old.regs self.old.mem ≡ false) → output.new ≡ output.old }
     {
         match decode_as(isa, word) {
             Some(i) => self.execute(word, i, input, output),
@@ -394,8 +402,17 @@ impl Machine {
         }
     }
 
+    /// Makes one step of a machine that has this instruction set: the rest is as in [`Machine::step`].
+    ///
+    /// Who steps at one place of a program, whatever the instruction set, calls this one: the whole step is then
+    /// compiled into that place.
     #[inline(always)]
-    fn step_as<S: Source, K: Sink>(&mut self, isa: Isa, input: &mut S, output: &mut K) -> Stepped
+    pub fn step_as<S: Source, K: Sink>(
+        &mut self,
+        isa: Isa,
+        input: &mut S,
+        output: &mut K,
+    ) -> Stepped
         requires { self.old.retired + 1 < 2 ^ 64 }
         ensures steps { Steps isa self.old self.new
             (streams_of (S.left input.old) (K.written output.old))
@@ -403,6 +420,8 @@ impl Machine {
         ensures count { Counts self.old.retired self.new.retired result }
         ensures input { HasCause (S.faults input.old) (S.faults input.new) (input_stepped result) }
         ensures output { HasCause (K.faults output.old) (K.faults output.new) (output_stepped result) }
+        ensures input_asked { (CallsHere isa self.old → asks_input self.old.regs self.old.mem ≡ false) → input.new ≡ input.old }
+        ensures output_asked { (CallsHere isa self.old → asks_output self.old.regs self.old.mem ≡ false) → output.new ≡ output.old }
     {
         let pc = self.pc();
         if pc % 4 != 0 {
@@ -418,6 +437,8 @@ impl Machine {
     ///
     /// After `Next` the machine is the one after the instruction; after a trap, an exit or a fault its program
     /// counter, registers and count are what they were. A fault comes only of an environment call, as [`serve`] tells it.
+    /// Where the instruction is no environment call that asks the input, the input is left as it was, whatever it tells of
+    /// itself; the output likewise.
     #[inline(always)]
     pub fn step<S: Source, K: Sink>(&mut self, input: &mut S, output: &mut K) -> Stepped
         requires { self.old.retired + 1 < 2 ^ 64 }
@@ -427,6 +448,8 @@ impl Machine {
         ensures count { Counts self.old.retired self.new.retired result }
         ensures input { HasCause (S.faults input.old) (S.faults input.new) (input_stepped result) }
         ensures output { HasCause (K.faults output.old) (K.faults output.new) (output_stepped result) }
+        ensures input_asked { (CallsHere Isa.Rv32i self.old → asks_input self.old.regs self.old.mem ≡ false) → input.new ≡ input.old }
+        ensures output_asked { (CallsHere Isa.Rv32i self.old → asks_output self.old.regs self.old.mem ≡ false) → output.new ≡ output.old }
     {
         self.step_as(Isa::Rv32i, input, output)
     }
@@ -441,6 +464,8 @@ impl Machine {
         ensures count { Counts self.old.retired self.new.retired result }
         ensures input { HasCause (S.faults input.old) (S.faults input.new) (input_stepped result) }
         ensures output { HasCause (K.faults output.old) (K.faults output.new) (output_stepped result) }
+        ensures input_asked { (CallsHere Isa.Rv32im self.old → asks_input self.old.regs self.old.mem ≡ false) → input.new ≡ input.old }
+        ensures output_asked { (CallsHere Isa.Rv32im self.old → asks_output self.old.regs self.old.mem ≡ false) → output.new ≡ output.old }
     {
         self.step_as(Isa::Rv32im, input, output)
     }
