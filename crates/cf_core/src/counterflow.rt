@@ -152,10 +152,11 @@ impl Core {
         self.processor.ends.reg(r)
     }
 
-    /// The 32 registers.
+    /// The 32 registers, of which x0 is always zero.
     #[inline(always)]
     pub fn regs(&self) -> &[u32; 32]
-        ensures { result.now ≡ self.now.state.regs }
+        ensures registers { result.now ≡ self.now.state.regs }
+        ensures zero { slice_index result.now 0 ≡ 0 }
     {
         self.processor.ends.regs()
     }

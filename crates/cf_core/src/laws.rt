@@ -50,8 +50,8 @@ pub fn t4_1()
         IsSoundAfter plan x (run plan (start plan x) moves) }
 {}
 
-/// What is seen of a run is what the sequential machine does: retired instructions, registers and ending at each moment,
-/// output and memory one call or one access ahead.
+/// What is seen of a run is what the sequential machine does: retired instructions, registers and ending at each moment;
+/// the output, at most one call ahead; and the memory, ahead by the accesses that have passed the port.
 pub fn t4_2()
     ensures { (plan : Plan) (x : Sequential) (moves : List Move) → IsAccepted plan → length x.hart.regs ≡ 32 →
         IsRun plan (start plan x) moves →

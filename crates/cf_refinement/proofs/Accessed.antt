@@ -77,7 +77,7 @@ access_fits isa i p above below w a la wa d f e n h =
       walk-append (past isa) above (Up i p ∷ below) (record w { answer = Some a }) ∙ ap (λ (v : Dock). walk (past isa) (Up i p ∷ below) v) top ∙ ap (λ (v : Dock). walk (past isa) below v) step ∙ walk_waiting isa below (past isa (Up i p) u) m wa none ∙ ap (λ (v : Dock). record v { mem = m }) (sym (walk-append (past isa) above (Up i p ∷ below) w)),
     )
 
--- L2: a permitted access
+-- the second law: a permitted access
 memory_step : (o : Option End) (n m : Machine) → o ≡ None → (behind (on o (Goes n) Stops) m) ≡ n
 memory_step o n m e = rw e
 

@@ -1,4 +1,4 @@
--- What the proofs use of single instructions. Nothing else opens the instruction set.
+-- What the proofs about moves use of single instructions: they open the instruction set nowhere else.
 use Rattle.std.proofs.Common.{◌≡◌, ◌≢◌, ℕ, ◌-◌, ◌%◌, ◌<◌, List, [], Option, Some, None, Bool, true, false, Result, Ok, Err, refl, sym, ap, ◌∙◌, arith, length, length-set, append-nil}
 use Rattle.std.proofs.lemmas.Bool.Decides.{nat_tests}
 use Rattle.std.proofs.lemmas.List.{get_or-set_other}

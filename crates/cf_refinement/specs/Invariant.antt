@@ -42,6 +42,7 @@ pub record IsOver (plan : Plan) (s : State) (rest out : List ℕ) (x : Machine) 
   pub unserved : served_count plan s ≡ 0
   pub unported : ported_count plan s ≡ 0
 
+-- sound while the program goes on, and over once it has ended
 abbrev pub HoldsAt : Plan → State → List ℕ → List ℕ → Machine → Option End → Type 0
 HoldsAt plan s rest out x None = Sound plan s rest out x
 HoldsAt plan s rest out x (Some e) = IsOver plan s rest out x e

@@ -51,6 +51,7 @@ abbrev pub operations : List (Option Op) → List Op
 operations [] = []
 operations (o ∷ ops) = operations ops ++ bare o
 
+-- the sidings hold what these items have launched
 pub record IsMoored (plan : Plan) (s : State) (items : List Item) : Type 0 where
   pub flown : (k : ℕ) → operations (siding_at s k) ≡ flown plan k items
   pub front : (k : ℕ) → Front (siding_at s k)

@@ -44,6 +44,7 @@ abbrev pub Answers : Option Binding → List ℕ → ℕ → Type 0
 Answers None regs a = Unit {0}
 Answers (Some b) regs a = slice_index regs b.reg ≡ a
 
+-- what holds of a passenger at the memory port
 pub record IsDocked (isa : Isa) (p : Passenger) (x : Machine) (risky : Bool) (answer : Option ℕ) : Type 0 where
   pub live : is_memory (kind p) ≡ true → (p.launched || p.recovered) ≡ true → p.dead ≡ false
   pub order : is_memory (kind p) ≡ true → (p.launched || p.recovered) ≡ true → risky ≡ false

@@ -29,6 +29,7 @@ abbrev pub Blank : Option Binding → Type 0
 Blank None = Unit {0}
 Blank (Some b) = b.value ≡ None
 
+-- what holds of a passenger in stage i
 pub record Stands (plan : Plan) (i : ℕ) (p : Passenger) : Type 0 where
   pub low : p.dead ≡ false → p.done ≡ false → p.launched ≡ false → Low plan (kind p) i
   pub out : p.launched ≡ true → p.recovered ≡ false → Between plan (kind p) i

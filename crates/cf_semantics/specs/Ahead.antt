@@ -42,6 +42,7 @@ pub record Tally : Type 0 where
   pub ported : ℕ
   pub answer : Option ℕ
 
+-- one item further down
 unfoldable pub counted : Item → Tally → Tally
 counted (Up i p) t = record {
   live = t.live + one (not p.dead);
@@ -50,6 +51,7 @@ counted (Up i p) t = record {
 }
 counted (Down i k) t = t
 
+-- at the top
 abbrev pub uncounted : Plan → State → Tally
 uncounted plan s = record { live = 0; ported = 0; answer = answer_there plan s }
 

@@ -40,7 +40,7 @@ of_passenger c f = on c.passenger (Some NoPassenger) f
 abbrev pub is_full : Cell → Bool
 is_full c = is_some c.passenger && is_some c.packet && not c.met
 
--- a passenger must not climb out of the stage: its operation, launched before, is recovered here, or it is live and this is the last stage that can execute it or launch its operation
+-- a passenger must not climb out of the stage: its operation, launched before, is recovered here, or it is live, neither executed nor launched, and this is the last stage that can execute it or launch its operation
 abbrev pub stops_at : Plan → Passenger → ℕ → Bool
 stops_at plan p i =
     (p.launched && not p.recovered && recovers plan (kind p) i)

@@ -50,6 +50,7 @@ ActsFor plan s Serve i p = i ≡ plan.stages
 ActsFor plan s Access i p = (is_under_way p ≡ true) × (as_launched (last_op (siding_at s (port plan))) ≡ Some (operation p))
 ActsFor plan s mv i p = ⊥
 
+-- the move acts for a passenger of the column that is on the sequential path
 pub record Acted (plan : Plan) (s : State) (x : Machine) (mv : Move) : Type 0 where
   pub above : List Item
   pub below : List Item

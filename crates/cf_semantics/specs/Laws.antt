@@ -1,4 +1,4 @@
--- The four laws of single instructions on which the theory rests: the step of the sequential machine is what the moves make of a passenger. Whoever adds an instruction proves these for it.
+-- The four laws of single instructions: the step of the sequential machine is what the moves make of a passenger. The theory rests on them and on a few small facts, as that registers are below 32. Whoever adds an instruction proves these for it.
 use Rattle.std.specs.Prelude.{◌≡◌, ◌≢◌, ℕ, List, ◌++◌, Option, Some, None, Bool, true, ◌||◌, not, slice_index}
 use Rattle.mem_regions.specs.Memory.{Memory}
 use Rattle.mem_regions.specs.Access.{bounds_of}

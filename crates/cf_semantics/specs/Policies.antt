@@ -39,18 +39,20 @@ all_moves plan =
 unfoldable pub candidates : Plan → State → List Move
 candidates plan s = filter (λ mv. not (is_some (bar plan s mv))) (all_moves plan)
 
--- issue is held back, unless nothing else is there
+-- those that are no Issue
 abbrev pub other_moves : List Move → List Move
 other_moves moves = filter (λ mv. not (is_issue mv)) moves
 
+-- issue is held back, unless nothing else is there
 unfoldable pub held_back : List Move → List Move
 held_back moves = if nat_lt 0 (length (other_moves moves)) then other_moves moves else moves
 
--- the count of Issue moves since the start, the last retirement, or the last drained state, whichever is latest
+-- an instruction retired
 abbrev pub is_retirement : Event → Bool
 is_retirement (event.Retired line) = true
 is_retirement _ = false
 
+-- the count of Issue moves since the start, the last retirement, or the last drained state, whichever is latest, after one more move
 unfoldable pub paced : ℕ → Move → Event → Bool → ℕ
 paced count mv e drained = if is_retirement e || drained then 0 else (if is_issue mv then count + 1 else count)
 
