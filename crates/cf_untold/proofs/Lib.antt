@@ -1,0 +1,9 @@
+pub mod Clear
+pub mod ClearChanged
+pub mod ClearEnds
+pub mod ClearSend
+pub mod ClearMoves
+pub mod Rechosen
+pub mod Goes
+pub mod Theorems
+pub mod Bounded

@@ -1,0 +1,206 @@
+-- Where a call is to be served, the state is sound whatever the input has left: nothing in the processor depends on it yet.
+use Rattle.std.proofs.Common.{◌≡◌, ℕ, List, [], ◌∷◌, Option, Some, None, Bool, true, false, not, refl, sym, ap, ◌∙◌, arith}
+use Rattle.std.specs.Prelude.{slice_index}
+use Rattle.rv_inst.specs.declared.classes.Class.TheVariants.{Serial}
+use Rattle.rv_inst.specs.declared.isa.Isa.{Isa}
+use Rattle.rv_machine.specs.Machine.{Machine}
+use Rattle.cf_layout.specs.Layout.{Plan}
+use Rattle.cf_bind.specs.declared.binding.Binding.{Binding}
+use Rattle.cf_bind.specs.declared.moves.Move.TheVariants.{Serve}
+use Rattle.cf_bind.specs.declared.packet.Fetch.{Fetch}
+use Rattle.cf_bind.specs.declared.packet.Packet.{Packet}
+use Rattle.cf_bind.specs.declared.packet.Packet.TheVariants.{Value, Turn, Halt}
+use Rattle.cf_bind.specs.declared.passenger.Passenger.{Passenger}
+use Rattle.cf_semantics.specs.Bars.{bar}
+use Rattle.cf_semantics.specs.Column.{Down, Item, Up}
+use Rattle.cf_semantics.specs.Fetches.{code_of}
+use Rattle.cf_semantics.specs.Layouts.{isa_of}
+use Rattle.cf_semantics.specs.Options.{When}
+use Rattle.cf_semantics.specs.Passengers.{kind}
+use Rattle.cf_semantics.specs.State.{State}
+use Rattle.cf_semantics.specs.Walks.{Everywhere, walk}
+use Rattle.cf_semantics.specs.Ahead as ahead
+use Rattle.cf_semantics.specs.Path as trail
+use Rattle.cf_refinement.specs.Invariant.{Sound}
+use Rattle.cf_refinement.specs.Port as dock
+use Rattle.cf_refinement.specs.Stands.{Blank}
+use Rattle.cf_refinement.specs.Sure as sure
+use Rattle.cf_refinement.proofs.Kept.{bar_row}
+use Rattle.cf_refinement.proofs.Quiet.{Unchanged}
+use Rattle.cf_refinement.proofs.Serve.{Idle, Scene, Serves, scene, serve_ready}
+use Rattle.cf_refinement.proofs.Steps.{sure_keeps}
+use Rattle.cf_untold.specs.Clear as clear
+use Rattle.cf_untold.specs.Clear.{IsClear, none_awaited}
+
+-- the machine, with this left of its input
+abbrev pub over : List ℕ → Machine → Machine
+over rest x = record x { rest = rest }
+
+-- what holds of the two walks below the call: they differ in nothing but registers that its answer gives
+record Alike (awaited : ℕ → Bool) (w v : trail.Walk) : Type 0 where
+  barred : v.barred ≡ w.barred
+  goto : v.goto ≡ w.goto
+  settled : v.settled ≡ w.settled
+  trapped : v.trapped ≡ w.trapped
+  regs : (r : ℕ) → awaited r ≡ false → slice_index v.machine.hart.regs r ≡ slice_index w.machine.hart.regs r
+
+-- a packet fits one where it fits the other
+packet_alike : (isa : Isa) (i : ℕ) (k : Packet) (awaited : ℕ → Bool) (w v : trail.Walk) → Alike awaited w v → clear.Fits (Down i k) awaited → sure.Fits isa (Down i k) w → sure.Fits isa (Down i k) v
+unfolding sure.Fits clear.Fits
+packet_alike isa i (Value r n) awaited w v a c h =
+    rw a.barred (go w.barred h)
+  where
+    go : (b : Bool) → When (not b) (n ≡ slice_index w.machine.hart.regs r) → When (not b) (n ≡ slice_index v.machine.hart.regs r)
+    go true f = tt
+    go false f = f ∙ sym (a.regs r c)
+packet_alike isa i (Turn pc) awaited w v a c h = rw (a.barred, a.goto, a.settled) h
+packet_alike isa i Halt awaited w v a c h = rw (a.barred, a.goto, a.trapped) h
+
+-- and is passed alike
+passed_alike : (isa : Isa) (i : ℕ) (k : Packet) (awaited : ℕ → Bool) (w v : trail.Walk) → Alike awaited w v → Alike (clear.past (Down i k) awaited) (trail.past isa (Down i k) w) (trail.past isa (Down i k) v)
+unfolding trail.past clear.past
+passed_alike isa i (Value r n) awaited w v a = record { barred = a.barred; goto = a.goto; settled = a.settled; trapped = a.trapped; regs = a.regs }
+passed_alike isa i (Turn pc) awaited w v a = record { barred = refl; goto = a.goto; settled = a.settled; trapped = a.trapped; regs = a.regs }
+passed_alike isa i Halt awaited w v a = record { barred = refl; goto = a.goto; settled = a.settled; trapped = a.trapped; regs = a.regs }
+
+-- so are all packets below the call
+fit_alike : (isa : Isa) (xs : List Item) (awaited : ℕ → Bool) (w v : trail.Walk) → Idle xs → Alike awaited w v → Everywhere clear.Fits clear.past xs awaited → Everywhere (sure.Fits isa) (trail.past isa) xs w → Everywhere (sure.Fits isa) (trail.past isa) xs v
+fit_alike isa [] awaited w v q a c h = tt
+fit_alike isa (Up i p ∷ xs) awaited w v q a c h = absurd q
+fit_alike isa (Down i k ∷ xs) awaited w v q a c h =
+    (packet_alike isa i k awaited w v a c.0 h.0, fit_alike isa xs (clear.past (Down i k) awaited) (trail.past isa (Down i k) w) (trail.past isa (Down i k) v) q (passed_alike isa i k awaited w v a) c.1 h.1)
+
+walk_alike : (isa : Isa) (xs : List Item) (awaited : ℕ → Bool) (w v : trail.Walk) → Idle xs → Alike awaited w v → Alike (walk clear.past xs awaited) (walk (trail.past isa) xs w) (walk (trail.past isa) xs v)
+walk_alike isa [] awaited w v q a = a
+walk_alike isa (Up i p ∷ xs) awaited w v q a = absurd q
+walk_alike isa (Down i k ∷ xs) awaited w v q a = walk_alike isa xs (clear.past (Down i k) awaited) (trail.past isa (Down i k) w) (trail.past isa (Down i k) v) q (passed_alike isa i k awaited w v a)
+
+-- fetch and what is kept at the bottom fit one where they fit the other
+ends_alike : (f : Fetch) (awaited : ℕ → Bool) (w v : trail.Walk) → Alike awaited w v → sure.Ends w f → sure.Ends v f
+ends_alike f awaited w v a h = rw (a.barred, a.goto) h
+
+keeps_alike : (cache : List (Option ℕ)) (awaited : ℕ → Bool) (w v : trail.Walk) → Alike awaited w v → clear.Ends awaited cache → sure.Keeps w cache → sure.Keeps v cache
+keeps_alike cache awaited w v a c h = rw a.barred (go w.barred h)
+  where
+    go : (b : Bool) → When (not b) (sure.Holds cache w.machine.hart.regs) → When (not b) (sure.Holds cache v.machine.hart.regs)
+    go true f = tt
+    go false f = λ r n e. f r n e ∙ sym (a.regs r (c r n e))
+
+-- a destination without a value agrees with all registers
+blank_agrees : (o : Option Binding) (regs : List ℕ) → Blank o → sure.Agrees o regs
+blank_agrees None regs e = tt
+blank_agrees (Some b) regs e = λ v f. absurd (let z = sym e ∙ f in cc)
+
+-- the call itself: nothing is claimed of its answer yet
+call_alike : (isa : Isa) (p : Passenger) (s : State) (x : Machine) (rest : List ℕ) → p.done ≡ false → p.ending ≡ None → Blank p.dst → sure.SureAt isa p (trail.top s x) → sure.SureAt isa p (trail.top s (over rest x))
+unfolding sure.SureAt
+call_alike isa p s x rest undone unended blank h = (
+  record {
+    path = h.0.path;
+    reads = h.0.reads;
+    shape = h.0.shape;
+    value1 = h.0.value1;
+    value2 = h.0.value2;
+    value3 = blank_agrees p.dst _ blank;
+    goes = λ d e. absurd (let z = sym undone ∙ d in cc);
+    next = λ d e. absurd (let z = sym undone ∙ d in cc);
+    known = λ d e. absurd (let z = sym undone ∙ d in cc);
+    ends = λ e f. absurd (let z = sym unended ∙ f in cc);
+    unended = h.0.unended;
+    unowing = h.0.unowing;
+    owed = h.0.owed;
+  },
+  h.1,
+)
+
+whenever : {A : Type 0} → (b : Bool) → A → When b A
+whenever true a = a
+whenever false a = tt
+
+call_fits : (isa : Isa) (n : ℕ) (p : Passenger) (s : State) (x : Machine) (rest : List ℕ) → sure.SureAt isa p (trail.top s (over rest x)) → sure.Fits isa (Up n p) (trail.top s x) → sure.Fits isa (Up n p) (trail.top s (over rest x))
+unfolding sure.Fits
+call_fits isa n p s x rest certain h = (h.0, whenever (trail.is_sure p (trail.top s (over rest x))) certain)
+
+-- below the call the walks differ in its answer alone
+call_passed : (isa : Isa) (n : ℕ) (p : Passenger) (s : State) (x : Machine) (rest : List ℕ) → p.dead ≡ false → p.done ≡ false → kind p ≡ Serial → sure.SureAt isa p (trail.top s x) → sure.SureAt isa p (trail.top s (over rest x))
+    → Alike (clear.past (Up n p) none_awaited) (trail.past isa (Up n p) (trail.top s x)) (trail.past isa (Up n p) (trail.top s (over rest x)))
+unfolding sure.SureAt trail.past clear.past
+call_passed isa n p s x rest live undone serial h k = rw live (record {
+  barred = refl;
+  goto = refl;
+  settled = refl;
+  trapped = refl;
+  regs = λ r e.
+      let z : trail.has_reg p.dst r ≡ false = grind arith in
+      sure_keeps isa p (over rest x) (Some x.hart.pc) k.0 r z ∙ sym (sure_keeps isa p x (Some x.hart.pc) h.0 r z);
+})
+
+-- the port: below the call nothing touches memory, input or output, and it is not answered
+past_idle : (isa : Isa) (i : ℕ) (k : Packet) (w : dock.Dock) → Unchanged w (dock.past isa (Down i k) w)
+unfolding dock.past
+past_idle isa i k w = record { mem = refl; code = refl; rest = refl; out = refl }
+
+walk_idle : (isa : Isa) (xs : List Item) (w : dock.Dock) → Idle xs → Unchanged w (walk (dock.past isa) xs w)
+walk_idle isa [] w h = record { mem = refl; code = refl; rest = refl; out = refl }
+walk_idle isa (Up i p ∷ xs) w h = absurd h
+walk_idle isa (Down i k ∷ xs) w h =
+    let a = past_idle isa i k w in
+    let b = walk_idle isa xs (dock.past isa (Down i k) w) h in
+    record { mem = b.mem ∙ a.mem; code = b.code ∙ a.code; rest = b.rest ∙ a.rest; out = b.out ∙ a.out }
+
+packet_docked : (isa : Isa) (i : ℕ) (k : Packet) (w : dock.Dock) → dock.Fits isa (Down i k) w
+unfolding dock.Fits
+packet_docked isa i k w = tt
+
+fit_idle : (isa : Isa) (xs : List Item) (w : dock.Dock) → Idle xs → Everywhere (dock.Fits isa) (dock.past isa) xs w
+fit_idle isa [] w h = tt
+fit_idle isa (Up i p ∷ xs) w h = absurd h
+fit_idle isa (Down i k ∷ xs) w h = (packet_docked isa i k w, fit_idle isa xs (dock.past isa (Down i k) w) h)
+
+call_docked : (isa : Isa) (n : ℕ) (p : Passenger) (w : dock.Dock) → kind p ≡ Serial → w.risky ≡ false → dock.Fits isa (Up n p) w
+unfolding dock.Fits dock.DockedAt
+call_docked isa n p w k r = record { live = λ a b. absurd (grind arith); order = λ a b. absurd (grind arith); served = λ a. r; permitted = λ a b. absurd (grind arith); answered = λ a. absurd (grind arith) }
+
+not_answered : (isa : Isa) (n : ℕ) (p : Passenger) (w : dock.Dock) → kind p ≡ Serial → ahead.has_served p ≡ false → Unchanged w (dock.past isa (Up n p) w)
+unfolding dock.past
+not_answered isa n p w k e =
+    let z : ahead.has_ported p w.answer ≡ false = grind arith in
+    record { mem = rw z refl; code = rw e refl; rest = rw e refl; out = rw e refl }
+
+-- whatever the input has left
+pub rechosen : {rest out : List ℕ} (l : Plan) (s : State) (x : Machine) (other : List ℕ) → bar l s Serve ≡ None → Sound l s rest out x → IsClear s → Sound l s other out (over other x)
+rechosen {rest} {out} l s x other free h c =
+    let isa : Isa = isa_of l in
+    let n : ℕ = l.stages in
+    let r : Serves l s = serve_ready l s (bar_row l s Serve free) in
+    let p : Passenger = r.who in
+    let e : Scene l s rest out x r = scene l s x r h in
+    let y : Machine = over other x in
+    let blank : Blank p.dst = e.stands.blank r.undone in
+    let unended : p.ending ≡ None = e.stands.unended r.undone in
+    let fit = rw e.was at h.path_fit in
+    let gives = rw e.was at c.fit in
+    let called = call_alike isa p s x other r.undone unended blank e.certain in
+    let alike = call_passed isa n p s x other r.live r.undone r.serial e.certain called in
+    let under = walk_alike isa e.below (clear.past (Up n p) none_awaited) (trail.past isa (Up n p) (trail.top s x)) (trail.past isa (Up n p) (trail.top s y)) e.idle alike in
+    let same = not_answered isa n p (dock.top l s y) r.serial e.unserved in
+    let quiet = walk_idle isa e.below (dock.past isa (Up n p) (dock.top l s y)) e.idle in
+    record {
+      regs = h.regs;
+      wide = h.wide;
+      size = h.size;
+      path_fit = rw e.was (call_fits isa n p s x other called fit.0, fit_alike isa e.below (clear.past (Up n p) none_awaited) (trail.past isa (Up n p) (trail.top s x)) (trail.past isa (Up n p) (trail.top s y)) e.idle alike gives.1 fit.1);
+      path_ends = rw e.was (ends_alike s.fetch _ _ _ under (rw e.was at h.path_ends));
+      cache = rw e.was (keeps_alike s.cache _ _ _ under (rw e.was at c.ends) (rw e.was at h.cache));
+      lone_fit = h.lone_fit;
+      lone_ends = h.lone_ends;
+      stands = h.stands;
+      port_fit = rw e.was (call_docked isa n p (dock.top l s y) r.serial refl, fit_idle isa e.below (dock.past isa (Up n p) (dock.top l s y)) e.idle);
+      port_ends = rw e.was (record {
+        is_mem = e.mem ∙ sym same.mem ∙ sym quiet.mem;
+        is_code = ap code_of e.mem ∙ sym same.code ∙ sym quiet.code;
+        is_rest = sym same.rest ∙ sym quiet.rest;
+        is_out = e.output ∙ sym same.out ∙ sym quiet.out;
+      });
+      moored = h.moored;
+    }

@@ -1,0 +1,41 @@
+-- Runs over an input that does not tell what it has left: each move, and each step of the sequential machine, finds some of it ("Counterflow Pipeline Processor Architecture", 1994; the input stands outside the processor).
+use Rattle.std.specs.Prelude.{◌≡◌, ℕ, zero, suc, List, [], ◌∷◌, ◌++◌, None}
+use Rattle.rv_inst.specs.declared.isa.Isa.{Isa}
+use Rattle.rv_machine.specs.After.{SameButInput}
+use Rattle.rv_machine.specs.Machine.{Machine}
+use Rattle.cf_layout.specs.Layout.{Plan}
+use Rattle.cf_bind.specs.declared.moves.Move.{Move}
+use Rattle.cf_semantics.specs.Bars.{bar}
+use Rattle.cf_semantics.specs.Instructions.{Goes, step_here}
+use Rattle.cf_semantics.specs.Layouts.{isa_of}
+use Rattle.cf_semantics.specs.Lines.{Line, line_at, retires}
+use Rattle.cf_semantics.specs.Moves.{next}
+use Rattle.cf_semantics.specs.Refines.{Refines, gained}
+use Rattle.cf_semantics.specs.State.{Moment}
+
+-- the moment with this left of the input
+abbrev pub finding : List ℕ → Moment → Moment
+finding rest m = record m { rest = rest }
+
+-- the moves lead from one moment to another, each allowed where it is made, and each finding some input; and these instructions retire
+unfoldable pub LeadsTo : Plan → Moment → List Move → Moment → List Line → Type 0
+LeadsTo plan m [] last written = (last ≡ m) × (written ≡ [])
+LeadsTo plan m (mv ∷ moves) last written =
+    (rest : List ℕ) × (later : List Line) × (bar plan m.state mv ≡ None)
+    × LeadsTo plan (next plan (finding rest m) mv) moves last later
+    × (written ≡ retires plan m.state mv ++ later)
+
+-- n steps, each of which finds some input, lead from one machine to another; and these instructions retire
+unfoldable pub GoesTo : Isa → Machine → ℕ → Machine → List Line → Type 0
+GoesTo isa start zero x written = SameButInput start x × (written ≡ [])
+GoesTo isa start (suc n) x written =
+    (before : Machine) × (next : Machine) × (earlier : List Line)
+    × GoesTo isa start n before earlier × (step_here isa before ≡ Goes next) × SameButInput next x
+    × (written ≡ earlier ++ line_at isa before ∷ [])
+
+-- what is seen of the moment is what the sequential machine does: as many steps as have retired lead to a machine, with these lines; and with some input left it is what that machine does next
+pub record RefinesAnew (plan : Plan) (start : Machine) (written : List Line) (m : Moment) : Type 0 where
+  pub at : Machine
+  pub goes : GoesTo (isa_of plan) start (gained start m.state) at written
+  pub rest : List ℕ
+  pub refines : Refines plan at [] (finding rest m)

@@ -1,0 +1,3 @@
+pub mod Anew
+pub mod Clear
+pub mod Invariant
