@@ -1,5 +1,5 @@
 -- What was written where the output failed is a front of what the sequential machine writes with its next step.
-use Rattle.std.proofs.Common.{◌≡◌, ℕ, zero, suc, ◌+◌, List, [], ◌∷◌, ◌++◌, Option, Some, None, true, false, refl, sym, ap, subst, ◌∙◌, length, take, drop, append_assoc, arith}
+use Rattle.std.proofs.Common.{◌≡◌, ℕ, zero, suc, ◌+◌, List, [], ◌∷◌, ◌++◌, Option, Some, None, true, false, refl, sym, ap, subst, ◌∙◌, take, drop, append_assoc, arith}
 use Rattle.std.specs.Prelude.{IsTrue}
 use Rattle.std.proofs.lemmas.List.{take-append-drop}
 use Rattle.mem_regions.specs.Memory.{Memory}
@@ -8,13 +8,12 @@ use Rattle.rv_inst.specs.declared.isa.Isa.{Isa}
 use Rattle.rv_inst.specs.declared.instruction.Instr.{Instr}
 use Rattle.rv_inst.specs.declared.instruction.Instr.TheVariants.{Ecall}
 use Rattle.rv_machine.specs.After.{after}
-use Rattle.rv_machine.specs.Call.{Called, Answer, call, write, asks_output, second_argument, third_argument}
+use Rattle.rv_machine.specs.Call.{Answer, call, write, asks_output, second_argument, third_argument}
 use Rattle.rv_machine.specs.Call as called
 use Rattle.rv_machine.specs.Machine.{Machine}
 use Rattle.cf_layout.specs.Layout.{Plan}
 use Rattle.cf_layout.specs.Accepted.{IsAccepted}
 use Rattle.cf_bind.specs.declared.cell.Cell.{Cell}
-use Rattle.cf_bind.specs.declared.moves.Move.{Move}
 use Rattle.cf_bind.specs.declared.moves.Move.TheVariants.{Serve}
 use Rattle.cf_bind.specs.declared.passenger.Passenger.{Passenger}
 use Rattle.cf_semantics.specs.Ahead.{served_count, has_served, one}
@@ -25,25 +24,18 @@ use Rattle.cf_semantics.specs.Moves.{answered, next, served, with_passenger}
 use Rattle.cf_semantics.specs.Options.{on, Where}
 use Rattle.cf_semantics.specs.Passengers.{instruction, kind}
 use Rattle.cf_semantics.specs.Refines.{Spoke, gained}
-use Rattle.cf_semantics.specs.Runs.{IsRun, run, start}
 use Rattle.cf_semantics.specs.State.{Moment, cell_at, put_cell}
 use Rattle.cf_refinement.specs.Invariant.{HoldsAfter, HoldsAt, Sound}
 use Rattle.cf_refinement.specs.Sure as sure
+use Rattle.cf_refinement.proofs.Accepted.{accepted_suits}
 use Rattle.cf_refinement.proofs.Kept.{bar_row}
-use Rattle.cf_refinement.proofs.Runs.{going, serve_counts}
+use Rattle.cf_refinement.proofs.Output.{output_ahead}
+use Rattle.cf_refinement.proofs.Runs.{going, kept, serve_counts}
 use Rattle.cf_refinement.proofs.Serve.{Serves, Scene, scene, serve_ready, next-serve}
-use Rattle.cf_refinement.proofs.Theorems.{holds_after, run_refines}
+use Rattle.cf_confluence.proofs.Bound.{sound_at}
+use Rattle.cf_confluence.proofs.Rested.{after_gained}
 use Rattle.cf_stages.specs.Changes.{passenger_at}
 use Rattle.cf_run.specs.Headline.{IsFrontAfter}
-
--- one move more
-pub run-more : (plan : Plan) (m : Moment) (moves : List Move) (mv : Move) → IsRun plan m moves → bar plan (run plan m moves).state mv ≡ None
-    → IsRun plan m (moves ++ mv ∷ []) × (run plan m (moves ++ mv ∷ []) ≡ next plan (run plan m moves) mv)
-unfolding IsRun run
-run-more plan m [] mv h free = ((free, tt), refl)
-run-more plan m (first ∷ moves) mv h free =
-    let k = run-more plan (next plan m first) moves mv h.1 free in
-    ((h.0, k.0), k.1)
 
 -- a write that passes its tests adds the bytes of its buffer to the output
 asked_bytes : (regs : List ℕ) (mem : Memory) (rest bytes : List ℕ) → IsTrue (asks_output regs mem) → range_of mem (second_argument regs) (third_argument regs) ≡ Some bytes
@@ -110,20 +102,17 @@ front_of isa x n output bytes k at count is = record {
   front = is ∙ ap (λ (z : List ℕ). output ++ z) (sym (take-append-drop k bytes)) ∙ sym (append_assoc output (take k bytes) (drop k bytes));
 }
 
--- after a run and a write that the output failed: the output of the run and any front of the buffer's bytes
-pub front-after : (plan : Plan) (x : Machine) (moves : List Move) (bytes : List ℕ) (k : ℕ) → IsAccepted plan → length x.hart.regs ≡ 32 → IsRun plan (start plan x) moves → (m : Moment) → m ≡ run plan (start plan x) moves → bar plan m.state Serve ≡ None
-    → Where (passenger_at m.state.cells plan.stages) ⊥ (λ q. instruction q ≡ Ecall) → IsTrue (asks_output m.state.regs m.state.mem) → range_of m.state.mem (second_argument m.state.regs) (third_argument m.state.regs) ≡ Some bytes
+-- after a write that the output failed at a moment at which the invariant holds: the output of the moment and any front of the buffer's bytes
+pub front-after : (plan : Plan) (x : Machine) (m : Moment) (bytes : List ℕ) (k : ℕ) → IsAccepted plan → HoldsAfter plan x m → bar plan m.state Serve ≡ None → Where (passenger_at m.state.cells plan.stages) ⊥ (λ q. instruction q ≡ Ecall)
+    → IsTrue (asks_output m.state.regs m.state.mem) → range_of m.state.mem (second_argument m.state.regs) (third_argument m.state.regs) ≡ Some bytes
     → IsFrontAfter (isa_of plan) x (gained x m.state + 1) (m.output ++ take k bytes)
-front-after plan x moves bytes k accepted wide allowed m is free calls asks buffer =
-    let free' : bar plan (run plan (start plan x) moves).state Serve ≡ None = subst (λ (q : Moment). bar plan q.state Serve ≡ None) is free in
-    let h : HoldsAfter plan x m = subst (HoldsAfter plan x) (sym is) (holds_after plan x moves accepted wide allowed) in
-    let sound : Sound plan m.state m.rest m.output h.machine = subst (HoldsAt plan m.state m.rest m.output h.machine) (going plan m.state Serve free) h.stage in
+front-after plan x m bytes k accepted h free calls asks buffer =
     let r : Serves plan m.state = serve_ready plan m.state (bar_row plan m.state Serve free) in
-    let w : Wrote plan m bytes = wrote plan m bytes r (unended_here plan m h.machine r sound) calls asks buffer in
-    let longer = run-more plan (start plan x) moves Serve allowed free' in
+    let w : Wrote plan m bytes = wrote plan m bytes r (unended_here plan m h.machine r (sound_at plan x m Serve free h)) calls asks buffer in
     let t : Moment = next plan m Serve in
-    let there : run plan (start plan x) (moves ++ Serve ∷ []) ≡ t = longer.1 ∙ ap (λ (q : Moment). next plan q Serve) (sym is) in
-    let refines = run_refines plan x (moves ++ Serve ∷ []) accepted wide longer.0 in
-    let spoke : Spoke (isa_of plan) x (gained x t.state + served_count plan t.state) t = subst (λ (q : Moment). Spoke (isa_of plan) x (gained x q.state + served_count plan q.state) q) there refines.spoke in
+    let later : HoldsAfter plan x t = kept plan x m Serve (accepted_suits plan accepted) free h in
+    let unended : t.state.ending ≡ None = (serve_counts plan m).ending ∙ going plan m.state Serve free in
+    let sound : Sound plan t.state t.rest t.output later.machine = subst (HoldsAt plan t.state t.rest t.output later.machine) unended later.stage in
+    let spoke : Spoke (isa_of plan) x (gained x t.state + served_count plan t.state) t = output_ahead plan x t.state later.machine (after_gained plan x t later) sound in
     let number : gained x t.state + served_count plan t.state ≡ gained x m.state + 1 = omega (arith, (serve_counts plan m).retired, w.count) in
     front_of (isa_of plan) x (gained x m.state + 1) m.output bytes k spoke.at (ap (after (isa_of plan) x) (sym number) ∙ spoke.count) (sym spoke.output ∙ w.output)

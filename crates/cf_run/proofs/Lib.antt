@@ -6,4 +6,6 @@ pub mod Retirements
 pub mod Fronts
 pub mod Settling
 pub mod Arrived
+pub mod Untold
+pub mod Stopping
 pub mod Headline

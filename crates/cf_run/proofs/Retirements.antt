@@ -23,7 +23,7 @@ use Rattle.cf_refinement.proofs.Runs.{access_counts, climb_counts, emit_counts, 
 use Rattle.cf_report.specs.Lines.{retired_line}
 use Rattle.cf_run.specs.declared.show.Show.TheVariants as show
 use Rattle.cf_run.specs.Made.{Made, moves_of, retirement, shown, all_shown}
-use Rattle.cf_run.specs.Going.{Leads}
+use Rattle.cf_run.specs.Going.{IsMade, Leads}
 use Rattle.cf_run.specs.Headline.{AreTexts}
 
 -- no instruction retires with the move, and none is told
@@ -130,6 +130,12 @@ joined plan m mv e k more text (inr h) same texts =
     let number : k ≡ m.state.retired + 1 = same ∙ h.count in
     rw (h.lines, h.text k, number) (h.shown, text, h.shows, refl, subst (λ (n : ℕ). AreTexts (n + 1) more text) h.count texts)
 
+-- so it is of a move that was made
+pub made-texts : (plan : Plan) (limit : ℕ) (m : Moment) (made : Made) (more : List Line) (text : List ℕ) → IsMade plan limit m made → AreTexts ((next plan m made.move).state.retired + 1) more text
+    → AreTexts (m.state.retired + 1) (retires plan m.state made.move ++ more) (retirement made.state.retired made.event ++ text)
+made-texts plan limit m made more text is texts =
+    joined plan m made.move made.event made.state.retired more text (tells plan m made.move made.event is.allowed is.event) (ap (λ (s : State). s.retired) is.state) texts
+
 -- what is shown of the moves where retirements are, is a text of the lines of the run
 pub shown-lines : (plan : Plan) (limit : ℕ) (told : List ℕ) (m : Moment) (n : ℕ) (trace : List Made) (last : Moment) → Leads plan limit (Some told) m trace last → AreTexts (m.state.retired + 1) (lines plan m (moves_of trace)) (all_shown show.Retired plan n trace)
 unfolding Leads lines all_shown shown next
@@ -138,7 +144,7 @@ shown-lines plan limit told m n (made ∷ trace) last (rest, same, is, h) =
     let t : Moment = next plan (record m { rest = rest }) made.move in
     let behind : AreTexts (t.state.retired + 1) (lines plan t (moves_of trace)) (all_shown show.Retired plan (n + 1) trace) = shown-lines plan limit told t (n + 1) trace last h in
     let P : List ℕ → Type 0 = λ r. AreTexts (m.state.retired + 1) (retires plan m.state made.move ++ lines plan (next plan (record m { rest = r }) made.move) (moves_of trace)) (retirement made.state.retired made.event ++ all_shown show.Retired plan (n + 1) trace) in
-    let here : P rest = joined plan (record m { rest = rest }) made.move made.event made.state.retired (lines plan t (moves_of trace)) (all_shown show.Retired plan (n + 1) trace) (tells plan (record m { rest = rest }) made.move made.event is.allowed is.event) (ap (λ (s : State). s.retired) is.state) behind in
+    let here : P rest = made-texts plan limit (record m { rest = rest }) made (lines plan t (moves_of trace)) (all_shown show.Retired plan (n + 1) trace) is behind in
     subst P same here
 
 -- a line is shown in one way

@@ -1,5 +1,5 @@
--- From every moment of a run the processor drains: with issue held back there is a run that cannot be extended.
-use Rattle.std.proofs.Common.{◌≡◌, ℕ, zero, suc, ◌*◌, ◌≤◌, List, [], ◌∷◌, ◌++◌, Option, Some, None, Bool, true, false, refl, sym, ap, subst, ◌∙◌, length, arith}
+-- From every moment at which what every move keeps holds the processor settles: with issue held back it drains, to one end.
+use Rattle.std.proofs.Common.{◌≡◌, ℕ, zero, suc, ◌*◌, ◌≤◌, List, [], ◌∷◌, Option, Some, None, Bool, true, false, refl, sym, ap, subst, ◌∙◌, length, arith}
 use Rattle.std.specs.Prelude.{filter, not}
 use Rattle.rv_machine.specs.Machine.{Machine}
 use Rattle.cf_layout.specs.Accepted.{IsAccepted}
@@ -8,20 +8,41 @@ use Rattle.cf_bind.specs.declared.moves.Bar.{Bar}
 use Rattle.cf_bind.specs.declared.moves.Move.{Move}
 use Rattle.cf_bind.specs.declared.passenger.End.{End}
 use Rattle.cf_semantics.specs.Bars.{bar}
-use Rattle.cf_semantics.specs.Determined.{Drains}
+use Rattle.cf_semantics.specs.Determined.{Drains, EndAlike, EndsAs}
 use Rattle.cf_semantics.specs.Drained.{IsStuck}
 use Rattle.cf_semantics.specs.Moves.{next}
 use Rattle.cf_semantics.specs.Options.{is_some}
 use Rattle.cf_semantics.specs.Policies.{all_moves, candidates, other_moves}
-use Rattle.cf_semantics.specs.Runs.{IsReached, IsRun, run, start}
+use Rattle.cf_semantics.specs.Runs.{IsRun, run, start}
 use Rattle.cf_semantics.specs.State.{State, Moment}
 use Rattle.cf_semantics.specs.Weight.{counts, is_issue, moves_per_issue, weight}
 use Rattle.cf_refinement.specs.Invariant.{HoldsAfter, HoldsAt, Sound}
-use Rattle.cf_refinement.proofs.Runs.{going}
+use Rattle.cf_refinement.specs.Suited.{Suits}
+use Rattle.cf_refinement.proofs.Accepted.{accepted_suits}
+use Rattle.cf_refinement.proofs.Runs.{going, kept}
 use Rattle.cf_refinement.proofs.Theorems.{holds_after}
+use Rattle.cf_confluence.proofs.Bound.{bounded_drain, costs, sound_at}
 use Rattle.cf_confluence.proofs.Candidates.{HasShape, no_other_stuck}
-use Rattle.cf_confluence.proofs.Laws.{move_costs}
-use Rattle.cf_run.proofs.Fronts.{run-more}
+use Rattle.cf_confluence.proofs.Confluent.{agree, halted_alike}
+use Rattle.cf_confluence.proofs.Determined.{ends_as}
+use Rattle.cf_confluence.proofs.Tidy.{IsTidy, tidy_next, tidy_opened, tidy_run}
+use Rattle.cf_run.specs.Headline.{Settles}
+
+-- what every move keeps holds at the moment: the invariant, over the machine, and that the state is tidy
+pub record IsKept (plan : Plan) (x : Machine) (m : Moment) : Type 0 where
+  pub held : HoldsAfter plan x m
+  pub tidy : IsTidy plan m.state
+
+-- so it does after every run from the machine
+pub kept-run : (plan : Plan) (x : Machine) (moves : List Move) → IsAccepted plan → length x.hart.regs ≡ 32 → IsRun plan (start plan x) moves → IsKept plan x (run plan (start plan x) moves)
+kept-run plan x moves accepted wide allowed = record {
+  held = holds_after plan x moves accepted wide allowed;
+  tidy = tidy_run plan (start plan x) moves allowed (tidy_opened plan x);
+}
+
+-- and after one move more
+kept-next : (plan : Plan) (x : Machine) (m : Moment) (mv : Move) → Suits plan → IsKept plan x m → bar plan m.state mv ≡ None → IsKept plan x (next plan m mv)
+kept-next plan x m mv suits k free = record { held = kept plan x m mv suits free k.held; tidy = tidy_next plan m mv free k.tidy }
 
 -- the first that passes two tests passes both
 first_holds : {A : Type 0} (p q : A → Bool) (xs : List A) (y : A) (ys : List A) → filter p (filter q xs) ≡ y ∷ ys → (p y ≡ true) × (q y ≡ true)
@@ -55,17 +76,11 @@ other_allowed plan s mv more e =
 ended_stuck : (plan : Plan) (s : State) (e : End) → s.ending ≡ Some e → IsStuck plan s
 ended_stuck plan s e ended mv other free = absurd (let none : None ≡ Some e = sym (going plan s mv free) ∙ ended in cc)
 
-shaped : (plan : Plan) (x : Machine) (m : Moment) → IsAccepted plan → length x.hart.regs ≡ 32 → IsReached plan x m → m.state.ending ≡ None → HasShape plan m.state
-shaped plan x m accepted wide r unended =
-    let h : HoldsAfter plan x m = subst (HoldsAfter plan x) (sym r.is) (holds_after plan x r.moves accepted wide r.allowed) in
-    let s : Sound plan m.state m.rest m.output h.machine = subst (HoldsAt plan m.state m.rest m.output h.machine) unended h.stage in
+-- before the end the stages and sidings are as many as the layout says
+shaped : (plan : Plan) (x : Machine) (m : Moment) → IsKept plan x m → m.state.ending ≡ None → HasShape plan m.state
+shaped plan x m k unended =
+    let s : Sound plan m.state m.rest m.output k.held.machine = subst (HoldsAt plan m.state m.rest m.output k.held.machine) unended k.held.stage in
     record { cells = s.size; sidings = s.moored.berths }
-
--- a move from a moment of a run leads to another
-reached_next : (plan : Plan) (x : Machine) (m : Moment) (mv : Move) → IsReached plan x m → bar plan m.state mv ≡ None → IsReached plan x (next plan m mv)
-reached_next plan x m mv r free =
-    let longer = run-more plan (start plan x) r.moves mv r.allowed (subst (λ (q : Moment). bar plan q.state mv ≡ None) r.is free) in
-    record { moves = r.moves ++ mv ∷ []; allowed = longer.0; is = ap (λ (q : Moment). next plan q mv) r.is ∙ sym longer.1 }
 
 -- a moment that cannot be left but by Issue is its own end
 here : (plan : Plan) (m : Moment) → IsStuck plan m.state → Drains plan m m
@@ -77,15 +92,16 @@ before : (plan : Plan) (m t : Moment) (mv : Move) → is_issue mv ≡ false → 
 unfolding IsRun run
 before plan m t mv other free d = record { moves = mv ∷ d.moves; allowed = (free, d.allowed); held = rw (other, d.held) refl; is = d.is; stuck = d.stuck }
 
-lighter : (plan : Plan) (x : Machine) (m : Moment) (mv : Move) → IsAccepted plan → length x.hart.regs ≡ 32 → IsReached plan x m → is_issue mv ≡ false → bar plan m.state mv ≡ None → suc (weight plan (next plan m mv).state) ≤ weight plan m.state
-lighter plan x m mv accepted wide r other free =
-    let cost = move_costs plan x m mv accepted wide r free in
+-- a move other than Issue makes it lighter
+lighter : (plan : Plan) (x : Machine) (m : Moment) (mv : Move) → Suits plan → IsKept plan x m → is_issue mv ≡ false → bar plan m.state mv ≡ None → suc (weight plan (next plan m mv).state) ≤ weight plan m.state
+lighter plan x m mv suits k other free =
+    let cost = costs plan m k.held.machine mv suits free (sound_at plan x m mv free k.held) in
     let none : moves_per_issue plan * counts (is_issue mv) 1 ≡ 0 = rw other (omega arith) in
     omega (arith, cost, none)
 
 -- a moment drains where each that a move other than Issue leads to does
-drains_behind : (plan : Plan) (x : Machine) (m : Moment) → IsAccepted plan → length x.hart.regs ≡ 32 → IsReached plan x m → ((mv : Move) → is_issue mv ≡ false → bar plan m.state mv ≡ None → (t : Moment) × Drains plan (next plan m mv) t) → (t : Moment) × Drains plan m t
-drains_behind plan x m accepted wide r deeper = of m.state.ending refl
+drains_behind : (plan : Plan) (x : Machine) (m : Moment) → IsKept plan x m → ((mv : Move) → is_issue mv ≡ false → bar plan m.state mv ≡ None → (t : Moment) × Drains plan (next plan m mv) t) → (t : Moment) × Drains plan m t
+drains_behind plan x m k deeper = of m.state.ending refl
   where
     on_moves : (moves : List Move) → other_moves (candidates plan m.state) ≡ moves → HasShape plan m.state → (t : Moment) × Drains plan m t
     on_moves [] e shape = (m, here plan m (no_other_stuck plan m.state shape e))
@@ -95,15 +111,34 @@ drains_behind plan x m accepted wide r deeper = of m.state.ending refl
         (d.0, before plan m d.0 mv a.0 a.1 d.1)
 
     of : (o : Option End) → m.state.ending ≡ o → (t : Moment) × Drains plan m t
-    of None e = on_moves (other_moves (candidates plan m.state)) refl (shaped plan x m accepted wide r e)
+    of None e = on_moves (other_moves (candidates plan m.state)) refl (shaped plan x m k e)
     of (Some end) e = (m, here plan m (ended_stuck plan m.state end e))
 
 -- of a weight within n
-drains_within : (n : ℕ) (plan : Plan) (x : Machine) (m : Moment) → IsAccepted plan → length x.hart.regs ≡ 32 → IsReached plan x m → weight plan m.state ≤ n → (t : Moment) × Drains plan m t
-drains_within zero plan x m accepted wide r light = drains_behind plan x m accepted wide r (λ mv other free. absurd (omega (arith, light, lighter plan x m mv accepted wide r other free)))
-drains_within (suc n) plan x m accepted wide r light = drains_behind plan x m accepted wide r (λ mv other free.
-    drains_within n plan x (next plan m mv) accepted wide (reached_next plan x m mv r free) (omega (arith, light, lighter plan x m mv accepted wide r other free)))
+drains_within : (n : ℕ) (plan : Plan) (x : Machine) (m : Moment) → Suits plan → IsKept plan x m → weight plan m.state ≤ n → (t : Moment) × Drains plan m t
+drains_within zero plan x m suits k light = drains_behind plan x m k (λ mv other free. absurd (omega (arith, light, lighter plan x m mv suits k other free)))
+drains_within (suc n) plan x m suits k light = drains_behind plan x m k (λ mv other free.
+    drains_within n plan x (next plan m mv) suits (kept-next plan x m mv suits k free) (omega (arith, light, lighter plan x m mv suits k other free)))
 
--- from every moment of a run the processor drains
-pub drains_there : (plan : Plan) (x : Machine) (m : Moment) → IsAccepted plan → length x.hart.regs ≡ 32 → IsReached plan x m → (t : Moment) × Drains plan m t
-drains_there plan x m accepted wide r = drains_within (weight plan m.state) plan x m accepted wide r (omega arith)
+-- how a run ends that cannot be extended
+ends : (plan : Plan) (x : Machine) (m t : Moment) → Suits plan → IsKept plan x m → m.state.ending ≡ None → Drains plan m t → EndsAs plan x m t
+ends plan x m t suits k unended d = ends_as plan x m t suits k.tidy k.held unended d
+
+-- any two end alike
+alike : (plan : Plan) (x : Machine) (m t u : Moment) → Suits plan → IsKept plan x m → Drains plan m t → Drains plan m u → EndAlike t u
+alike plan x m t u suits k d e = of m.state.ending refl
+  where
+    of : (o : Option End) → m.state.ending ≡ o → EndAlike t u
+    of None unended = agree plan x m t u (ends plan x m t suits k unended d) (ends plan x m u suits k unended e)
+    of (Some end) ended = halted_alike plan m t u end ended d e
+
+-- from there the processor settles
+pub settles : (plan : Plan) (x : Machine) (m : Moment) → IsAccepted plan → IsKept plan x m → Settles plan x m
+settles plan x m accepted k =
+    let suits : Suits plan = accepted_suits plan accepted in
+    record {
+      bounded = λ moves allowed held. bounded_drain plan x m moves suits k.held allowed held;
+      drains = drains_within (weight plan m.state) plan x m suits k (omega arith);
+      ends = λ unended t d. ends plan x m t suits k unended d;
+      alike = λ t u d e. alike plan x m t u suits k d e;
+    }

@@ -1,4 +1,4 @@
--- The headline: a run leaves what the sequential machine leaves on which the processor was opened, and comes to rest ("Counterflow Pipeline Processor Architecture", 1994: the order of the local actions is free).
+-- The headline: a run leaves what the sequential machine leaves on which the processor was opened, whether or not the input tells what it has left, and comes to rest ("Counterflow Pipeline Processor Architecture", 1994: the order of the local actions is free).
 use Rattle.std.specs.Prelude.{◌≡◌, ℕ, ◌+◌, ◌≤◌, List, [], ◌∷◌, ◌++◌, length, map, take, Option, Some, None}
 use Rattle.cf_io.specs.Puts.{Writes, WritesFront}
 use Rattle.rv_inst.specs.declared.isa.Isa.{Isa}
@@ -19,6 +19,7 @@ use Rattle.cf_semantics.specs.Refines.{Refines, gained}
 use Rattle.cf_semantics.specs.Runs.{IsRun, run, start as start_on}
 use Rattle.cf_semantics.specs.State.{State, Moment}
 use Rattle.cf_semantics.specs.Weight.{issues, weight}
+use Rattle.cf_untold.specs.Anew.{GoesTo, LeadsTo}
 use Rattle.cf_core.specs.Processors.{in_state, opened}
 use Rattle.cf_core.specs.Stepping.{FailsToRead, FailsToWrite}
 use Rattle.cf_report.specs.Lines.{retired_line}
@@ -30,7 +31,7 @@ use Rattle.cf_run.specs.declared.show.Show.TheVariants as show
 use Rattle.cf_run.specs.Moving.{Place}
 use Rattle.cf_run.specs.Scripts.{Stand}
 
--- The sequential machine as a run begins: the hart on which the processor was opened, with the whole input before it and nothing written.
+-- The sequential machine as a run begins: the hart on which the processor was opened, with this input before it and nothing written.
 abbrev pub machine_on : Hart → List ℕ → Machine
 machine_on hart rest = record { hart = hart; rest = rest; output = [] }
 
@@ -42,7 +43,7 @@ moment_after plan x moves = run plan (start_on plan x) moves
 abbrev pub lines_after : Plan → Machine → List Move → List Line
 lines_after plan x moves = sequence (isa_of plan) x (gained x (moment_after plan x moves).state)
 
--- With issue held back the processor drains, within a stated number of moves, to one state.
+-- With issue held back the processor drains, within a stated number of moves, to one end: drained, but for what is kept at the bottom in one state, or with the end of the program.
 pub record Settles (plan : Plan) (x : Machine) (m : Moment) : Type 0 where
   -- every run without Issue has at most as many moves as the weight of the state
   pub bounded : (moves : List Move) → IsRun plan m moves → issues moves ≡ 0 → length moves ≤ weight plan m.state
@@ -127,12 +128,29 @@ pub record RunsAs (shows : Show) (x : Machine) (moves : List Move) (begin new : 
   pub stops : StopsAt x (moment_after begin.core.plan x moves) begin new answer
   pub report : ReportsLines shows (x.hart.retired + 1) (lines_after begin.core.plan x moves) begin new answer
 
+-- The run is one of the machine that starts on this hart, over an input that does not tell what it has left: as many steps as have retired, each of which finds some input, lead to a machine, with these lines; and with some input left, what is seen of the moment where the run stops is what that machine does, and from there the processor drains.
+pub record RunsAnew (shows : Show) (hart : Hart) (begin new : Place) (answer : Scripted) : Type 0 where
+  pub at : Machine
+  pub written : List Line
+  pub last : Moment
+  pub goes : GoesTo (isa_of begin.core.plan) (machine_on hart []) (gained (machine_on hart []) last.state) at written
+  pub refines : Refines begin.core.plan at [] last
+  pub settles : Settles begin.core.plan at last
+  -- whatever the moves find of the input, without Issue they are at most as many as the weight of the state
+  pub bounded : (moves : List Move) (t : Moment) (more : List Line) → LeadsTo begin.core.plan last moves t more → issues moves ≡ 0 → length moves ≤ weight begin.core.plan last.state
+  pub stops : StopsAt at last begin new answer
+  pub report : ReportsLines shows (hart.retired + 1) written begin new answer
+
 -- The moves that the run of a script made: its first, as many as were counted.
 abbrev pub moves_made : Stand → Place → List Move
 moves_made begin new = map (λ line. line.1) (take new.tally.moves begin.script.moves)
 
--- The headline: on whatever hart the processor was opened, and whatever the input tells, the run is one of the machine that starts with them. Of an input that does not tell what it has left, nothing is claimed here.
+-- The run is one of the machine that starts on this hart with what the input tells; where the input does not tell that, of the machine each of whose calls finds some input.
+abbrev pub RunsOver : Option (List ℕ) → Show → Hart → Stand → Place → Scripted → Type 0
+RunsOver (Some rest) shows hart begin new answer = RunsAs shows (machine_on hart rest) (moves_made begin new) begin.place new answer
+RunsOver None shows hart begin new answer = RunsAnew shows hart begin.place new answer
+
+-- The headline: on whatever hart the processor was opened, and whatever the input tells or does not tell, the run is one of the machine that starts on that hart.
 unfoldable pub RunsSequentially : Show → Stand → Place → Scripted → Type 0
 RunsSequentially shows begin new answer =
-    (plan : Plan) (hart : Hart) (rest : List ℕ) → begin.place.core ≡ opened plan hart → begin.place.streams.input ≡ Some rest →
-    RunsAs shows (machine_on hart rest) (moves_made begin new) begin.place new answer
+    (plan : Plan) (hart : Hart) → begin.place.core ≡ opened plan hart → RunsOver begin.place.streams.input shows hart begin new answer

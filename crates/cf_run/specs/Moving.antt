@@ -50,7 +50,7 @@ pub record MakesUnshown (show : Show) (mv : Move) (now new : Place) : Type 0 whe
   pub makes : MakesOne mv now new
   pub report : WritesFront now.report new.report (shown_of show mv now new makes.event)
 
--- the input or the output failed the call of the environment that the move asked; nothing was counted or shown
+-- what holds besides where the input or the output fails a call: nothing barred the move, it was Serve, and nothing was counted or shown
 pub record FailsOutside (mv : Move) (now new : Place) : Type 0 where
   pub allowed : first_bar now.core.plan now.core.state mv ≡ None
   pub serves : mv ≡ Serve

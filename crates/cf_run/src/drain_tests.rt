@@ -163,7 +163,7 @@ fn drained(rt: &(impl Abort + AllocGlobal), moves: &[Move]) -> Result<Core, Fail
     Ok(core)
 }
 
-/// All orders of moves that drain one state lead to one state.
+/// All orders of moves that drain one state lead to one state, but for what is kept at the bottom.
 #[test]
 fn drains_end_in_one_state(rt: HostRuntime) -> Result<(), Fail> {
     let first = drained(&rt, DIES_FIRST)?;

@@ -107,8 +107,9 @@ fn known(core: &Core)
 /// Where no move of the run asks the input, the input is left as it was, whatever it tells of itself; the output
 /// likewise. Only Serve asks them, for an ECALL whose call does.
 ///
-/// Where the processor was opened on a machine and the input tells what it has left, the run is one of that
-/// machine, in whatever order the script makes its moves.
+/// Where the processor was opened on a machine, the run is one of that machine, in whatever order the script
+/// makes its moves: over what the input tells that it has left, and where it does not tell, with each call
+/// finding some input.
 pub fn run_script<S: Source, K: Sink, R: Sink>(
     core: &mut Core,
     script: &mut Script<'_>,

@@ -16,12 +16,12 @@ returns-in_err-put_registers g c =
     let bad = c.from_residual-in_err-put_registers.ensures.0 in
     let head = has-more c.in_ok-put_head.was (put-nothing _ _) (rw c.retired.ensures at c.put_head.ensures) in
     let counts = has-more c.in_ok-put_tally.was head c.put_tally.ensures in
-    failed-more _ _ bad (has-last counts (has-failed _ c.in_err-put_registers.was bad (rw c.regs.ensures at c.put_registers.ensures)))
+    failed-more _ _ bad (has-last counts (has-failed _ c.in_err-put_registers.was bad (rw c.regs.ensures.registers at c.put_registers.ensures)))
 
 pub returns : goal.returns
 unfolding whole_closing
 returns g c =
     let head = has-more c.in_ok-put_head.was (put-nothing _ _) (rw c.retired.ensures at c.put_head.ensures) in
     let counts = has-more c.in_ok-put_tally.was head c.put_tally.ensures in
-    let regs = has-more c.in_ok-put_registers.was counts (rw c.regs.ensures at c.put_registers.ensures) in
+    let regs = has-more c.in_ok-put_registers.was counts (rw c.regs.ensures.registers at c.put_registers.ensures) in
     has-last regs c.put_picture.ensures

@@ -1,0 +1,214 @@
+-- How a run of a script stops, at whatever moment it has come to.
+use Rattle.std.proofs.Common.{◌≡◌, ℕ, List, ◌++◌, Option, Some, None, true, arith, refl, sym, ap, subst, ◌∙◌, take, append_assoc}
+use Rattle.std.proofs.lemmas.List.{append_cancel_left}
+use Rattle.cf_io.specs.Puts.{Writes, WritesFront}
+use Rattle.rv_machine.specs.Machine.{Machine}
+use Rattle.rv_machine.specs.Streams.{Streams, Leaves}
+use Rattle.cf_layout.specs.Accepted.{IsAccepted}
+use Rattle.cf_bind.specs.declared.moves.Move.{Move}
+use Rattle.cf_bind.specs.declared.moves.Move.TheVariants.{Serve}
+use Rattle.cf_semantics.specs.Bars.{bar}
+use Rattle.cf_semantics.specs.Lines.{Line}
+use Rattle.cf_semantics.specs.State.{State, Moment}
+use Rattle.cf_refinement.specs.Invariant.{HoldsAfter}
+use Rattle.cf_core.specs.Processors.{Processor, in_state}
+use Rattle.cf_core.specs.Stepping.{FailsToRead, FailsToWrite}
+use Rattle.cf_report.proofs.Puttings.{front-again, writes-again}
+use Rattle.cf_run.specs.declared.answer.Ran.TheVariants as ran
+use Rattle.cf_run.specs.declared.answer.Scripted.{Scripted}
+use Rattle.cf_run.specs.declared.answer.Scripted.TheVariants.{Ran, ScriptEnd, BadScript, BarredAt}
+use Rattle.cf_run.specs.declared.show.Show.{Show}
+use Rattle.cf_run.specs.declared.show.Show.TheVariants as show
+use Rattle.cf_run.specs.Headline.{StandsAt, IsUnmoved, FailsInput, FailsOutput, StopsAt, AreTexts, Gets, ReportsLines}
+use Rattle.cf_run.specs.Made.{Made, all_shown}
+use Rattle.cf_run.specs.Moving.{Place, MakesAndShows, MakesUnshown, FailsOutside, Does, shown_of}
+use Rattle.cf_run.specs.Scripts.{Stand, Reaches, Tries, Stops}
+use Rattle.cf_run.proofs.Arrived.{Arrives}
+use Rattle.cf_run.proofs.Fronts.{front-after}
+use Rattle.cf_run.proofs.Runs.{reached-more}
+
+-- a run stopped at the moment, and reported these lines, numbered from n on
+pub record IsStopped (shows : Show) (x : Machine) (m : Moment) (n : ℕ) (written : List Line) (begin new : Place) (answer : Scripted) : Type 0 where
+  pub stops : StopsAt x m begin new answer
+  pub report : ReportsLines shows n written begin new answer
+
+-- whatever holds of the place that it had come to, it stopped there
+abbrev StopsFrom : Show → (begin now new : Place) → Scripted → Type 0
+StopsFrom shows begin now new answer =
+    (x : Machine) (m : Moment) (n : ℕ) (written : List Line) → Arrives shows x m n written begin now → IsStopped shows x m n written begin new answer
+
+-- the report of a run that stopped so
+told_lines : (shows : Show) (begin new : Place) (answer : Scripted) (trace : List Made) (n : ℕ) (written : List Line) → AreTexts n written (all_shown show.Retired begin.core.plan 1 trace)
+    → Gets begin.report new.report answer (all_shown shows begin.core.plan 1 trace) → ReportsLines shows n written begin new answer
+told_lines show.Retired begin new answer trace n written texts gets = (all_shown show.Retired begin.core.plan 1 trace, texts, gets)
+told_lines show.Report begin new answer trace n written texts gets = tt
+told_lines show.Moves begin new answer trace n written texts gets = tt
+
+-- a run that does not go on from where it has come to
+stays : (shows : Show) (begin now new : Place) (answer : Scripted) → new ≡ now → ((x : Machine) (m : Moment) → StandsAt m begin new → StopsAt x m begin new answer)
+    → ((text : List ℕ) → Writes begin.report new.report text → Gets begin.report new.report answer text) → StopsFrom shows begin now new answer
+stays shows begin now new answer same stops gets x m n written a =
+    let h : Arrives shows x m n written begin new = subst (Arrives shows x m n written begin) (sym same) a in
+    record { stops = stops x m (record { core = h.core; streams = h.streams }); report = told_lines shows begin new answer h.trace n written h.texts (gets _ h.report) }
+
+-- the processor that a failed read leaves
+unread : (begin old new : Processor) (m : Moment) (before after : Streams) → old ≡ in_state begin m.state → FailsToRead old new before after → IsUnmoved m new.state
+unread begin old new m before after same h =
+    let is : new.state ≡ record m.state { mem = new.state.mem; failed = true } = ap (λ (p : Processor). p.state) h.processor ∙ ap (λ (p : Processor). record p.state { mem = new.state.mem; failed = true }) same in
+    record { regs = ap (λ (s : State). s.regs) is; retired = ap (λ (s : State). s.retired) is; ending = ap (λ (s : State). s.ending) is }
+
+-- and a failed write
+unwritten : (begin old new : Processor) (m : Moment) (before after : Streams) → old ≡ in_state begin m.state → FailsToWrite old new before after → IsUnmoved m new.state
+unwritten begin old new m before after same h =
+    let is : new.state ≡ record m.state { failed = true } = ap (λ (p : Processor). p.state) h.processor ∙ ap (λ (p : Processor). record p.state { failed = true }) same in
+    record { regs = ap (λ (s : State). s.regs) is; retired = ap (λ (s : State). s.retired) is; ending = ap (λ (s : State). s.ending) is }
+
+-- the call was to be served
+served_next : (begin old : Processor) (m : Moment) (mv : Move) → old ≡ in_state begin m.state → mv ≡ Serve → bar old.plan old.state mv ≡ None → bar begin.plan m.state Serve ≡ None
+served_next begin old m mv same serves free =
+    let P : Processor → Type 0 = λ p. bar p.plan p.state mv ≡ None in
+    subst (λ (v : Move). bar begin.plan m.state v ≡ None) serves (subst P same free)
+
+-- the input failed the call
+no_input : (mv : Move) (m : Moment) (begin now new : Place) → now.core ≡ in_state begin.core m.state → Leaves begin.streams now.streams m.rest m.output → FailsOutside mv now new → FailsToRead now.core new.core now.streams new.streams → FailsInput m begin new
+no_input mv m begin now new core streams outside h = record {
+  allowed = served_next begin.core now.core m mv core outside.serves outside.allowed;
+  before = now.streams;
+  reached = streams;
+  fails = subst (λ (p : Processor). FailsToRead p new.core now.streams new.streams) core h;
+  unmoved = unread begin.core now.core new.core m now.streams new.streams core h;
+  output = subst (λ (o : Option (List ℕ)). Writes begin.streams.output o m.output) (sym h.fails.output) streams.output;
+}
+
+-- the output failed the call
+no_output : (mv : Move) (x : Machine) (m : Moment) (begin now new : Place) → IsAccepted begin.core.plan → HoldsAfter begin.core.plan x m → now.core ≡ in_state begin.core m.state → Leaves begin.streams now.streams m.rest m.output
+    → FailsOutside mv now new → FailsToWrite now.core new.core now.streams new.streams → FailsOutput x m begin new
+no_output mv x m begin now new accepted held core streams outside h =
+    let free : bar begin.core.plan m.state Serve ≡ None = served_next begin.core now.core m mv core outside.serves outside.allowed in
+    let fails : FailsToWrite (in_state begin.core m.state) new.core now.streams new.streams = subst (λ (p : Processor). FailsToWrite p new.core now.streams new.streams) core h in
+    let k : ℕ = fails.fails.output.0 in
+    record {
+      allowed = free;
+      before = now.streams;
+      reached = streams;
+      fails = fails;
+      unmoved = unwritten begin.core now.core new.core m now.streams new.streams core h;
+      written = m.output ++ take k fails.fails.bytes;
+      output = writes-again begin.streams.output now.streams.output new.streams.output m.output (take k fails.fails.bytes) streams.output fails.fails.output.2;
+      front = front-after begin.core.plan x m fails.fails.bytes k accepted held free fails.calls fails.fails.asks fails.fails.buffer;
+    }
+
+-- the report of a run that a failed call stops, which is not counted or shown
+broken_lines : (shows : Show) (x : Machine) (m : Moment) (n : ℕ) (written : List Line) (begin now new : Place) (answer : Scripted) (mv : Move) → Arrives shows x m n written begin now → FailsOutside mv now new
+    → ((text : List ℕ) → Writes begin.report new.report text → Gets begin.report new.report answer text) → ReportsLines shows n written begin new answer
+broken_lines shows x m n written begin now new answer mv a outside gets =
+    told_lines shows begin new answer a.trace n written a.texts
+    (gets _ (subst (λ (o : Option (List ℕ)). Writes begin.report o (all_shown shows begin.core.plan 1 a.trace)) (sym outside.report) a.report))
+
+-- it stops at a failed read
+unread_stop : (shows : Show) (begin now new : Place) (mv : Move) → FailsOutside mv now new → FailsToRead now.core new.core now.streams new.streams → StopsFrom shows begin now new (Ran ran.ReadFault)
+unfolding StopsAt Gets
+unread_stop shows begin now new mv outside fails x m n written a = record {
+  stops = no_input mv m begin now new a.core a.streams outside fails;
+  report = broken_lines shows x m n written begin now new (Ran ran.ReadFault) mv a outside (λ text w. w);
+}
+
+-- or at a failed write
+unwritten_stop : (shows : Show) (begin now new : Place) (mv : Move) → IsAccepted begin.core.plan → FailsOutside mv now new → FailsToWrite now.core new.core now.streams new.streams → StopsFrom shows begin now new (Ran ran.WriteFault)
+unfolding StopsAt Gets
+unwritten_stop shows begin now new mv accepted outside fails x m n written a = record {
+  stops = no_output mv x m begin now new accepted a.kept.held a.core a.streams outside fails;
+  report = broken_lines shows x m n written begin now new (Ran ran.WriteFault) mv a outside (λ text w. w);
+}
+
+-- a report that got all that was to be put to it
+abbrev filled : Option (List ℕ) → List ℕ → Option (List ℕ)
+filled None text = None
+filled (Some told) text = Some (told ++ text)
+
+fills : (told : Option (List ℕ)) (text : List ℕ) → Writes told (filled told text) text
+fills None text = tt
+fills (Some told) text = refl
+
+-- a front of the last text is a front of all
+front_whole : (a b c : Option (List ℕ)) (x y z : List ℕ) → Writes a b x → WritesFront b c y → Writes a (filled b y) z → WritesFront a c z
+front_whole None b c x y z h front whole = (0, omega arith, tt)
+front_whole (Some told) b c x y z h front whole =
+    let P : Option (List ℕ) → Type 0 = λ o. filled o y ≡ Some (told ++ z) in
+    let both : Some ((told ++ x) ++ y) ≡ Some (told ++ z) = subst P h whole in
+    let bytes : (told ++ x) ++ y ≡ told ++ z = cc in
+    let same : x ++ y ≡ z = append_cancel_left told (x ++ y) z (sym (append_assoc told x y) ∙ bytes) in
+    subst (WritesFront (Some told) c) same (front-again (Some told) b c x y h front)
+
+-- the last move of a run whose report failed, as if that had not
+shown_too : (shows : Show) (mv : Move) (now new : Place) (d : MakesUnshown shows mv now new) → MakesAndShows shows mv now (record new { report = filled now.report (shown_of shows mv now new d.makes.event) })
+shown_too shows mv now new d =
+    let text : List ℕ = shown_of shows mv now new d.makes.event in
+    record {
+      makes = record { allowed = d.makes.allowed; makes = d.makes.makes; event = d.makes.event; is_event = d.makes.is_event; tally = d.makes.tally };
+      report = fills now.report text;
+    }
+
+-- where a run came to at last: it made as many moves as were counted, and stopped there
+pub record ComesTo (limit : ℕ) (shows : Show) (begin : Stand) (new : Place) (answer : Scripted) : Type 0 where
+  pub now : Stand
+  pub reaches : Reaches limit shows begin now
+  pub tally : new.tally ≡ now.place.tally
+  pub stops : StopsFrom shows begin.place now.place new answer
+
+-- the run stops at a report that failed, behind a move that was made and counted
+unshown_stop : (limit : ℕ) (shows : Show) (begin now new : Stand) → Reaches limit shows begin now → Tries limit shows now new (Some (Ran ran.ReportFault)) → ComesTo limit shows begin new.place (Ran ran.ReportFault)
+unfolding Does StopsAt Gets
+unshown_stop limit shows begin now new h t =
+    let d : MakesUnshown shows t.move now.place new.place = t.does in
+    let text : List ℕ = shown_of shows t.move now.place new.place d.makes.event in
+    let full : Stand = record { place = record new.place { report = filled now.place.report text }; script = new.script } in
+    let tries : Tries limit shows now full None = record { goes = t.goes; line = t.line; move = t.move; next = t.next; script = t.script; does = shown_too shows t.move now.place new.place d } in
+    record {
+      now = full;
+      reaches = reached-more limit shows begin now full h tries;
+      tally = refl;
+      stops = λ x m n written a. record {
+        stops = record { core = a.core; streams = a.streams };
+        report = told_lines shows begin.place new.place (Ran ran.ReportFault) a.trace n written a.texts
+            (front_whole begin.place.report now.place.report new.place.report (all_shown shows begin.place.core.plan 1 h.trace) text (all_shown shows begin.place.core.plan 1 a.trace) h.report d.report a.report);
+      };
+    }
+
+-- a run of a script that does not go on
+script_stays : (limit : ℕ) (shows : Show) (begin now new : Stand) (answer : Scripted) → Reaches limit shows begin now → new ≡ now → ((x : Machine) (m : Moment) → StandsAt m begin.place new.place → StopsAt x m begin.place new.place answer)
+    → ((text : List ℕ) → Writes begin.place.report new.place.report text → Gets begin.place.report new.place.report answer text) → ComesTo limit shows begin new.place answer
+script_stays limit shows begin now new answer h same stops gets = record {
+  now = now;
+  reaches = h;
+  tally = ap (λ (s : Stand). s.place.tally) same;
+  stops = stays shows begin.place now.place new.place answer (ap (λ (s : Stand). s.place) same) stops gets;
+}
+
+-- whatever stops it, a run of a script came to some place and stopped there
+pub comes-to : (limit : ℕ) (shows : Show) (begin now new : Stand) (answer : Scripted) → IsAccepted begin.place.core.plan → Reaches limit shows begin now → Stops limit shows now new answer → ComesTo limit shows begin new.place answer
+unfolding Stops Does StopsAt Gets
+comes-to limit shows begin now new ScriptEnd accepted h stops = script_stays limit shows begin now new ScriptEnd h stops.2 (λ x m h. h) (λ text w. w)
+comes-to limit shows begin now new (BadScript refusal) accepted h stops = script_stays limit shows begin now new (BadScript refusal) h stops.2 (λ x m h. h) (λ text w. w)
+comes-to limit shows begin now new (BarredAt line b) accepted h stops = record {
+  now = now;
+  reaches = h;
+  tally = ap (λ (p : Place). p.tally) stops.does.2;
+  stops = stays shows begin.place now.place new.place (BarredAt line b) stops.does.2 (λ x m h. h) (λ text w. w);
+}
+comes-to limit shows begin now new (Ran (ran.Exit status)) accepted h stops = script_stays limit shows begin now new (Ran (ran.Exit status)) h stops.1 (λ x m h. h) (λ text w. w)
+comes-to limit shows begin now new (Ran (ran.Trap cause pc detail)) accepted h stops = script_stays limit shows begin now new (Ran (ran.Trap cause pc detail)) h stops.1 (λ x m h. h) (λ text w. w)
+comes-to limit shows begin now new (Ran ran.Limit) accepted h stops = script_stays limit shows begin now new (Ran ran.Limit) h stops.1 (λ x m h. h) (λ text w. w)
+comes-to limit shows begin now new (Ran ran.ReadFault) accepted h stops = record {
+  now = now;
+  reaches = h;
+  tally = stops.does.0.tally;
+  stops = unread_stop shows begin.place now.place new.place stops.move stops.does.0 stops.does.1;
+}
+comes-to limit shows begin now new (Ran ran.WriteFault) accepted h stops = record {
+  now = now;
+  reaches = h;
+  tally = stops.does.0.tally;
+  stops = unwritten_stop shows begin.place now.place new.place stops.move accepted stops.does.0 stops.does.1;
+}
+comes-to limit shows begin now new (Ran ran.ReportFault) accepted h stops = unshown_stop limit shows begin now new h stops
