@@ -92,10 +92,10 @@ lacks-output n asked before after answer report h =
 pub decides-run : (asked : RunAsked) (before after : Outside) (plan : Plan) (hart : Hart)
     (text : List ℕ) (blank full : Option (List ℕ)) (result : Result Answer Failed) →
     IsReady asked (files_of before) (files_of after) plan hart text →
-    Decides (ComesOf asked.limit asked.show plan hart text before.streams after.streams)
+    Decides (ComesOf asked.limit asked.show plan hart text before.streams after.streams blank)
     (BreaksCore asked.limit asked.show (opened plan hart) text before.streams after.streams blank full)
     blank full result →
-    Decides (AnswersRun asked before after) (BreaksRun asked before after blank full) blank full result
+    Decides (AnswersRun asked before after blank) (BreaksRun asked before after blank full) blank full result
 decides-run asked before after plan hart text blank full (Ok answer) ready (lines, put, comes) =
     (lines, put, inl (record { plan = plan; hart = hart; text = text; ready = ready; comes = comes }))
 decides-run asked before after plan hart text blank full (Err failed) ready breaks =

@@ -108,14 +108,13 @@ pub core-ran : (limit : ℕ) (show : Show) (core last : Processor) (text : List 
     answer ≡ status_of limit tally.moves finish → page ≡ [] →
     Writes told full (closing limit finish last.plan last.state tally) →
     (lines : List ℕ) × Writes blank full lines
-    × RunsCore limit show core text before after answer (lines ++ page)
+    × RunsCore limit show core text before after blank answer (lines ++ page)
 core-ran limit show core last text before after blank told full tally left finish answer page r s sound said empty put =
     let moves : List ℕ = all_shown show core.plan 1 r.reaches.trace in
     let lines : List ℕ = closing limit finish last.plan last.state tally in (
       moves ++ lines,
       writes-again blank told full moves lines (shown-put limit show _ _ finish r sound) put,
       record {
-        blank = blank;
         scripted = record { last = last; tally = tally; told = told; left = left; finish = finish; runs = r; sequential = s };
         reported = sound;
         status_is = said;
@@ -154,8 +153,8 @@ core-unclosed limit show core last text before after blank told full tally left 
 pub decides-core : (limit : ℕ) (show : Show) (plan : Plan) (hart : Hart) (text : List ℕ)
     (before after : Streams) (broken : Type 0) (blank full : Option (List ℕ))
     (result : Result Answer Failed) →
-    Decides (RunsCore limit show (opened plan hart) text before after) broken blank full result →
-    Decides (ComesOf limit show plan hart text before after) broken blank full result
+    Decides (RunsCore limit show (opened plan hart) text before after blank) broken blank full result →
+    Decides (ComesOf limit show plan hart text before after blank) broken blank full result
 decides-core limit show plan hart text before after broken blank full (Ok answer) (lines, put, runs) =
     (lines, put, inl runs)
 decides-core limit show plan hart text before after broken blank full (Err failed) breaks = breaks

@@ -3,6 +3,7 @@ use Rattle.std.specs.Prelude.{ℕ}
 use Rattle.cfpp_cli.specs.declared.status.Status.{Status}
 use Rattle.cfpp_cli.specs.declared.status.Status.TheVariants as status
 
+-- the code of each status
 abbrev pub code_of : Status → ℕ
 code_of (status.Exit code) = code
 code_of (status.Trap cause pc detail) = 120

@@ -31,5 +31,5 @@ pub record Decided (words : List (List ℕ)) (before after : Outside)
     (blank full : Option (List ℕ)) (result : Result Answer Failed) : Type 0 where
   pub reading : Result Asked ℕ
   pub reads : Reading words reading
-  pub decides : Decides (Answers reading before after) (Breaks reading before after blank full)
+  pub decides : Decides (Answers reading before after blank) (Breaks reading before after blank full)
       blank full result

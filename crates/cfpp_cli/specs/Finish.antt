@@ -20,7 +20,7 @@ use Rattle.cfpp_cli.specs.declared.running.Finish.TheVariants as finish
 abbrev pub opening : Hart → Option (List ℕ) → Machine
 opening hart left = record { hart = hart; rest = unwrap_or left []; output = [] }
 
--- after n instructions with these lines, fewer than the limit, the next one ends the program or traps, or a stream fails it; or n is the limit, and none is looked at further
+-- these lines are those of n instructions: fewer than the limit, and the next one ends the program or traps; or fewer, and a stream fails the next one, as `Closes` says; or n is the limit, and none is looked at further
 abbrev pub Finishes : Chosen → Option (List ℕ) → Machine → Finish → ℕ → Machine → List ℕ → Type 0
 Finishes chosen left start (finish.Exit status) n m lines =
     (n < chosen.limit) × ReachesBy chosen.isa left start n m lines

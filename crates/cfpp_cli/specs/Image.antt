@@ -74,7 +74,7 @@ pub record IsProgram (image : List ℕ) : Type 0 where
   pub formed : starts_with_elf image ≡ true → IsElf image
   pub loads : IsAccepted (parts_of image)
 
--- why the file is no program: it is too long; or else an ELF file fails the tests of its form; or else its parts cannot be loaded
+-- why the file is no program: it is too long; or else it begins as an ELF file and fails the tests of its form; or else the parts of that ELF file cannot be loaded
 abbrev pub IsRefused : List ℕ → ProgramErr → Type 0
 IsRefused image program.TooLong = most_bytes < length image
 IsRefused image (program.Elf error) =

@@ -61,8 +61,7 @@ closing_of limit scripted =
 
 -- the processor was run by the script; the status says how the run finished, and this is the whole report: what was shown of the moves, then the closing lines
 pub record RunsCore (limit : ℕ) (show : Show) (core : Processor) (text : List ℕ)
-    (before after : Streams) (answer : Status) (report : List ℕ) : Type 0 where
-  pub blank : Option (List ℕ)
+    (before after : Streams) (blank : Option (List ℕ)) (answer : Status) (report : List ℕ) : Type 0 where
   pub scripted : ScriptRun limit show core text before after blank
   pub reported : is_report_fault scripted.finish ≡ false
   pub status_is : answer ≡ status_of limit scripted.tally.moves scripted.finish
@@ -75,19 +74,20 @@ pub record LacksProcessor (before after : Streams) (answer : Status) (report : L
   pub streams : after ≡ before
 
 -- what comes of a layout, a hart and a script: the processor of that layout, opened on the hart, was run
-abbrev pub ComesOf : ℕ → Show → Plan → Hart → List ℕ → Streams → Streams → Status → List ℕ → Type 0
-ComesOf limit show plan hart text before after answer report =
-    RunsCore limit show (opened plan hart) text before after answer report
+abbrev pub ComesOf : ℕ → Show → Plan → Hart → List ℕ → Streams → Streams → Option (List ℕ) → Status →
+    List ℕ → Type 0
+ComesOf limit show plan hart text before after blank answer report =
+    RunsCore limit show (opened plan hart) text before after blank answer report
     ⊎ LacksProcessor before after answer report
 
 -- all three files are there, and this comes of them
-pub record RunsProcessor (asked : RunAsked) (before after : Outside) (answer : Status)
-    (report : List ℕ) : Type 0 where
+pub record RunsProcessor (asked : RunAsked) (before after : Outside) (blank : Option (List ℕ))
+    (answer : Status) (report : List ℕ) : Type 0 where
   pub plan : Plan
   pub hart : Hart
   pub text : List ℕ
   pub ready : IsReady asked (files_of before) (files_of after) plan hart text
-  pub comes : ComesOf asked.limit asked.show plan hart text before.streams after.streams answer report
+  pub comes : ComesOf asked.limit asked.show plan hart text before.streams after.streams blank answer report
 
 -- one of them is not, and the streams were left alone
 pub record RefusesRun (asked : RunAsked) (before after : Outside) (answer : Status)
@@ -95,10 +95,10 @@ pub record RefusesRun (asked : RunAsked) (before after : Outside) (answer : Stat
   pub lacks : LacksFile asked (files_of before) (files_of after) answer report
   pub streams : after.streams ≡ before.streams
 
--- the answer of `run` and its report
-abbrev pub AnswersRun : RunAsked → Outside → Outside → Status → List ℕ → Type 0
-AnswersRun asked before after answer report =
-    RunsProcessor asked before after answer report
+-- the answer of `run` and its report, behind what the report told before
+abbrev pub AnswersRun : RunAsked → Outside → Outside → Option (List ℕ) → Status → List ℕ → Type 0
+AnswersRun asked before after blank answer report =
+    RunsProcessor asked before after blank answer report
     ⊎ RefusesRun asked before after answer report
 
 -- the report failed, as the run showed a move, and was put nothing more; or else in the closing lines, behind a front of them

@@ -30,21 +30,21 @@ pub record RefusesWords (index : ℕ) (before after : Outside) (answer : Status)
   pub reports : report ≡ counted_line (codes "bad words at ") index
   pub streams : after.streams ≡ before.streams
 
--- the answer and the whole report, by what the words ask
-abbrev pub Answers : Result Asked ℕ → Outside → Outside → Status → List ℕ → Type 0
-Answers (Ok (machine program limit retired mul)) before after answer report =
+-- the answer and the whole report, behind what it told before, by what the words ask
+abbrev pub Answers : Result Asked ℕ → Outside → Outside → Option (List ℕ) → Status → List ℕ → Type 0
+Answers (Ok (machine program limit retired mul)) before after blank answer report =
     AnswersMachine program (chosen_of limit retired mul) before after answer report
-Answers (Ok (check layout)) before after answer report =
+Answers (Ok (check layout)) before after blank answer report =
     AnswersCheck layout before after answer report
-Answers (Ok (listing program)) before after answer report =
+Answers (Ok (listing program)) before after blank answer report =
     AnswersList program (side_of before) (side_of after) answer report
     × (after.streams.input ≡ before.streams.input)
-Answers (Ok (asm source)) before after answer report =
+Answers (Ok (asm source)) before after blank answer report =
     AnswersAsm source (side_of before) (side_of after) answer report
     × (after.streams.input ≡ before.streams.input)
-Answers (Ok (run layout program script limit lines)) before after answer report =
-    AnswersRun (run_asked layout program script limit lines) before after answer report
-Answers (Err index) before after answer report = RefusesWords index before after answer report
+Answers (Ok (run layout program script limit lines)) before after blank answer report =
+    AnswersRun (run_asked layout program script limit lines) before after blank answer report
+Answers (Err index) before after blank answer report = RefusesWords index before after answer report
 
 -- the report failed at what the command itself put to it
 abbrev pub Breaks : Result Asked ℕ → Outside → Outside → Option (List ℕ) → Option (List ℕ) → Type 0
@@ -69,7 +69,7 @@ pub record Completes (reading : Result Asked ℕ) (before after : Outside) (blan
     (result : Status) : Type 0 where
   pub answer : Status
   pub text : List ℕ
-  pub answers : Answers reading before after answer text
+  pub answers : Answers reading before after blank.written answer text
   pub input : HasCause before.input_faults after.input_faults (input_answered answer)
   pub output : HasCause before.output_faults after.output_faults (output_answered answer)
   pub reports : Reports blank full text answer result

@@ -31,8 +31,11 @@ fn status_of(limit: u64, finish: Finish) -> Status
 }
 
 /// Runs a machine that has retired nothing yet, and puts the lines that it shows.
+// The machine is moved into a local of a function of its own: as nothing but the run points to it, the compiler need not
+// read its parts again after each store to memory.
+#[inline(never)]
 fn run_machine<S: Source, K: Sink, R: Sink>(
-    mut machine: Machine,
+    machine: Machine,
     options: MachineOptions,
     input: &mut S,
     output: &mut K,
@@ -51,8 +54,9 @@ fn run_machine<S: Source, K: Sink, R: Sink>(
     ensures output { HasCause (K.faults output.old) (K.faults output.new) (output_decided result) }
     ensures report { HasCause (R.faults report.old) (R.faults report.new) result }
 {
-    let finish = run(&mut machine, options, input, output, report)?;
-    let closing = closing_page(options.limit, finish, &machine);
+    let mut running = machine;
+    let finish = run(&mut running, options, input, output, report)?;
+    let closing = closing_page(options.limit, finish, &running);
     let status = status_of(options.limit, finish);
     Ok(Answer { status, closing })
 }

@@ -76,7 +76,7 @@ fn run_core<S: Source, K: Sink, R: Sink>(
     ensures runs { Decides
         (RunsCore options.entry.limit (show_of options.entry.show) core.old text.now
         (streams_of (S.left input.old) (K.written output.old))
-        (streams_of (S.left input.new) (K.written output.new)))
+        (streams_of (S.left input.new) (K.written output.new)) (R.written report.old))
         (BreaksCore options.entry.limit (show_of options.entry.show) core.old text.now
         (streams_of (S.left input.old) (K.written output.old))
         (streams_of (S.left input.new) (K.written output.new)) (R.written report.old) (R.written report.new))
@@ -131,7 +131,7 @@ fn run_ready<S: Source, K: Sink, R: Sink>(
     ensures comes { Decides
         (ComesOf options.entry.limit (show_of options.entry.show) ready.layout ready.machine
         (vec_items ready.script) (streams_of (S.left input.old) (K.written output.old))
-        (streams_of (S.left input.new) (K.written output.new)))
+        (streams_of (S.left input.new) (K.written output.new)) (R.written report.old))
         (BreaksCore options.entry.limit (show_of options.entry.show) (opened ready.layout ready.machine)
         (vec_items ready.script) (streams_of (S.left input.old) (K.written output.old))
         (streams_of (S.left input.new) (K.written output.new)) (R.written report.old) (R.written report.new))
@@ -172,7 +172,7 @@ pub fn run_processor<F: Files, S: Source, K: Sink, R: Sink>(
         (outside_of (F.told files.old) (F.faults files.old) (S.left input.old) (S.faults input.old)
         (K.written output.old) (K.faults output.old))
         (outside_of (F.told files.new) (F.faults files.new) (S.left input.new) (S.faults input.new)
-        (K.written output.new) (K.faults output.new)))
+        (K.written output.new) (K.faults output.new)) (R.written report.old))
         (BreaksRun (run_asked (layout_of layout.entry) program.now options.entry.script.now options.entry.limit options.entry.show)
         (outside_of (F.told files.old) (F.faults files.old) (S.left input.old) (S.faults input.old)
         (K.written output.old) (K.faults output.old))

@@ -53,10 +53,10 @@ x28=00000000 x29=00000000 x30=00000000 x31=00000000
 ";
 
 /// addi x10, x0, 7; addi x17, x0, 93; ecall
-const P2: &[u8] = b"\x13\x05\x70\x00\x93\x08\xd0\x05\x73\x00\x00\x00";
+const SEVEN_IMAGE: &[u8] = b"\x13\x05\x70\x00\x93\x08\xd0\x05\x73\x00\x00\x00";
 
 /// addi x6, x0, 6; addi x7, x0, 7; mul x10, x6, x7; addi x17, x0, 93; ecall
-const P6: &[u8] =
+const PRODUCT_IMAGE: &[u8] =
     b"\x13\x03\x60\x00\x93\x03\x70\x00\x33\x05\x73\x02\x93\x08\xd0\x05\x73\x00\x00\x00";
 
 /// One call of the top call over files in memory, of which the only one is called `p`.
@@ -69,7 +69,8 @@ struct Call<'a> {
     report_fails: &'a [u64],
 }
 
-/// What it comes to: the process's status, the beginning and the end of the report, and the output.
+/// What it comes to: the process's status, the beginning and the end of the report, which are the whole report where they
+/// are the same, and the output.
 #[derive(Drop)]
 struct Wanted<'a> {
     code: u8,
@@ -117,6 +118,9 @@ fn check(rt: &(impl Abort + AllocGlobal), call: &Call, wanted: &Wanted) -> Resul
         "{}",
         wanted.ends
     );
+    if wanted.begins == wanted.ends {
+        assert_eq!(rt; report.bytes(), wanted.begins.as_bytes());
+    }
     assert_eq!(rt; output.bytes(), wanted.output);
     Ok(())
 }
@@ -161,7 +165,7 @@ const WRITE_FAULT: u8 = 129;
 #[test]
 fn runs_flat_images(rt: HostRuntime) -> Result<(), Fail> {
     let cases = [
-        (P2, 7, "exit 7\nretired 2\n", SEVEN),
+        (SEVEN_IMAGE, 7, "exit 7\nretired 2\n", SEVEN),
         (
             b"".as_slice(),
             TRAP,
@@ -197,7 +201,7 @@ fn runs_flat_images(rt: HostRuntime) -> Result<(), Fail> {
             START,
         ),
         (
-            P6,
+            PRODUCT_IMAGE,
             TRAP,
             "trap 2 at 00010008 detail 02730533\nretired 2\n",
             "",
@@ -219,7 +223,7 @@ retired 2
     check_machine(
         &rt,
         &["machine", "p", "--limit", "2"],
-        P2,
+        SEVEN_IMAGE,
         LIMIT,
         "limit 2\nretired 2\n",
         SEVEN,
@@ -227,7 +231,7 @@ retired 2
     check_machine(
         &rt,
         &["machine", "p", "--limit", "0"],
-        P2,
+        SEVEN_IMAGE,
         LIMIT,
         "limit 0\nretired 0\n",
         START,
@@ -235,7 +239,7 @@ retired 2
     check_machine(
         &rt,
         &["machine", "p", "--limit", "3"],
-        P2,
+        SEVEN_IMAGE,
         7,
         "exit 7\nretired 2\n",
         SEVEN,
@@ -243,7 +247,7 @@ retired 2
     check_machine(
         &rt,
         &["machine", "p", "--show", "retired"],
-        P2,
+        SEVEN_IMAGE,
         7,
         shown,
         SEVEN,
@@ -251,7 +255,7 @@ retired 2
     check_machine(
         &rt,
         &["machine", "p", "--show", "report"],
-        P2,
+        SEVEN_IMAGE,
         7,
         "exit 7\nretired 2\n",
         SEVEN,
@@ -259,7 +263,7 @@ retired 2
     check_machine(
         &rt,
         &["machine", "p", "--mul"],
-        P6,
+        PRODUCT_IMAGE,
         42,
         "exit 42\nretired 4\n",
         "",

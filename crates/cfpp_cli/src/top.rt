@@ -69,9 +69,12 @@ fn decide<F: Files, S: Source, K: Sink, R: Sink>(
 /// 0x00010000 in one region that may be read, written and executed, and begins there; a zeroed stack of 1 MiB
 /// stands at 0x7f000000. `--limit N` sets the retired instructions at which the run stops, 10,000,000 without
 /// it; `--show retired` puts a line to the report for each instruction as it retires, and `--show report`,
-/// which is the default, none; with `--mul` the machine multiplies and divides. `input` and `output` are the
-/// program's own. The report closes with how the run finished, how many instructions retired, and what the
-/// registers hold; where nothing was run, it is one line that says why, and after `check` it is empty. After a report that failed nothing
+/// which is the default, none; under `run`, `--show moves` puts each move with the picture behind it; with `--mul`
+/// the machine multiplies and divides. `input` and `output` are the program's own.
+///
+/// The report closes with how the run finished, how many instructions retired, and what the registers hold; after
+/// `run` the counts of its moves and the picture stand there too. Where nothing was run it is one line that says
+/// why, and after `check`, `list` and `asm` that were carried out it is empty. After a report that failed nothing
 /// more is put to it, and the status is `WriteFault`.
 pub fn cfpp<F: Files, S: Source, K: Sink, R: Sink>(
     alloc: Global,
