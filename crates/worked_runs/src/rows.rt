@@ -1,4 +1,6 @@
-//! Runs that were worked out by hand from the table of moves, with the reports that close them.
+//! Runs by the table of moves, with the reports that close them. States and bars were worked out by hand; the counts
+//! and the pictures that go beyond them come from a second model of the table, which was written apart from this
+//! program.
 
 /// A run of a flat image under a script, and what it comes to.
 #[derive(Clone, Copy)]
