@@ -2,9 +2,9 @@
 use Rattle.std.specs.Prelude.{ℕ, List, [], ◌++◌, codes, decimal}
 use Rattle.cf_bind.specs.declared.moves.Bar.{Bar}
 use Rattle.cf_bind.specs.declared.moves.Bar.TheVariants as bar
-use Rattle.cf_sched.specs.declared.refusal.ScriptErr.{ScriptErr}
-use Rattle.cf_sched.specs.declared.refusal.ScriptKind.{ScriptKind}
-use Rattle.cf_sched.specs.declared.refusal.ScriptKind.TheVariants as script
+use Rattle.cf_scripts.specs.declared.refusal.ScriptErr.{ScriptErr}
+use Rattle.cf_scripts.specs.declared.refusal.ScriptKind.{ScriptKind}
+use Rattle.cf_scripts.specs.declared.refusal.ScriptKind.TheVariants as script
 use Rattle.cf_texts.specs.Texts.{line, counted_line, trap_line, register_name}
 use Rattle.cf_run.specs.declared.answer.Ran.{Ran as Answer}
 use Rattle.cf_run.specs.declared.answer.Ran.TheVariants as ran

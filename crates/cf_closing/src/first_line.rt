@@ -7,7 +7,7 @@ ghost use Rattle.cf_closing.specs.Lines.{bar_text, script_text, place_in_script,
 
 use cf_bind::Bar;
 use cf_run::{Ran, Scripted};
-use cf_sched::{ScriptErr, ScriptKind};
+use cf_scripts::{ScriptErr, ScriptKind};
 use cf_texts::Page;
 
 /// What bars a move: its name, and the register of a source without a value.

@@ -6,7 +6,7 @@ use cf_core::Core;
 use cf_io::{Empty, MemSink, Nowhere};
 use cf_report::Tally;
 use cf_run::{Ran, Scripted, Show, run_script};
-use cf_sched::{Script, ScriptErr, ScriptKind};
+use cf_scripts::{Script, ScriptErr, ScriptKind};
 use cf_texts::Page;
 use layout_file::read_layout;
 use mem_regions::{Part, Regions};

@@ -13,7 +13,7 @@ use Rattle.cf_bind.specs.declared.passenger.Guess.TheVariants as guess
 use Rattle.cf_semantics.specs.Options.{is_some, on}
 use Rattle.cf_semantics.specs.State.{State, cell_at, siding_at}
 use Rattle.cf_semantics.specs.Bars.{bar, row_bar, slide_bar}
-use Rattle.cf_semantics.specs.Policies.{all_moves, at_stages, candidates, counted_from, held_back, other_moves, slides_from}
+use Rattle.cf_semantics.specs.Candidates.{all_moves, at_stages, candidates, counted_from, held_back, other_moves, slides_from}
 use Rattle.cf_semantics.specs.Weight.{is_issue}
 use Rattle.cf_semantics.specs.Drained.{IsStuck}
 use Rattle.cf_refinement.proofs.Kept.{bar_row}

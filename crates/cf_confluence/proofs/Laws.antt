@@ -20,7 +20,7 @@ use Rattle.cf_refinement.proofs.Accepted.{accepted_suits}
 use Rattle.cf_refinement.proofs.Runs.{holds_after}
 use Rattle.cf_confluence.proofs.Apart.{all_retired, first_move, run_keeps}
 use Rattle.cf_confluence.proofs.Bound.{bounded_drain, bounded_run, costs, sound_at}
-use Rattle.cf_semantics.specs.Policies.{candidates, held_back}
+use Rattle.cf_semantics.specs.Candidates.{candidates, held_back}
 use Rattle.cf_confluence.proofs.Candidates.{HasShape, has_some, held_stuck as candidates_held, some_pick as candidates_there}
 use Rattle.cf_confluence.proofs.Confluent.{agree, halted_alike, kept_true}
 use Rattle.cf_confluence.proofs.Determined.{ends_as}

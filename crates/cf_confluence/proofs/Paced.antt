@@ -19,7 +19,7 @@ use Rattle.cf_semantics.specs.Bars.{bar}
 use Rattle.cf_semantics.specs.Events.{IsEvent, IsLeaving, meeting_event}
 use Rattle.cf_semantics.specs.Moves.{left, moved, next}
 use Rattle.cf_semantics.specs.Paced.{IsPaced}
-use Rattle.cf_semantics.specs.Policies.{is_held, is_retirement, paced}
+use Rattle.cf_semantics.specs.Holding.{is_held, is_retirement, paced}
 use Rattle.cf_semantics.specs.Refines.{gained}
 use Rattle.cf_semantics.specs.Runs.{IsRun, opened, run, start}
 use Rattle.cf_semantics.specs.Weight.{counts, is_issue, issues, moves_per_issue}

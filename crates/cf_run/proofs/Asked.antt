@@ -6,7 +6,7 @@ use Rattle.cf_bind.specs.declared.moves.Move.{Move}
 use Rattle.cf_semantics.specs.Moves.{next}
 use Rattle.cf_semantics.specs.State.{State, Moment}
 use Rattle.cf_core.specs.Processors.{Processor}
-use Rattle.cf_sched.specs.Scripts.{next_of}
+use Rattle.cf_scripts.specs.Scripts.{next_of}
 use Rattle.cf_run.specs.declared.show.Show.{Show}
 use Rattle.cf_run.specs.Made.{Made}
 use Rattle.cf_run.specs.Going.{moment_of, Leads}

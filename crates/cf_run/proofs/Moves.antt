@@ -17,7 +17,7 @@ use Rattle.cf_run.specs.declared.show.Show.{Show}
 use Rattle.cf_run.specs.Made.{counted, shown}
 use Rattle.cf_run.specs.Moving.{Place, place_of, MakesOne, MakesAndShows, MakesUnshown, Does}
 use Rattle.cf_run.specs.Scripts.{Stand, GoesOn, Stops, Turns}
-use Rattle.cf_sched.specs.Scripts.{next_of, behind_next}
+use Rattle.cf_scripts.specs.Scripts.{next_of, behind_next}
 
 -- the move was made and counted
 made : (mv : Move) (now new : Place) (e : Event) → Steps now.core new.core mv now.streams new.streams (step.Moved e) → new.tally ≡ counted now.tally mv e → MakesOne mv now new

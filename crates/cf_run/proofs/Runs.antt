@@ -17,8 +17,8 @@ use Rattle.cf_semantics.specs.State.{State, Moment}
 use Rattle.cf_core.specs.Processors.{Processor, in_state}
 use Rattle.cf_core.specs.Stepping.{Makes}
 use Rattle.cf_report.specs.declared.tally.Tally.{Tally}
-use Rattle.cf_sched.specs.Scripts.{Told, next_of, first_of, behind_next}
-use Rattle.cf_sched.specs.declared.refusal.ScriptErr.{ScriptErr}
+use Rattle.cf_scripts.specs.Scripts.{Told, next_of, first_of, behind_next}
+use Rattle.cf_scripts.specs.declared.refusal.ScriptErr.{ScriptErr}
 use Rattle.cf_run.specs.declared.show.Show.{Show}
 use Rattle.cf_run.specs.Made.{Made, moves_of, is_meeting, is_killed, is_died, tally_of, raised_if, counted, shown, all_shown}
 use Rattle.cf_run.specs.Going.{moment_of, Finds, IsMade, Leads, RunsTo}

@@ -12,7 +12,7 @@ use Rattle.cf_semantics.specs.Determined.{Drains, EndAlike, EndsAs}
 use Rattle.cf_semantics.specs.Drained.{IsStuck}
 use Rattle.cf_semantics.specs.Moves.{next}
 use Rattle.cf_semantics.specs.Options.{is_some}
-use Rattle.cf_semantics.specs.Policies.{all_moves, candidates, other_moves}
+use Rattle.cf_semantics.specs.Candidates.{all_moves, candidates, other_moves}
 use Rattle.cf_semantics.specs.Runs.{IsRun, run, start}
 use Rattle.cf_semantics.specs.State.{State, Moment}
 use Rattle.cf_semantics.specs.Weight.{counts, is_issue, moves_per_issue, weight}

@@ -5,7 +5,7 @@ use Rattle.cf_bind.specs.declared.moves.Move.{Move}
 use Rattle.cf_semantics.specs.State.{State}
 use Rattle.cf_core.specs.Processors.{Processor}
 use Rattle.cf_core.specs.Asking.{AsksInput, AsksOutput}
-use Rattle.cf_sched.specs.Scripts.{Told, next_of}
+use Rattle.cf_scripts.specs.Scripts.{Told, next_of}
 use Rattle.cf_run.specs.declared.answer.Scripted.{Scripted}
 use Rattle.cf_run.specs.declared.show.Show.{Show}
 use Rattle.cf_run.specs.Made.{Made}

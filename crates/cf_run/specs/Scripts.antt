@@ -7,7 +7,7 @@ use Rattle.cf_bind.specs.declared.passenger.End.TheVariants as ending
 use Rattle.cf_semantics.specs.State.{State, Moment}
 use Rattle.cf_core.specs.Processors.{in_state}
 use Rattle.cf_report.specs.declared.tally.Tally.{Tally}
-use Rattle.cf_sched.specs.Scripts.{Told, next_of, behind_next}
+use Rattle.cf_scripts.specs.Scripts.{Told, next_of, behind_next}
 use Rattle.cf_run.specs.declared.answer.Ran.{Ran as Answer}
 use Rattle.cf_run.specs.declared.answer.Ran.TheVariants as ran
 use Rattle.cf_run.specs.declared.answer.Scripted.{Scripted}

@@ -18,7 +18,7 @@ use cf_bind::End;
 use cf_core::Core;
 use cf_io::{Sink, Source};
 use cf_report::Tally;
-use cf_sched::Script;
+use cf_scripts::Script;
 
 /// Why the run is over, if it is.
 #[inline(always)]

@@ -4,7 +4,7 @@ use cf_bind::Bar;
 use cf_core::Core;
 use cf_io::{Empty, MemSink, Nowhere};
 use cf_report::{Tally, put_picture, put_tally};
-use cf_sched::{Script, ScriptErr, ScriptKind};
+use cf_scripts::{Script, ScriptErr, ScriptKind};
 use layout_file::read_layout;
 use mem_regions::{Part, Regions};
 use rv_machine::Machine;

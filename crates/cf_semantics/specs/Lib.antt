@@ -23,7 +23,8 @@ pub mod Refines
 pub mod Heeds
 pub mod Events
 pub mod Kept
-pub mod Policies
+pub mod Candidates
+pub mod Holding
 pub mod Places
 pub mod Soundness
 pub mod SoundAfter

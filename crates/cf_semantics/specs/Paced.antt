@@ -9,7 +9,7 @@ use Rattle.cf_semantics.specs.Moves.{next}
 use Rattle.cf_semantics.specs.Events.{IsEvent}
 use Rattle.cf_semantics.specs.Weight.{is_issue}
 use Rattle.cf_semantics.specs.Drained.{IsStuck, is_drained}
-use Rattle.cf_semantics.specs.Policies.{is_held, paced}
+use Rattle.cf_semantics.specs.Holding.{is_held, paced}
 
 -- with so many Issue moves counted before the first of the moves: each is allowed where it is made, and while the candidates are held none is an Issue unless no other move is allowed
 unfoldable pub IsPaced : Plan → ℕ → Moment → List Move → Type 0

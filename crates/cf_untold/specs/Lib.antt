@@ -1,3 +1,4 @@
 pub mod Anew
 pub mod Clear
 pub mod Invariant
+pub mod Paced

@@ -13,7 +13,7 @@ use Rattle.cf_run.specs.declared.answer.Scripted.{Scripted}
 use Rattle.cf_run.specs.declared.answer.Scripted.TheVariants.{Ran, ScriptEnd, BadScript, BarredAt}
 use Rattle.cf_run.specs.declared.show.Show.{Show}
 use Rattle.cf_report.specs.declared.tally.Tally.{Tally}
-use Rattle.cf_sched.specs.Scripts.{Told}
+use Rattle.cf_scripts.specs.Scripts.{Told}
 use Rattle.cf_run.specs.Headline.{RunsSequentially}
 use Rattle.cf_run.specs.Made.{all_shown}
 use Rattle.cf_run.specs.Moving.{Place, place_of, Does}

@@ -7,7 +7,7 @@ use Rattle.cf_texts.specs.Texts.{line}
 use Rattle.cf_layout.specs.Layout.{Plan}
 use Rattle.cf_core.specs.Processors.{Processor, opened}
 use Rattle.cf_report.specs.declared.tally.Tally.{Tally}
-use Rattle.cf_sched.specs.Scripts.{Told, script_of}
+use Rattle.cf_scripts.specs.Scripts.{Told, script_of}
 use Rattle.cf_run.specs.declared.answer.Ran.TheVariants as ran
 use Rattle.cf_run.specs.declared.answer.Scripted.{Scripted}
 use Rattle.cf_run.specs.declared.answer.Scripted.TheVariants.{Ran, ScriptEnd, BadScript, BarredAt}

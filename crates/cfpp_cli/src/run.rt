@@ -20,7 +20,7 @@ use cf_core::Core;
 use cf_io::{Failed, Files, Sink, Source};
 use cf_report::Tally;
 use cf_run::{Ran, Scripted, Show, run_script};
-use cf_sched::Script;
+use cf_scripts::Script;
 use cf_texts::Page;
 use cf_words::{LayoutWord, RunOptions, Show as ShowWord};
 use std::alloc::Global;

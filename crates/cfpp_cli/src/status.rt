@@ -1,7 +1,7 @@
 ghost use Rattle.std.specs.Prelude.{◌≡◌};
 
 use cf_bind::Bar;
-use cf_sched::ScriptErr;
+use cf_scripts::ScriptErr;
 use elf_view::ElfErr;
 use layout_file::FileErr;
 use mem_regions::LoadErr;

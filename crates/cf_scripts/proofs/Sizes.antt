@@ -6,7 +6,7 @@ use Rattle.cf_bind.specs.declared.passenger.Guess.TheVariants as guess
 use Rattle.cf_bind.specs.declared.moves.Move.{Move}
 use Rattle.cf_bind.specs.declared.moves.Move.TheVariants.{Issue, Emit, Climb, Fall, Meet, Execute, Send, Launch, Slide, Access, Recover, Leave, Exit, Serve}
 use Rattle.cf_bind.specs.MoveTexts.{at_stage, move_line}
-use Rattle.cf_sched.specs.MoveLines.{NumbersBelow}
+use Rattle.cf_scripts.specs.MoveLines.{NumbersBelow}
 
 short : (n : ℕ) → n < 2 ^ 32 → length (decimal n) ≤ 10
 short n h = length-decimal-le 10 n (lit< tt) (omega arith) (omega arith)

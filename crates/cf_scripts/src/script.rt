@@ -1,7 +1,7 @@
 //! A script is read, line by line.
 
 ghost use Rattle.std.specs.Prelude.{◌≡◌, ◌<◌, ◌≤◌, ◌^◌, length};
-ghost use Rattle.cf_sched.specs.Scripts.{is_skipped, script_of, next_of, behind_next};
+ghost use Rattle.cf_scripts.specs.Scripts.{is_skipped, script_of, next_of, behind_next};
 
 use crate::reading::read_move;
 use crate::refusal::ScriptErr;
@@ -24,7 +24,7 @@ pub struct Script<'a> {
 impl<'a> Model for Script<'a> {
     ghost use Rattle.std.specs.Prelude.{◌+◌, ◌≤◌, length};
     ghost use Rattle.rv_text.specs.Lines.{text_lines};
-    ghost use Rattle.cf_sched.specs.Scripts.{Told, told_from};
+    ghost use Rattle.cf_scripts.specs.Scripts.{Told, told_from};
 
     ghost Value = { Told };
 

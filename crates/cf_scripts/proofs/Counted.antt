@@ -6,9 +6,9 @@ use Rattle.std.proofs.lemmas.List.Splits.{length-slice_split}
 use Rattle.std.proofs.lemmas.List.Sums.{count_by-le-length}
 use Rattle.rv_text.specs.Lines.{is_line_feed, lines_from, lines_of_pieces, text_lines}
 use Rattle.cf_bind.specs.declared.moves.Move.{Move}
-use Rattle.cf_sched.specs.declared.refusal.ScriptKind.{ScriptKind}
-use Rattle.cf_sched.specs.MoveLines.{move_in}
-use Rattle.cf_sched.specs.Scripts.{Told, is_skipped, told_by, told_from}
+use Rattle.cf_scripts.specs.declared.refusal.ScriptKind.{ScriptKind}
+use Rattle.cf_scripts.specs.MoveLines.{move_in}
+use Rattle.cf_scripts.specs.Scripts.{Told, is_skipped, told_by, told_from}
 
 told-one : (line n : ℕ) (answer : Result Move ScriptKind) (behind : Told) → length behind.moves ≤ n → length (told_by line answer behind).moves ≤ n + 1
 told-one line n (Ok mv) behind h = omega arith

@@ -3,7 +3,7 @@
 
 ghost use Rattle.std.specs.Prelude.{◌≡◌, ◌<◌, ◌^◌};
 ghost use Rattle.cf_bind.specs.MoveTexts.{move_line};
-ghost use Rattle.cf_sched.specs.MoveLines.{NumbersBelow};
+ghost use Rattle.cf_scripts.specs.MoveLines.{NumbersBelow};
 
 use cf_bind::{Guess, Move, MoveLine, move_text};
 use rv_text::TextLine;

@@ -1,6 +1,6 @@
 //! The kinds of moves by their names.
 ghost use Rattle.std.specs.Prelude.{◌≡◌};
-ghost use Rattle.cf_sched.specs.Kinds.{name_of, kind_named};
+ghost use Rattle.cf_scripts.specs.Kinds.{name_of, kind_named};
 
 /// A move without its numbers and its guess: what the first word of its line tells.
 #[derive(Clone, Copy)]

@@ -3,10 +3,10 @@ use Rattle.std.specs.Prelude.{ℕ, ◌+◌, ◌==◌, ◌||◌, Bool, Option, So
 use Rattle.std.specs.List.{starts_with}
 use Rattle.rv_text.specs.Lines.{text_lines}
 use Rattle.cf_bind.specs.declared.moves.Move.{Move}
-use Rattle.cf_sched.specs.declared.refusal.ScriptKind.{ScriptKind}
-use Rattle.cf_sched.specs.declared.refusal.ScriptErr.{ScriptErr}
-use Rattle.cf_sched.specs.Words.{words_of}
-use Rattle.cf_sched.specs.MoveLines.{move_in}
+use Rattle.cf_scripts.specs.declared.refusal.ScriptKind.{ScriptKind}
+use Rattle.cf_scripts.specs.declared.refusal.ScriptErr.{ScriptErr}
+use Rattle.cf_scripts.specs.Words.{words_of}
+use Rattle.cf_scripts.specs.MoveLines.{move_in}
 
 -- the moves of a script in order, each behind the number of its line, up to the first line that tells none, and that line's refusal
 pub record Told : Type 0 where

@@ -2,7 +2,7 @@
 #![tactic(auto, unfolding(crate::specs::MoveLines::guess_read, crate::specs::MoveLines::move_read))]
 
 ghost use Rattle.std.specs.Prelude.{◌≡◌};
-ghost use Rattle.cf_sched.specs.MoveLines.{is_ascii, guess_read, kind_read, move_read, words_read, move_in, Reads};
+ghost use Rattle.cf_scripts.specs.MoveLines.{is_ascii, guess_read, kind_read, move_read, words_read, move_in, Reads};
 
 use crate::kind::Kind;
 use crate::refusal::ScriptKind;

@@ -1,7 +1,7 @@
 use Rattle.std.proofs.Common.{◌≡◌, ◌+◌, ◌≤◌, length}
 use Rattle.rv_text.specs.Lines.{text_lines}
-use Rattle.cf_sched.specs.Scripts.{told_from}
-use Rattle.cf_sched.proofs.script.Script.next.Given as goal
+use Rattle.cf_scripts.specs.Scripts.{told_from}
+use Rattle.cf_scripts.proofs.script.Script.next.Given as goal
 
 -- what the lines that are left tell is what the script tells
 abbrev pub invariant-loop-self : goal.invariant-loop-self

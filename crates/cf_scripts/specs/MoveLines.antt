@@ -6,12 +6,12 @@ use Rattle.cf_bind.specs.declared.passenger.Guess.{Guess}
 use Rattle.cf_bind.specs.declared.passenger.Guess.TheVariants as guess
 use Rattle.cf_bind.specs.declared.moves.Move.{Move}
 use Rattle.cf_bind.specs.declared.moves.Move.TheVariants.{Issue, Emit, Climb, Fall, Meet, Execute, Send, Launch, Slide, Access, Recover, Leave, Exit, Serve}
-use Rattle.cf_sched.specs.declared.refusal.ScriptKind.{ScriptKind}
-use Rattle.cf_sched.specs.declared.refusal.ScriptKind.TheVariants.{UnknownMove, ExtraWords, NotAscii}
-use Rattle.cf_sched.specs.declared.kind.Kind.{Kind}
-use Rattle.cf_sched.specs.declared.kind.Kind.TheVariants as kind
-use Rattle.cf_sched.specs.Kinds.{kind_named}
-use Rattle.cf_sched.specs.Words.{words_of, first_word, first_number, first_address}
+use Rattle.cf_scripts.specs.declared.refusal.ScriptKind.{ScriptKind}
+use Rattle.cf_scripts.specs.declared.refusal.ScriptKind.TheVariants.{UnknownMove, ExtraWords, NotAscii}
+use Rattle.cf_scripts.specs.declared.kind.Kind.{Kind}
+use Rattle.cf_scripts.specs.declared.kind.Kind.TheVariants as kind
+use Rattle.cf_scripts.specs.Kinds.{kind_named}
+use Rattle.cf_scripts.specs.Words.{words_of, first_word, first_number, first_address}
 
 -- the first refusal, or what the second step makes of the first one's answer
 abbrev pub and_then : {A B : Type 0} → Result A ScriptKind → (A → Result B ScriptKind) → Result B ScriptKind

@@ -14,9 +14,9 @@ use Rattle.rv_text.specs.Numbers.{numeral}
 use Rattle.rv_text.specs.Writing.{hex8 as text_hex8}
 use Rattle.rv_text.proofs.Written.{numeral-digits, decimal_read, hex8_digits, hex8_value}
 use Rattle.cf_bind.specs.MoveTexts.{hex8}
-use Rattle.cf_sched.specs.Words.{is_word, words_of, address_in}
-use Rattle.cf_sched.specs.MoveLines.{is_ascii}
-use Rattle.cf_sched.proofs.WordCuts.{words-at}
+use Rattle.cf_scripts.specs.Words.{is_word, words_of, address_in}
+use Rattle.cf_scripts.specs.MoveLines.{is_ascii}
+use Rattle.cf_scripts.proofs.WordCuts.{words-at}
 
 -- a byte that a word of a line may have: no blank, and none above 127
 abbrev pub is_letter : ℕ → Bool

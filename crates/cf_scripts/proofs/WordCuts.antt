@@ -11,7 +11,7 @@ use Rattle.std.proofs.lemmas.List.Sums.{suffix_len-take_yes, suffix_len-take_no}
 use Rattle.std.proofs.lemmas.Bool.Decides.{nat_tests}
 use Rattle.rv_text.specs.Pieces.{is_blank, without_front, without_end, trimmed, name_part, operand_part}
 use Rattle.rv_text.proofs.Cuts.{first_piece}
-use Rattle.cf_sched.specs.Words.{is_word, words_of, first_word}
+use Rattle.cf_scripts.specs.Words.{is_word, words_of, first_word}
 
 -- what is put onto the first part stays there when parts are put behind
 onto_first-append : (x : ℕ) (parts more : List (List ℕ)) → 0 < length parts → onto_first x (parts ++ more) ≡ onto_first x parts ++ more

@@ -1,7 +1,7 @@
 //! The words of a line.
 
 ghost use Rattle.std.specs.Prelude.{◌≡◌, ◌==◌, length, drop};
-ghost use Rattle.cf_sched.specs.Words.{words_of, first_word, first_number, first_address};
+ghost use Rattle.cf_scripts.specs.Words.{words_of, first_word, first_number, first_address};
 
 use crate::refusal::ScriptKind;
 use rv_text::{numeral, split_name, trim};
@@ -15,7 +15,7 @@ pub struct Words<'a> {
 
 impl<'a> Model for Words<'a> {
     ghost use Rattle.std.specs.Prelude.{ℕ, List};
-    ghost use Rattle.cf_sched.specs.Words.{words_of};
+    ghost use Rattle.cf_scripts.specs.Words.{words_of};
 
     ghost Value = { List (List ℕ) };
 

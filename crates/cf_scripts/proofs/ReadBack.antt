@@ -5,10 +5,10 @@ use Rattle.cf_bind.specs.declared.passenger.Guess.TheVariants as guess
 use Rattle.cf_bind.specs.declared.moves.Move.{Move}
 use Rattle.cf_bind.specs.declared.moves.Move.TheVariants.{Issue, Emit, Climb, Fall, Meet, Execute, Send, Launch, Slide, Access, Recover, Leave, Exit, Serve}
 use Rattle.cf_bind.specs.MoveTexts.{hex8, at_stage as stage_text, move_line}
-use Rattle.cf_sched.specs.Kinds.{kind_named}
-use Rattle.cf_sched.specs.Words.{first_number, first_address}
-use Rattle.cf_sched.specs.MoveLines.{NumbersBelow, and_then, guess_read, at_stage, move_read, words_read, closed, move_in}
-use Rattle.cf_sched.proofs.Written.{IsWord, Says, says-word, says-append, decimal-word, decimal-spells, address-word, address-spells}
+use Rattle.cf_scripts.specs.Kinds.{kind_named}
+use Rattle.cf_scripts.specs.Words.{first_number, first_address}
+use Rattle.cf_scripts.specs.MoveLines.{NumbersBelow, and_then, guess_read, at_stage, move_read, words_read, closed, move_in}
+use Rattle.cf_scripts.proofs.Written.{IsWord, Says, says-word, says-append, decimal-word, decimal-spells, address-word, address-spells}
 
 -- a line is read by its words
 by_words : (line : List ℕ) (words : List (List ℕ)) → Says line words → move_in line ≡ words_read words

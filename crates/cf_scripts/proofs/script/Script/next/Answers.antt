@@ -1,6 +1,6 @@
 use Rattle.std.proofs.Common.{◌≡◌, length, rules}
-use Rattle.cf_sched.proofs.Ends.{next-ended, left-ended}
-use Rattle.cf_sched.proofs.script.Script.next.Goals as goal
+use Rattle.cf_scripts.proofs.Ends.{next-ended, left-ended}
+use Rattle.cf_scripts.proofs.script.Script.next.Goals as goal
 
 pub returns-clause-next : goal.returns-clause-next
 returns-clause-next c =

@@ -3,8 +3,8 @@ use Rattle.std.specs.Prelude.{ℕ, ◌==◌, Bool, true, false, Option, Some, No
 use Rattle.std.specs.List.{filter, slice_split}
 use Rattle.rv_text.specs.Pieces.{is_blank}
 use Rattle.rv_text.specs.Numbers.{numeral}
-use Rattle.cf_sched.specs.declared.refusal.ScriptKind.{ScriptKind}
-use Rattle.cf_sched.specs.declared.refusal.ScriptKind.TheVariants.{BadNumber}
+use Rattle.cf_scripts.specs.declared.refusal.ScriptKind.{ScriptKind}
+use Rattle.cf_scripts.specs.declared.refusal.ScriptKind.TheVariants.{BadNumber}
 
 -- a piece with something in it
 abbrev pub is_word : List ℕ → Bool

@@ -2,7 +2,7 @@
 use Rattle.std.proofs.Common.{◌≡◌, ℕ, List, [], length, sym, ◌∙◌, ap, None, Ok}
 use Rattle.rv_text.specs.Lines.{text_lines}
 use Rattle.rv_text.proofs.LineCuts.{no_lines}
-use Rattle.cf_sched.specs.Scripts.{Told, told_from, next_of, behind_next}
+use Rattle.cf_scripts.specs.Scripts.{Told, told_from, next_of, behind_next}
 
 ended : (above : ℕ) (text : List ℕ) (told : Told) → length text ≡ 0 → told_from above (text_lines text) ≡ told
     → told ≡ record { moves = []; refused = None }

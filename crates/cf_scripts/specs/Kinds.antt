@@ -2,8 +2,8 @@
 use Rattle.std.specs.Prelude.{ℕ, Option, List, [], ◌∷◌, codes}
 use Rattle.std.specs.List.{find}
 use Rattle.std.specs.Str.{bytes_eq}
-use Rattle.cf_sched.specs.declared.kind.Kind.{Kind}
-use Rattle.cf_sched.specs.declared.kind.Kind.TheVariants.{Issue, Emit, Climb, Fall, Meet, Execute, Send, Launch, Slide, Access, Recover, Leave, Exit, Serve}
+use Rattle.cf_scripts.specs.declared.kind.Kind.{Kind}
+use Rattle.cf_scripts.specs.declared.kind.Kind.TheVariants.{Issue, Emit, Climb, Fall, Meet, Execute, Send, Launch, Slide, Access, Recover, Leave, Exit, Serve}
 
 -- the first word of the lines of a kind
 abbrev pub name_of : Kind → List ℕ

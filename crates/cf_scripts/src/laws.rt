@@ -2,7 +2,7 @@
 ghost use Rattle.std.specs.Prelude.{◌≡◌, ◌^◌, Ok};
 ghost use Rattle.cf_bind.specs.declared.moves.Move.{Move as AnyMove};
 ghost use Rattle.cf_bind.specs.MoveTexts.{move_line};
-ghost use Rattle.cf_sched.specs.MoveLines.{NumbersBelow, move_in};
+ghost use Rattle.cf_scripts.specs.MoveLines.{NumbersBelow, move_in};
 
 /// The line of a move, read again, tells that move, where each number of a stage, a siding or a cell has at most
 /// nine digits.
