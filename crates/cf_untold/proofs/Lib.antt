@@ -7,3 +7,5 @@ pub mod Rechosen
 pub mod Goes
 pub mod Theorems
 pub mod Bounded
+pub mod Offered
+pub mod Pacing
