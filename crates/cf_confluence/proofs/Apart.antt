@@ -33,9 +33,9 @@ use Rattle.cf_refinement.proofs.Fold.{walk-append, walk_follows}
 use Rattle.cf_refinement.proofs.Fresh.{fresh_is}
 use Rattle.cf_refinement.proofs.Issue.{Issues, issue_ready, next-issue}
 use Rattle.cf_refinement.proofs.Kept.{bar_row}
+use Rattle.cf_refinement.proofs.Level.{empty_column}
 use Rattle.cf_refinement.proofs.Runs as runs
 use Rattle.cf_confluence.proofs.Bound.{costs, sound_at}
-use Rattle.cf_confluence.proofs.Confluent.{empty_column}
 use Rattle.cf_confluence.proofs.Determined.{EndsSo, GoesSo, Total, one_machine, so_kept}
 use Rattle.cf_confluence.proofs.Right.{Fits, Follows, way_walk}
 use Rattle.cf_confluence.proofs.Ways.{fits_way}

@@ -59,7 +59,7 @@ sound_here plan x m level h unended =
 pub refines_held : (plan : Plan) (x : Machine) (m : Moment) → IsAccepted plan → HoldsAfter plan x m → m.state.retired ≡ x.hart.retired → Refines plan x [] m
 refines_held plan x m accepted h level =
     let none : gained x m.state ≡ 0 = omega (arith, level) in
-    refined plan x [] m h.machine (accepted_suits plan accepted) (sym (ap (sequence (isa_of plan) x) none ∙ unfold sequence in refl)) (after_gained plan x m h) m.state.ending refl h.stage
+    refined plan x [] m h.machine (accepted_suits plan accepted) (omega (arith, level)) (sym (ap (sequence (isa_of plan) x) none ∙ unfold sequence in refl)) (after_gained plan x m h) m.state.ending refl h.stage
 
 -- the lines of a move that is made where nothing has retired since
 one_move : (plan : Plan) (x : Machine) (m : Moment) (mv : Move) → Suits plan → bar plan m.state mv ≡ None → m.state.retired ≡ x.hart.retired → HoldsAfter plan x m → (k : HoldsAfter plan x (next plan m mv)) → sequence (isa_of plan) x k.gained ≡ retires plan m.state mv
@@ -172,4 +172,4 @@ holds_anew plan x moves m written accepted wide leads = anew_after plan x (start
 pub refines_anew : (plan : Plan) (x : Machine) (moves : List Move) (m : Moment) (written : List Line) → IsAccepted plan → length x.hart.regs ≡ 32 → LeadsTo plan (start plan x) moves m written → RefinesAnew plan x written m
 refines_anew plan x moves m written accepted wide leads =
     let h : HoldsAnew plan x written m = holds_anew plan x moves m written accepted wide leads in
-    record { at = h.at; goes = h.goes; rest = h.rest; refines = refines_held plan h.at (finding h.rest m) accepted h.held h.level }
+    record { at = h.at; rises = (let c = h.count in omega (arith, c)); goes = h.goes; rest = h.rest; refines = refines_held plan h.at (finding h.rest m) accepted h.held h.level }
