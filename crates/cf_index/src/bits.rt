@@ -1,6 +1,7 @@
 //! Words as sets of small numbers: bit k for number k.
 
-ghost use Rattle.std.specs.Prelude.{◌≡◌, ◌<◌, ◌≤◌, Some, filter, length, nat_lt, slice_get};
+ghost use Rattle.std.specs.Prelude.{◌≡◌, ℕ, ◌<◌, ◌≤◌, ◌&&◌, ◌||◌, nat_eq, Some, filter, length, nat_lt, slice_get};
+ghost use Rattle.cf_layout.specs.Words.{has_bit};
 ghost use Rattle.cf_index.specs.Places.{places};
 
 /// How many numbers the word has.
@@ -40,4 +41,24 @@ pub(crate) fn nth(word: u64, i: usize) -> u32
         rest &= rest - 1;
     }
     rest.trailing_zeros()
+}
+
+/// The word of 32 bits with the number k, where it is set.
+#[inline(always)]
+#[tactic(auto, using(crate::proofs::Setting::with_bit_32))]
+pub(crate) fn with_stage(word: u32, k: u32, set: bool) -> u32
+    requires { k < 32 }
+    ensures { (i : ℕ) → has_bit result i ≡ ((nat_eq i k && set) || has_bit word i) }
+{
+    word | (set as u32) << k
+}
+
+/// The word of 64 bits with the number k, where it is set.
+#[inline(always)]
+#[tactic(auto, using(crate::proofs::Setting::with_bit_64))]
+pub(crate) fn with_slide(word: u64, k: u32, set: bool) -> u64
+    requires { k < 64 }
+    ensures { (i : ℕ) → has_bit result i ≡ ((nat_eq i k && set) || has_bit word i) }
+{
+    word | (set as u64) << k
 }

@@ -4,6 +4,8 @@
 mod bits;
 mod candidates;
 mod entering;
+mod fill;
+mod kind;
 mod leaving;
 mod passing;
 
