@@ -2,4 +2,8 @@ pub mod Acting
 pub mod Buffers
 pub mod Calls
 pub mod Classes
+pub mod Finding
+pub mod Keeping
+pub mod Leaving
+pub mod Sets
 pub mod Told

@@ -8,3 +8,4 @@ pub mod After
 pub mod Buffers
 pub mod Faults
 pub mod Acts
+pub mod Decoded

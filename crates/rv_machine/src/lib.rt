@@ -1,6 +1,7 @@
 //! The sequential machine: RV32I or RV32IM, one instruction at a time, and its environment calls.
 #![tactic(auto)]
 
+mod decode_cache;
 mod machine;
 mod outcome;
 mod serving;

@@ -1,27 +1,28 @@
 #![tactic(auto, unfolding(crate::specs::Step::retire, crate::specs::Step::compute, crate::specs::Step::access_memory, crate::specs::Step::pass, crate::specs::Step::synchronize))]
 
-ghost use Rattle.std.specs.Prelude.{◌≡◌, ◌+◌, ◌<◌, ◌^◌, Some, length, slice_index, true, false, IsTrue};
+ghost use Rattle.std.specs.Prelude.{◌≡◌, ◌+◌, ◌<◌, ◌^◌, Some, IfSome, length, slice_index, true, false, IsTrue};
 ghost use Rattle.cf_io.specs.Causes.{HasCause};
 ghost use Rattle.mem_regions.specs.Access.{IsWidth, bounds_of, permits_at};
 ghost use Rattle.mem_regions.specs.Ranges.{load_at};
-ghost use Rattle.mem_regions.specs.Fetching.{fetch_at};
 ghost use Rattle.rv_inst.specs.Ranges.{Fits};
-ghost use Rattle.rv_inst.specs.Decoding.{decoded_as};
+ghost use Rattle.rv_inst.specs.Decoding.{decoded_as, decoded_m};
 ghost use Rattle.rv_inst.specs.Accesses.{is_load};
 ghost use Rattle.rv_inst.specs.Operands.{class_of as class_name};
 ghost use Rattle.rv_mul.specs.Values.{computes};
 ghost use Rattle.rv_machine.specs.Machine.{start_hart};
+ghost use Rattle.rv_machine.specs.Decoded.{IsCacheOf, found_at, base_part};
 ghost use Rattle.rv_machine.specs.Streams.{streams_of};
 ghost use Rattle.rv_machine.specs.Acts.{Acts, Does, Steps, Counts, CallsHere};
 ghost use Rattle.rv_machine.specs.Call.{call, asks_input, asks_output};
 ghost use Rattle.rv_machine.specs.Faults.{input_stepped, output_stepped};
 ghost use Rattle.rv_machine.specs.Step.{with_register, retire as retirement, first_value, second_value, compute as computation, loads, stores, access_memory as memory_access, pass as passing, synchronize as synchronization, environment, serial as serial_step, execute as execution, interpret as interpretation, breaks as is_breaking, synchronizes as is_synchronizing};
 
+use crate::decode_cache::{DecodeCache, Found};
 use crate::outcome::{Retired, Served, Stepped};
 use crate::serving::serve;
 use cf_io::{Sink, Source};
 use mem_regions::{MemErr, Regions};
-use rv_inst::{Access, Class, Instr, Isa, access_of, decode_as, dest, extend, next_of, sources};
+use rv_inst::{Access, Class, Instr, Isa, access_of, dest, extend, next_of, sources};
 use rv_mul::value;
 use std::marker::Model;
 
@@ -32,6 +33,7 @@ pub struct Machine {
     regs: [u32; 32],
     mem: Regions,
     retired: u64,
+    cache: DecodeCache,
 }
 
 /// What a machine consists of.
@@ -53,12 +55,13 @@ pub struct MachineParts {
 impl Model for Machine {
     ghost use Rattle.std.specs.Prelude.{◌≡◌, slice_index};
     ghost use Rattle.rv_machine.specs.Hart.{Hart};
+    ghost use Rattle.rv_machine.specs.Decoded.{IsCacheOf};
 
     ghost Value = { Hart };
 
     ghost view = { λ m. record { pc = m.pc; regs = m.regs; mem = m.mem; retired = m.retired } };
 
-    ghost invariant = { λ m. slice_index m.regs 0 ≡ 0 };
+    ghost invariant = { λ m. (slice_index m.regs 0 ≡ 0) × IsCacheOf m.mem m.cache.places };
 }
 
 #[inline(always)]
@@ -73,6 +76,31 @@ fn breaks(i: Instr) -> bool
     ensures { result ≡ is_breaking i }
 {
     matches!(i, Instr::Ebreak)
+}
+
+/// The instruction, where it is none of the M extension.
+#[inline(always)]
+fn base(i: Instr) -> Option<Instr>
+    ensures { result ≡ base_part i }
+{
+    match i {
+        Instr::Mul { .. } => None,
+        _ => Some(i),
+    }
+}
+
+/// The instruction, where the set has it.
+#[inline(always)]
+#[tactic(auto, using(crate::proofs::Sets::sets))]
+fn within(isa: Isa, word: u32, i: Instr) -> Option<Instr>
+    requires { decoded_m word ≡ Some i }
+    ensures exact { result ≡ decoded_as isa word }
+    ensures fits { IfSome result (λ i. Fits i) }
+{
+    match isa {
+        Isa::Rv32i => base(i),
+        Isa::Rv32im => Some(i),
+    }
 }
 
 #[inline(always)]
@@ -90,6 +118,7 @@ fn write_register(regs: &mut [u32; 32], r: u8, value: u32)
 impl Machine {
     /// A machine at its start: at the entry, with x2 below the top of the stack, all other registers 0, and nothing
     /// retired.
+    #[tactic(auto, using(crate::proofs::Keeping::still))]
     pub fn new(mem: Regions, entry: u32) -> Machine
         ensures { result ≡ start_hart mem entry }
     {
@@ -100,6 +129,7 @@ impl Machine {
             regs,
             mem,
             retired: 0,
+            cache: DecodeCache::new(),
         }
     }
 
@@ -222,6 +252,7 @@ impl Machine {
     }
 
     #[inline(always)]
+    #[tactic(auto, using(crate::proofs::Keeping::still), unfolding(crate::specs::Step::retire))]
     fn store(&mut self, word: u32, access: Access) -> Stepped
         requires width { IsWidth access.width }
         requires count { self.old.retired + 1 < 2 ^ 64 }
@@ -269,15 +300,18 @@ impl Machine {
     }
 
     #[inline(always)]
+    #[tactic(auto, using(crate::proofs::Keeping::still), unfolding(crate::specs::Step::retire, crate::specs::Step::synchronize))]
     fn synchronize(&mut self, word: u32) -> Stepped
         requires count { self.old.retired + 1 < 2 ^ 64 }
         ensures does { Does (synchronization self.old word) self.old self.new result }
         ensures count { Counts self.old.retired self.new.retired result }
     {
         self.mem.sync_code();
+        self.cache.clear();
         self.retire(word, self.pc.wrapping_add(4), 0, 0)
     }
 
+    #[tactic(auto, using(crate::proofs::Leaving::leaving), unfolding(crate::specs::Step::retire))]
     fn call_environment<S: Source, K: Sink>(
         &mut self,
         word: u32,
@@ -304,11 +338,13 @@ impl Machine {
         }
     }
 
+    /// What stands at the program counter.
     #[inline(always)]
-    fn fetch(&self) -> Result<u32, MemErr>
-        ensures { result ≡ fetch_at self.now.mem self.now.pc }
+    fn find(&mut self) -> Found
+        ensures found { result ≡ found_at self.old.mem self.old.pc }
+        ensures unchanged { self.new ≡ self.old }
     {
-        self.mem.fetch(self.pc)
+        self.cache.find(&self.mem, self.pc)
     }
 
     #[inline(always)]
@@ -382,9 +418,11 @@ impl Machine {
         &mut self,
         isa: Isa,
         word: u32,
+        i: Instr,
         input: &mut S,
         output: &mut K,
     ) -> Stepped
+        requires decoded { decoded_m word ≡ Some i }
         requires count { self.old.retired + 1 < 2 ^ 64 }
         ensures acts { Acts (decoded_as isa word ≡ Some Instr.Ecall)
             (λ rest. interpretation self.old rest word (decoded_as isa word)) self.old self.new
@@ -396,7 +434,7 @@ impl Machine {
         ensures input_asked { (decoded_as isa word ≡ Some Instr.Ecall → asks_input self.old.regs self.old.mem ≡ false) → input.new ≡ input.old }
         ensures output_asked { (decoded_as isa word ≡ Some Instr.Ecall → asks_output self.old.regs self.old.mem ≡ false) → output.new ≡ output.old }
     {
-        match decode_as(isa, word) {
+        match within(isa, word, i) {
             Some(i) => self.execute(word, i, input, output),
             None => self.trap(2, word),
         }
@@ -424,12 +462,11 @@ impl Machine {
         ensures output_asked { (CallsHere isa self.old → asks_output self.old.regs self.old.mem ≡ false) → output.new ≡ output.old }
     {
         let pc = self.pc();
-        if pc % 4 != 0 {
-            return self.trap(0, pc);
-        }
-        match self.fetch() {
-            Ok(word) => self.interpret(isa, word, input, output),
-            Err(_) => self.trap(1, pc),
+        match self.find() {
+            Found::Instruction { word, instr } => self.interpret(isa, word, instr, input, output),
+            Found::Unknown(word) => self.trap(2, word),
+            Found::Nothing => self.trap(1, pc),
+            Found::Misaligned => self.trap(0, pc),
         }
     }
 

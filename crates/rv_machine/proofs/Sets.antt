@@ -1,0 +1,65 @@
+-- The instructions of RV32IM that RV32I has too.
+use Rattle.std.proofs.Common.{◌≡◌, ℕ, Bool, true, false, not, IsTrue, Option, Some, None, if◌then◌else◌, sym, subst, refl, arith}
+use Rattle.std.specs.Prelude.{IfSome}
+use Rattle.rv_inst.specs.declared.isa.Isa.{Isa}
+use Rattle.rv_inst.specs.declared.isa.Isa.TheVariants.{Rv32i, Rv32im}
+use Rattle.rv_inst.specs.declared.instruction.Instr.{Instr}
+use Rattle.rv_inst.specs.Decoding.{decoded, decoded_m, decoded_as}
+use Rattle.rv_inst.specs.Encoding.{Encodes, is_base}
+use Rattle.rv_inst.specs.Ranges.{Fits}
+use Rattle.rv_inst.proofs.Table.{decoded_complete, decoded_m_complete}
+use Rattle.rv_inst.proofs.Reading.{decoded-encodes, decoded-is_base, decoded_m-encodes}
+use Rattle.rv_inst.proofs.Bounds.{decoded_m_fits}
+use Rattle.rv_machine.specs.Decoded.{base_part}
+
+-- an instruction of RV32I is read in both sets
+read-in-both : (w : ℕ) (i : Instr) → decoded w ≡ Some i → decoded_m w ≡ Some i
+read-in-both w i e = decoded_m_complete w i (decoded-encodes w i e)
+
+-- where the larger set has an instruction of the M extension, the smaller one has none
+lacking : (w : ℕ) (i : Instr) (o : Option Instr) → decoded w ≡ o → decoded_m w ≡ Some i → is_base i ≡ false → o ≡ None
+lacking w i None d e base = refl
+lacking w i (Some j) d e base =
+    let f : decoded_m w ≡ Some j = read-in-both w j d in
+    let b : IsTrue (is_base j) = decoded-is_base w j d in
+    let same : j ≡ i = grind arith in cc
+
+base-of : (w : ℕ) (i : Instr) (b : Bool) → is_base i ≡ b → decoded_m w ≡ Some i → (if b then Some i else None) ≡ decoded w
+base-of w i true base e = sym (decoded_complete w i base (decoded_m-encodes w i e))
+base-of w i false base e = sym (lacking w i (decoded w) refl e base)
+
+-- the smaller set has what is no operation of the M extension
+pub set-base : (w : ℕ) (i : Instr) → decoded_m w ≡ Some i → base_part i ≡ decoded_as Rv32i w
+unfolding decoded_as
+set-base w i e = base-of w i (is_base i) refl e
+
+-- the larger set has all
+pub set-large : (w : ℕ) → decoded_as Rv32im w ≡ decoded_m w
+unfolding decoded_as
+set-large w = refl
+
+-- a word that stands for nothing in the larger set stands for nothing in either
+unread : (w : ℕ) (o : Option Instr) → decoded w ≡ o → decoded_m w ≡ None → o ≡ None
+unread w None d e = refl
+unread w (Some j) d e = let f : decoded_m w ≡ Some j = read-in-both w j d in cc
+
+pub set-unknown : (isa : Isa) (w : ℕ) → decoded_m w ≡ None → decoded_as isa w ≡ None
+unfolding decoded_as
+set-unknown Rv32i w e = unread w (decoded w) refl e
+set-unknown Rv32im w e = e
+
+-- the fields of an instruction that is read are in range
+of_some : {A : Type 0} (o : Option A) (x : A) (P : A → Type 0) → IfSome o P → o ≡ Some x → P x
+of_some {A = A} o x P h e = let Q : Option A → Type 0 = λ u. IfSome u P in subst Q e h
+
+pub set-fits : (w : ℕ) (i : Instr) → decoded_m w ≡ Some i → Fits i
+set-fits w i e = of_some (decoded_m w) i (λ j. Fits j) (decoded_m_fits w) e
+
+part-fits : (i : Instr) (b : Bool) → Fits i → IfSome (if b then Some i else None) (λ j. Fits j)
+part-fits i true fits = fits
+part-fits i false fits = tt
+
+pub base-fits : (w : ℕ) (i : Instr) → decoded_m w ≡ Some i → IfSome (base_part i) (λ j. Fits j)
+base-fits w i e = part-fits i (is_base i) (set-fits w i e)
+
+pub ruleset sets = (set-base, set-large, set-fits, base-fits)

@@ -1,0 +1,7 @@
+use Rattle.std.proofs.Common.{arith}
+use Rattle.std.proofs.lemmas.List.Elements.{All-replicate}
+use Rattle.rv_machine.specs.Decoded.{IsEmpty}
+use Rattle.rv_machine.proofs.decode_cache.DecodeCache.clear.Goals as goal
+
+pub returns : goal.returns
+returns c = All-replicate IsEmpty 1024 _ (omega arith)

@@ -1,0 +1,129 @@
+//! Instructions that were decoded before.
+#![tactic(auto, unfolding(crate::specs::Decoded::found_at))]
+
+ghost use Rattle.std.specs.Prelude.{◌≡◌, ◌<◌};
+ghost use Rattle.std.specs.List.{All};
+ghost use Rattle.rv_machine.specs.Decoded.{IsEmpty, IsCacheOf, found_at};
+
+use mem_regions::{MemErr, Regions};
+use rv_inst::{Instr, decode_m};
+
+/// How many instructions are kept: those of 4 KiB of code.
+const PLACES: usize = 1024;
+
+/// What stands at an address.
+#[derive(Clone, Copy)]
+pub(crate) enum Found {
+    /// A word, and the instruction of RV32IM that it stands for.
+    Instruction { word: u32, instr: Instr },
+
+    /// A word that stands for none.
+    Unknown(u32),
+
+    /// Nothing that can be fetched.
+    Nothing,
+
+    /// Nothing, since 4 does not divide the address.
+    Misaligned,
+}
+
+/// An instruction that was decoded, with its address and its word.
+#[derive(Clone, Copy)]
+pub(crate) struct Decoded {
+    // An empty place has an address beyond all others.
+    pub(crate) address: u64,
+    pub(crate) word: u32,
+    pub(crate) instr: Instr,
+}
+
+/// What stands in an empty place.
+const EMPTY: Decoded = Decoded {
+    address: u64::MAX,
+    word: 0,
+    instr: Instr::Ebreak,
+};
+
+/// The instructions that were decoded last, each in the place of its address.
+#[derive(Drop)]
+pub(crate) struct DecodeCache {
+    pub(crate) places: [Decoded; 1024],
+}
+
+/// The place of an address.
+#[inline(always)]
+fn place_of(pc: u32) -> usize
+    ensures { result < 1024 }
+{
+    (pc / 4) as usize % PLACES
+}
+
+/// What stands at the address.
+fn find(mem: &Regions, pc: u32) -> Found
+    ensures { result ≡ found_at mem.now pc }
+{
+    match mem.fetch(pc) {
+        Ok(word) => match decode_m(word) {
+            Some(instr) => Found::Instruction { word, instr },
+            None => Found::Unknown(word),
+        },
+        Err(MemErr::NoAccess) => Found::Nothing,
+        Err(MemErr::Misaligned) => Found::Misaligned,
+    }
+}
+
+impl DecodeCache {
+    /// A cache of nothing.
+    pub(crate) fn new() -> DecodeCache
+        ensures { All IsEmpty result.places }
+    {
+        DecodeCache {
+            places: [EMPTY; PLACES],
+        }
+    }
+
+    /// Forgets all.
+    pub(crate) fn clear(&mut self)
+        ensures { All IsEmpty self.new.places }
+    {
+        self.places = [EMPTY; PLACES];
+    }
+
+    /// What stands at the address, which is decoded and kept.
+    #[inline(never)]
+    #[tactic(auto, using(crate::proofs::Keeping::keeping))]
+    fn decode(&mut self, mem: &Regions, pc: u32) -> Found
+        requires { IsCacheOf mem.now self.old.places }
+        ensures found { result ≡ found_at mem.now pc }
+        ensures kept { IsCacheOf mem.now self.new.places }
+    {
+        let found = find(mem, pc);
+        if let Found::Instruction { word, instr } = found {
+            self.places[place_of(pc)] = Decoded {
+                address: u64::from(pc),
+                word,
+                instr,
+            };
+        }
+        found
+    }
+
+    /// What stands at the address.
+    #[inline(always)]
+    #[tactic(auto, using(crate::proofs::Keeping::keeping))]
+    pub(crate) fn find(&mut self, mem: &Regions, pc: u32) -> Found
+        requires { IsCacheOf mem.now self.old.places }
+        ensures found { result ≡ found_at mem.now pc }
+        ensures kept { IsCacheOf mem.now self.new.places }
+    {
+        let Decoded {
+            address,
+            word,
+            instr,
+        } = self.places[place_of(pc)];
+        if address == u64::from(pc) {
+            Found::Instruction { word, instr }
+        } else {
+            self.decode(mem, pc)
+        }
+    }
+}
