@@ -1,0 +1,76 @@
+-- Texts that are put one after the other, of a whole text that is owed.
+use Rattle.std.proofs.Common.{◌≡◌, ℕ, ◌+◌, ◌≤◌, List, [], ◌++◌, length, take, Option, Some, None, refl, ap, sym, ◌∙◌, subst, append-nil, append_assoc, arith}
+use Rattle.std.specs.Prelude.{Result, Ok, Err, OnErr}
+use Rattle.std.proofs.lemmas.Result.{on_err_weaker}
+use Rattle.std.proofs.lemmas.List.{length-append, take-append-le}
+use Rattle.std.proofs.Math.Seq.{take-append-add}
+use Rattle.cf_io.specs.Puts.{Writes, WritesFront}
+
+-- nothing was put
+pub writes-nothing : (told : Option (List ℕ)) → Writes told told []
+writes-nothing None = tt
+writes-nothing (Some told) = ap Some (sym (append-nil told))
+
+-- one text and then another
+pub writes-again : (a b c : Option (List ℕ)) (x y : List ℕ) → Writes a b x → Writes b c y → Writes a c (x ++ y)
+writes-again None b c x y h k = tt
+writes-again (Some told) b c x y h k =
+    subst (λ (o : Option (List ℕ)). Writes o c y) h k ∙ ap Some (append_assoc told x y)
+
+-- a front of the first text is one of both
+pub front-first : (a b : Option (List ℕ)) (x y : List ℕ) → WritesFront a b x → WritesFront a b (x ++ y)
+front-first a b x y (n, short, k) =
+    (n, omega (arith, length-append x y), subst (λ (z : List ℕ). Writes a b z) (sym (take-append-le n x y short)) k)
+
+-- one text, and then a front of another
+pub front-again : (a b c : Option (List ℕ)) (x y : List ℕ) → Writes a b x → WritesFront b c y → WritesFront a c (x ++ y)
+front-again a b c x y h (n, short, k) =
+    let both : Writes a c (x ++ take n y) = writes-again a b c x (take n y) h k in
+    (length x + n, omega (arith, length-append x y), subst (λ (z : List ℕ). Writes a c z) (sym (take-append-add x y n)) both)
+
+-- of a whole text this rest is still owed
+pub record Owes (before now : Option (List ℕ)) (rest whole : List ℕ) : Type 0 where
+  pub done : List ℕ
+  pub told : Writes before now done
+  pub parts : done ++ rest ≡ whole
+
+pub owes-all : (told : Option (List ℕ)) (whole : List ℕ) → Owes told told whole whole
+owes-all told whole = record { done = []; told = writes-nothing told; parts = refl }
+
+-- the next text was put
+pub owes-next : (a b c : Option (List ℕ)) (rest next behind whole : List ℕ) → Owes a b rest whole → rest ≡ next ++ behind → Writes b c next → Owes a c behind whole
+owes-next a b c rest next behind whole o e h = record {
+  done = o.done ++ next;
+  told = writes-again a b c o.done next o.told h;
+  parts = append_assoc o.done next behind ∙ ap (λ (l : List ℕ). o.done ++ l) (sym e) ∙ o.parts;
+}
+
+-- a front of it was put
+pub owes-front : (a b c : Option (List ℕ)) (rest next behind whole : List ℕ) → Owes a b rest whole → rest ≡ next ++ behind → WritesFront b c next → WritesFront a c whole
+owes-front a b c rest next behind whole o e h =
+    subst (λ (l : List ℕ). WritesFront a c l) (ap (λ (l : List ℕ). o.done ++ l) (sym e) ∙ o.parts)
+    (front-again a b c o.done (next ++ behind) o.told (front-first b c next behind h))
+
+-- nothing is owed any more
+pub owes-none : (a b : Option (List ℕ)) (rest whole : List ℕ) → Owes a b rest whole → rest ≡ [] → Writes a b whole
+owes-none a b rest whole o e =
+    subst (λ (l : List ℕ). Writes a b l) (sym (append-nil o.done) ∙ ap (λ (l : List ℕ). o.done ++ l) (sym e) ∙ o.parts) o.told
+
+-- the same of an answer that is a failure
+pub err-again : {E : Type 0} (a b c : Option (List ℕ)) (x y : List ℕ) (r : Result (Unit {0}) E)
+    → Writes a b x → OnErr r (WritesFront b c y) → OnErr r (WritesFront a c (x ++ y))
+err-again a b c x y r h k = on_err_weaker r (front-again a b c x y h) k
+
+on-any : {E : Type 0} (P : Type 0) (s : Result (Unit {0}) E) → P → OnErr s P
+on-any P (Ok u) h = tt
+on-any P (Err e) h = h
+
+pub err-owes : {E : Type 0} (a b c : Option (List ℕ)) (rest next behind whole : List ℕ) (r s : Result (Unit {0}) E) (e : E)
+    → r ≡ Err e → Owes a b rest whole → rest ≡ next ++ behind → OnErr r (WritesFront b c next) → OnErr s (WritesFront a c whole)
+err-owes a b c rest next behind whole r s e fails o parts h =
+    let front : WritesFront b c next = subst (λ q. OnErr q (WritesFront b c next)) fails h in
+    on-any (WritesFront a c whole) s (owes-front a b c rest next behind whole o parts front)
+
+pub ruleset owing = (writes-nothing, writes-again, front-first, front-again)
+
+pub ruleset owes = (owes-all, owes-next, owes-front, owes-none)

@@ -1,0 +1,48 @@
+-- One more line of a text with a line for each number, and one more draw.
+use Rattle.std.proofs.Common.{◌≡◌, ℕ, zero, suc, ◌+◌, ◌*◌, ◌-◌, ◌<◌, ◌≤◌, List, [], ◌∷◌, ◌++◌, refl, ap, sym, ◌∙◌, arith, zero-add, append_assoc}
+use Rattle.std.specs.List.{flat_map, range_with_len}
+use Rattle.cf_gen.specs.Draws.{next_state, state_after}
+
+range-next : (a b : ℕ) → a < b → range_with_len a (b - a) ≡ a ∷ range_with_len (a + 1) (b - (a + 1))
+range-next a b h = let e : b - a ≡ suc (b - (a + 1)) = omega arith in rw e refl
+
+-- the lines of the numbers from a up to b are that of a and those behind it
+pub lines-next : (f : ℕ → List ℕ) (a b : ℕ) → a < b
+    → flat_map f (range_with_len a (b - a)) ≡ f a ++ flat_map f (range_with_len (a + 1) (b - (a + 1)))
+lines-next f a b h = ap (flat_map f) (range-next a b h)
+
+-- none is left at the end
+pub lines-none : (f : ℕ → List ℕ) (a b : ℕ) → b ≤ a → flat_map f (range_with_len a (b - a)) ≡ []
+lines-none f a b h = let e : b - a ≡ 0 = omega arith in rw e refl
+
+-- where the line of a was appended, those behind it are left
+pub lines-more : (f : ℕ → List ℕ) (a b : ℕ) (page next whole : List ℕ) → a < b → next ≡ page ++ f a
+    → page ++ flat_map f (range_with_len a (b - a)) ≡ whole
+    → next ++ flat_map f (range_with_len (a + 1) (b - (a + 1))) ≡ whole
+lines-more f a b page next whole h e k =
+    rw e (append_assoc page (f a) _ ∙ ap (λ (l : List ℕ). page ++ l) (sym (lines-next f a b h)) ∙ k)
+
+-- the same where another text follows the lines
+pub lines-before : (f : ℕ → List ℕ) (a b : ℕ) (text behind : List ℕ) → a < b → text ≡ f a
+    → flat_map f (range_with_len a (b - a)) ++ behind ≡ text ++ (flat_map f (range_with_len (a + 1) (b - (a + 1))) ++ behind)
+lines-before f a b text behind h e =
+    rw (e, lines-next f a b h) (append_assoc (f a) _ behind)
+
+-- some draws and then more
+after-more : (m n x : ℕ) → state_after (m + n) x ≡ state_after n (state_after m x)
+after-more zero n x = ap (λ k. state_after k x) (zero-add n)
+after-more (suc m) n x =
+    let e : suc m + n ≡ suc (m + n) = omega arith in
+    ap (λ k. state_after k x) e ∙ after-more m n (next_state x)
+
+-- one more register is given a number
+pub after-register : (r x : ℕ) → 8 ≤ r → state_after (r + 1 - 8) x ≡ next_state (state_after (r - 8) x)
+after-register r x h =
+    let e : r + 1 - 8 ≡ (r - 8) + 1 = omega arith in
+    ap (λ k. state_after k x) e ∙ after-more (r - 8) 1 x
+
+-- one more statement is drawn
+pub after-statement : (i x : ℕ) → 1 ≤ i → state_after (8 + 5 * (i + 1 - 1)) x ≡ state_after 5 (state_after (8 + 5 * (i - 1)) x)
+after-statement i x h =
+    let e : 8 + 5 * (i + 1 - 1) ≡ (8 + 5 * (i - 1)) + 5 = omega arith in
+    ap (λ k. state_after k x) e ∙ after-more (8 + 5 * (i - 1)) 5 x

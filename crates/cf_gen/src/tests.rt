@@ -1,0 +1,80 @@
+//! What no clause says: the first lines of programs, letter by letter, and an output that fails in mid-stream. The
+//! first draws of each number were worked by hand with `bc`: of 1 they are 1015568748 / 65536 = 15496 and
+//! 1586005467 / 65536 = 24200. The other lines come from a script in another language that was written from the
+//! description of the text alone.
+use super::*;
+use cf_io::{Failed, MemSink};
+use std::process::Abort;
+use std::test::Fail;
+
+/// A sink with room for 1,000 bytes, of which one put fails.
+fn sink_failing_at(rt: &(impl Abort + AllocGlobal), put: u64) -> MemSink {
+    let fails = [put].to_vec(rt.alloc()).ok().expect(rt, "memory");
+    MemSink::new(rt.alloc(), 1000, fails)
+        .ok()
+        .expect(rt, "memory")
+}
+
+/// The program of so many statements begins with this text.
+fn assert_begins(rt: &(impl Abort + AllocGlobal), number: u32, text: &[u8]) -> Result<(), Fail> {
+    let mut out = sink_failing_at(rt, 100);
+    assert_eq!(rt; generate(number, &mut out), Ok(()));
+    assert!(rt; out.bytes().starts_with(text));
+    Ok(())
+}
+
+#[test]
+fn one_statement(rt: HostRuntime) -> Result<(), Fail> {
+    let text = b"    .text
+    .globl _start
+_start:
+    la x7, buf
+    li x8, 15496
+    li x9, 24200
+    li x10, 33046
+    li x11, 46195
+    li x12, 3312
+    li x13, 24216
+    li x14, 50774
+    li x15, 36450
+L1:
+    add x13, x13, x8
+L2:
+    xor x8, x8, x9
+";
+    assert_begins(&rt, 1, text)
+}
+
+#[test]
+fn three_statements(rt: HostRuntime) -> Result<(), Fail> {
+    let text = b"    .text
+    .globl _start
+_start:
+    la x7, buf
+    li x8, 15547
+    li x9, 36089
+    li x10, 57256
+    li x11, 51047
+    li x12, 25131
+    li x13, 56684
+    li x14, 41735
+    li x15, 25460
+L1:
+    or x15, x12, x8
+L2:
+    or x13, x12, x13
+L3:
+    sll x13, x14, x13
+L4:
+    xor x8, x8, x9
+";
+    assert_begins(&rt, 3, text)
+}
+
+#[test]
+fn output_fails_behind_the_first_statement(rt: HostRuntime) -> Result<(), Fail> {
+    let mut out = sink_failing_at(&rt, 3);
+    assert_eq!(rt; generate(3, &mut out), Err(Failed));
+    assert!(rt; out.bytes().ends_with(b"L1:\n    or x15, x12, x8\n"));
+    Ok(())
+}
