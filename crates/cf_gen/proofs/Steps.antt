@@ -7,7 +7,7 @@ range-next : (a b : ℕ) → a < b → range_with_len a (b - a) ≡ a ∷ range_
 range-next a b h = let e : b - a ≡ suc (b - (a + 1)) = omega arith in rw e refl
 
 -- the lines of the numbers from a up to b are that of a and those behind it
-pub lines-next : (f : ℕ → List ℕ) (a b : ℕ) → a < b
+lines-next : (f : ℕ → List ℕ) (a b : ℕ) → a < b
     → flat_map f (range_with_len a (b - a)) ≡ f a ++ flat_map f (range_with_len (a + 1) (b - (a + 1)))
 lines-next f a b h = ap (flat_map f) (range-next a b h)
 

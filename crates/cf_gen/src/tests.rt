@@ -1,7 +1,10 @@
 //! What no clause says: the first lines of programs, letter by letter, and an output that fails in mid-stream. The
-//! first draws of each number were worked by hand with `bc`: of 1 they are 1015568748 / 65536 = 15496 and
-//! 1586005467 / 65536 = 24200. The other lines come from a script in another language that was written from the
-//! description of the text alone.
+//! first draws were worked by hand: of 1 they are 1015568748 / 65536 = 15496 and 1586005467 / 65536 = 24200, and of 3
+//! the first is 1018897798 / 65536 = 15547. The other lines come from a script in another language that was written
+//! from the description of the text alone.
+
+ghost use Rattle.std.specs.Prelude.{◌≤◌};
+
 use super::*;
 use cf_io::{Failed, MemSink};
 use std::process::Abort;
@@ -16,7 +19,10 @@ fn sink_failing_at(rt: &(impl Abort + AllocGlobal), put: u64) -> MemSink {
 }
 
 /// The program of so many statements begins with this text.
-fn assert_begins(rt: &(impl Abort + AllocGlobal), number: u32, text: &[u8]) -> Result<(), Fail> {
+fn assert_begins(rt: &(impl Abort + AllocGlobal), number: u32, text: &[u8]) -> Result<(), Fail>
+    requires some { 1 ≤ number }
+    requires limit { number ≤ 30000 }
+{
     let mut out = sink_failing_at(rt, 100);
     assert_eq!(rt; generate(number, &mut out), Ok(()));
     assert!(rt; out.bytes().starts_with(text));
