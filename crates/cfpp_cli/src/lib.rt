@@ -21,10 +21,3 @@ mod top;
 
 pub use status::{ProgramErr, ScriptFault, Status, Which};
 pub use top::cfpp;
-
-#[cfg(test)]
-mod check_tests;
-#[cfg(test)]
-mod command_tests;
-#[cfg(test)]
-mod tests;

@@ -6,6 +6,3 @@ mod kept;
 mod report;
 
 pub use report::bad_layout;
-
-#[cfg(test)]
-mod tests;

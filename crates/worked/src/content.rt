@@ -1,0 +1,185 @@
+//! The lines that tell bytes.
+
+use crate::call::{Named, find};
+use crate::line_err::LineErr;
+use rv_text::numeral;
+use std::alloc::{AllocError, Global};
+use std::str;
+
+/// The registers before the first instruction: each takes 13 bytes.
+const START: &str = "x00=00000000 x01=00000000 x02=7f0ffff0 x03=00000000
+x04=00000000 x05=00000000 x06=00000000 x07=00000000
+x08=00000000 x09=00000000 x10=00000000 x11=00000000
+x12=00000000 x13=00000000 x14=00000000 x15=00000000
+x16=00000000 x17=00000000 x18=00000000 x19=00000000
+x20=00000000 x21=00000000 x22=00000000 x23=00000000
+x24=00000000 x25=00000000 x26=00000000 x27=00000000
+x28=00000000 x29=00000000 x30=00000000 x31=00000000
+";
+
+/// The number that a word writes in decimal digits.
+pub(crate) fn number(word: &str) -> Result<usize, LineErr> {
+    match word.parse::<usize>() {
+        Ok(number) => Ok(number),
+        Err(_) => Err(LineErr::Unknown),
+    }
+}
+
+/// The number that a word writes in up to eight hexadecimal digits.
+fn hexadecimal(word: &str) -> Result<u32, LineErr> {
+    match numeral(word.as_bytes(), 16, 8) {
+        Some(number) => Ok(number as u32),
+        None => Err(LineErr::Unknown),
+    }
+}
+
+/// Puts the bytes in the place of others.
+fn overwrite(content: &mut Vec<u8>, at: usize, bytes: &[u8]) -> Result<(), LineErr> {
+    if content.len().saturating_sub(at) < bytes.len() {
+        return Err(LineErr::Unknown);
+    }
+    for (index, byte) in bytes.iter().enumerate() {
+        if let Some(place) = content.as_mut_slice().get_mut(at.wrapping_add(index)) {
+            *place = *byte;
+        }
+    }
+    Ok(())
+}
+
+/// Adds bytes, each written in two hexadecimal digits.
+fn add_bytes(content: &mut Vec<u8>, words: &str) -> Result<(), LineErr> {
+    for word in words.split_whitespace() {
+        content.push((hexadecimal(word)? & 0xff) as u8)?;
+    }
+    Ok(())
+}
+
+/// Adds words of 32 bits, the low byte of each first.
+fn add_code(content: &mut Vec<u8>, words: &str) -> Result<(), LineErr> {
+    for word in words.split_whitespace() {
+        content.extend_from_slice(&hexadecimal(word)?.to_le_bytes())?;
+    }
+    Ok(())
+}
+
+/// Adds one byte so many times.
+fn repeat(content: &mut Vec<u8>, words: &str) -> Result<(), LineErr> {
+    let Some((count, byte)) = words.split_once(' ') else {
+        return Err(LineErr::Unknown);
+    };
+    let byte = (hexadecimal(byte)? & 0xff) as u8;
+    let size = content.len().saturating_add(number(count)?);
+    content.resize(size, byte)?;
+    Ok(())
+}
+
+/// Puts a word of 32 bits over four bytes.
+fn put(content: &mut Vec<u8>, words: &str) -> Result<(), LineErr> {
+    let Some((at, word)) = words.split_once(' ') else {
+        return Err(LineErr::Unknown);
+    };
+    overwrite(content, number(at)?, &hexadecimal(word)?.to_le_bytes())
+}
+
+/// Writes one register, as `x10=00000007`, into the lines of the registers at `start`.
+fn write_register(content: &mut Vec<u8>, start: usize, word: &str) -> Result<(), LineErr> {
+    let Some((register, value)) = word.split_once('=') else {
+        return Err(LineErr::Unknown);
+    };
+    let Some(register) = register.strip_prefix("x") else {
+        return Err(LineErr::Unknown);
+    };
+    let place = number(register)?.min(31) * 13 + 4;
+    let _value = hexadecimal(value)?;
+    overwrite(content, start.saturating_add(place), value.as_bytes())
+}
+
+/// Adds the lines of the registers, of which some differ from those at the start.
+fn add_registers(content: &mut Vec<u8>, words: &str) -> Result<(), LineErr> {
+    let start = content.len();
+    content.extend_from_slice(START.as_bytes())?;
+    for word in words.split_whitespace() {
+        write_register(content, start, word)?;
+    }
+    Ok(())
+}
+
+/// Adds what stands under a name.
+fn copy(content: &mut Vec<u8>, kept: &[Named], name: &str) -> Result<(), LineErr> {
+    match find(kept, name) {
+        Some(bytes) => Ok(content.extend_from_slice(bytes)?),
+        None => Err(LineErr::Unknown),
+    }
+}
+
+/// The text with line feeds where it has `\\n`.
+fn unescaped(alloc: Global, text: &str) -> Result<String, AllocError> {
+    let mut made = String::new(alloc);
+    for (index, piece) in text.split("\\n").enumerate() {
+        if index > 0 {
+            made.push('\n')?;
+        }
+        made.push_str(piece)?;
+    }
+    Ok(made)
+}
+
+/// Puts a text in the place of another where that stands first.
+fn replace(content: &mut Vec<u8>, old: &str, new: &str) -> Result<(), LineErr> {
+    let alloc = *content.allocator();
+    let old = unescaped(alloc, old)?;
+    let new = unescaped(alloc, new)?;
+    let text = str::from_utf8(content.as_slice()).unwrap_or("");
+    let Some((front, back)) = text.split_once(old.as_str()) else {
+        return Err(LineErr::Unknown);
+    };
+    let mut made = front.as_bytes().to_vec(alloc)?;
+    made.extend_from_slice(new.as_str().as_bytes())?;
+    made.extend_from_slice(back.as_bytes())?;
+    *content = made;
+    Ok(())
+}
+
+/// As `swap OLD => NEW`.
+fn swap(content: &mut Vec<u8>, words: &str) -> Result<(), LineErr> {
+    match words.split_once(" => ") {
+        Some((old, new)) => replace(content, old, new),
+        None => Err(LineErr::Unknown),
+    }
+}
+
+/// Adds a text.
+fn add_text(content: &mut Vec<u8>, text: &str) -> Result<(), LineErr> {
+    content.extend_from_slice(text.as_bytes())?;
+    Ok(())
+}
+
+/// Adds a line of text with its line feed.
+fn add_line(content: &mut Vec<u8>, text: &str) -> Result<(), LineErr> {
+    add_text(content, text)?;
+    content.push(b'\n')?;
+    Ok(())
+}
+
+/// Changes the content as the line says.
+pub(crate) fn change(
+    content: &mut Vec<u8>,
+    kept: &[Named],
+    word: &str,
+    rest: &str,
+) -> Result<(), LineErr> {
+    match word {
+        "|" => add_line(content, rest),
+        "text" => add_text(content, rest),
+        "bytes" => add_bytes(content, rest),
+        "code" => add_code(content, rest),
+        "repeat" => repeat(content, rest),
+        "put" => put(content, rest),
+        "swap" => swap(content, rest),
+        "drop" => replace(content, rest, ""),
+        "cut" => Ok(content.truncate(number(rest)?)),
+        "registers" => add_registers(content, rest),
+        "copy" => copy(content, kept, rest),
+        _ => Err(LineErr::Unknown),
+    }
+}

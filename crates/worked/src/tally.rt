@@ -1,0 +1,38 @@
+//! How many rows came to what they want.
+
+/// How many rows agree with what their calls came to, and how many differ.
+#[derive(Drop)]
+pub(crate) struct Tally {
+    agreeing: u64,
+    differing: u64,
+}
+
+impl Tally {
+    /// No rows yet.
+    pub(crate) fn new() -> Tally {
+        Tally {
+            agreeing: 0,
+            differing: 0,
+        }
+    }
+
+    /// Counts a row that agrees.
+    pub(crate) fn agree(&mut self) {
+        self.agreeing = self.agreeing.saturating_add(1);
+    }
+
+    /// Counts a row that differs, or a line that is none.
+    pub(crate) fn differ(&mut self) {
+        self.differing = self.differing.saturating_add(1);
+    }
+
+    /// How many agree.
+    pub(crate) fn agreeing(&self) -> u64 {
+        self.agreeing
+    }
+
+    /// How many differ.
+    pub(crate) fn differing(&self) -> u64 {
+        self.differing
+    }
+}
