@@ -2,6 +2,7 @@
 #![tactic(auto)]
 
 mod drawn;
+mod offer;
 mod pace;
 mod policy;
 mod round;
