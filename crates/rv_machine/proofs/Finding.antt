@@ -18,7 +18,7 @@ use Rattle.rv_machine.specs.Hart.{Hart}
 use Rattle.rv_machine.specs.Step.{interpret}
 use Rattle.rv_machine.specs.Streams.{Streams}
 use Rattle.rv_machine.specs.Acts.{Acts, CallsHere, Steps}
-use Rattle.rv_machine.specs.Decoded.{read_as, read_from, found_at}
+use Rattle.rv_machine.specs.Decoded.{read_as, read_from, found_at, is_instruction, trap_of}
 use Rattle.rv_machine.proofs.Acting.{acts-unknown, steps-misaligned, steps-unfetched, steps-fetched}
 use Rattle.rv_machine.proofs.Sets.{set-unknown}
 
@@ -91,29 +91,24 @@ steps-found isa h new before after word i result e acts =
     let f = read_from-instruction (fetch_at h.mem h.pc) word i e in
     steps-fetched isa h new before after word result (word-aligned h.mem h.pc word f.0) f.0 acts
 
--- the word that stands there is that of no instruction
-pub steps-unknown : (isa : Isa) (h : Hart) (s : Streams) (word : ℕ) (result : Stepped) →
-    found_at h.mem h.pc ≡ found.Unknown word → result ≡ stepped.Trap 2 h.pc word → Steps isa h h s s result
-unfolding found_at
-steps-unknown isa h s word result e is =
+-- no instruction stands there
+stopped : (isa : Isa) (h : Hart) (s : Streams) (f : Found) (result : Stepped) → read_from (fetch_at h.mem h.pc) ≡ f →
+    is_instruction f ≡ false → result ≡ trap_of h.pc f → Steps isa h h s s result
+stopped isa h s (found.Instruction word i) result e none is = absurd (grind arith)
+stopped isa h s (found.Unknown word) result e none is =
     let f = read_from-unknown (fetch_at h.mem h.pc) word e in
     steps-fetched isa h h s s word result (word-aligned h.mem h.pc word f.0) f.0
     (acts-unknown isa word h s result (set-unknown isa word f.1) is)
-
--- nothing can be fetched there
-pub steps-nothing : (isa : Isa) (h : Hart) (s : Streams) (result : Stepped) →
-    found_at h.mem h.pc ≡ found.Nothing → result ≡ stepped.Trap 1 h.pc h.pc → Steps isa h h s s result
-unfolding found_at
-steps-nothing isa h s result e is =
+stopped isa h s found.Nothing result e none is =
     let f = read_from-nothing (fetch_at h.mem h.pc) e in
     steps-unfetched isa h s NoAccess result (unpermitted-aligned h.mem h.pc f) f is
-
--- the program counter is misaligned
-pub steps-misplaced : (isa : Isa) (h : Hart) (s : Streams) (result : Stepped) →
-    found_at h.mem h.pc ≡ found.Misaligned → result ≡ stepped.Trap 0 h.pc h.pc → Steps isa h h s s result
-unfolding found_at
-steps-misplaced isa h s result e is =
+stopped isa h s found.Misaligned result e none is =
     steps-misaligned isa h s result (misaligned h.mem h.pc (read_from-misaligned (fetch_at h.mem h.pc) e)) is
+
+pub steps-stopped : (isa : Isa) (h : Hart) (s : Streams) (result : Stepped) →
+    is_instruction (found_at h.mem h.pc) ≡ false → result ≡ trap_of h.pc (found_at h.mem h.pc) → Steps isa h h s s result
+unfolding found_at
+steps-stopped isa h s result none is = stopped isa h s (read_from (fetch_at h.mem h.pc)) result refl none is
 
 -- the instruction of the larger set that was found
 pub found-decoded : (m : Memory) (pc word : ℕ) (i : Instr) → found_at m pc ≡ found.Instruction word i → decoded_m word ≡ Some i

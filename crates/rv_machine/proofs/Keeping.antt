@@ -1,6 +1,8 @@
 -- What a cache keeps is right as long as the code that is fetched stays as it is.
-use Rattle.std.proofs.Common.{◌≡◌, ◌∙◌, ℕ, ◌<◌, ◌^◌, List, length, slice_index_or, slice_set, refl, ap, sym, subst, arith}
+use Rattle.std.proofs.Common.{◌≡◌, ◌∙◌, ℕ, ◌<◌, ◌^◌, List, length, slice_index_or, slice_set, Bool, true, IsTrue, refl, ap, sym, subst, arith}
 use Rattle.std.proofs.lemmas.List.Elements.{All-set}
+use Rattle.std.proofs.lemmas.Bool.Decides.{nat_tests}
+use Rattle.std.proofs.lemmas.Grind.{get_or-set_at}
 use Rattle.std.specs.List.{All}
 use Rattle.mem_regions.specs.Memory.{Memory}
 use Rattle.mem_regions.specs.Fetching.{fetch_at}
@@ -9,7 +11,7 @@ use Rattle.mem_regions.proofs.Kept.{fetch_at-stored}
 use Rattle.rv_inst.specs.declared.instruction.Instr.{Instr}
 use Rattle.rv_machine.specs.declared.decode_cache.Found.TheVariants as found
 use Rattle.rv_machine.specs.declared.decode_cache.Decoded.{Decoded}
-use Rattle.rv_machine.specs.Decoded.{read_from, found_at, IsEmpty, IsKeptOf, IsCacheOf}
+use Rattle.rv_machine.specs.Decoded.{read_from, found_at, is_instruction, IsEmpty, IsKeptOf, IsCacheOf, place_at, nothing_kept, keeps}
 
 -- what stands at an address depends on the word that is fetched there alone
 found_at-same : (m n : Memory) (pc : ℕ) → fetch_at n pc ≡ fetch_at m pc → found_at n pc ≡ found_at m pc
@@ -43,12 +45,31 @@ cache-with m places k address pc word i e is cache =
     let d : Decoded = record { address = address; word = word; instr = i } in
     All-set (IsKeptOf m) places k d (λ small. subst P (sym e) is) cache
 
--- what is kept of an address stands there
-pub cache-at : (m : Memory) (places : List Decoded) (k : ℕ) (d : Decoded) (pc : ℕ) → IsCacheOf m places → k < length places → pc < 2 ^ 32 →
-    (slice_index_or places k d).address ≡ pc → found_at m pc ≡ found.Instruction (slice_index_or places k d).word (slice_index_or places k d).instr
-unfolding IsCacheOf
-cache-at m places k d pc cache below small e = subst (λ (n : ℕ). found_at m n ≡ found.Instruction (slice_index_or places k d).word (slice_index_or places k d).instr) e (cache k d below (rw e small))
+-- the address is kept where it was put
+pub keeps-with : (places : List Decoded) (address pc word : ℕ) (i : Instr) → address ≡ pc → place_at pc < length places →
+    IsTrue (keeps (slice_set places (place_at pc) (record { address = address; word = word; instr = i })) pc)
+unfolding keeps
+keeps-with places address pc word i e below = grind (arith, nat_tests, get_or-set_at)
 
-pub ruleset keeping = (cache-at, cache-with)
+-- what is kept of an address stands there
+pub cache-at : (m : Memory) (places : List Decoded) (pc : ℕ) → IsCacheOf m places → IsTrue (keeps places pc) →
+    place_at pc < length places → pc < 2 ^ 32 →
+    found_at m pc ≡ found.Instruction (slice_index_or places (place_at pc) nothing_kept).word
+    (slice_index_or places (place_at pc) nothing_kept).instr
+unfolding IsCacheOf keeps
+cache-at m places pc cache has below small =
+    let d : Decoded = slice_index_or places (place_at pc) nothing_kept in
+    let e : d.address ≡ pc = grind (arith, nat_tests) in
+    let P : ℕ → Type 0 = λ n. found_at m n ≡ found.Instruction d.word d.instr in
+    subst P e (cache (place_at pc) nothing_kept below (rw e small))
+
+-- what is kept is an instruction
+pub cache-has : (m : Memory) (places : List Decoded) (pc : ℕ) → IsCacheOf m places → keeps places pc ≡ true →
+    place_at pc < length places → pc < 2 ^ 32 → is_instruction (found_at m pc) ≡ true
+cache-has m places pc cache has below small = rw (cache-at m places pc cache has below small) refl
+
+pub ruleset keeping = (cache-at, cache-with, keeps-with)
+
+pub ruleset having = (cache-has)
 
 pub ruleset still = (cache-empty, cache-stored)

@@ -1,5 +1,5 @@
 -- The instructions of RV32IM that RV32I has too.
-use Rattle.std.proofs.Common.{◌≡◌, ℕ, Bool, true, false, not, IsTrue, Option, Some, None, if◌then◌else◌, sym, subst, refl, arith}
+use Rattle.std.proofs.Common.{◌≡◌, ◌∙◌, ℕ, Bool, true, false, not, IsTrue, Option, Some, None, if◌then◌else◌, sym, subst, refl, arith}
 use Rattle.std.specs.Prelude.{IfSome}
 use Rattle.rv_inst.specs.declared.isa.Isa.{Isa}
 use Rattle.rv_inst.specs.declared.isa.Isa.TheVariants.{Rv32i, Rv32im}
@@ -10,7 +10,7 @@ use Rattle.rv_inst.specs.Ranges.{Fits}
 use Rattle.rv_inst.proofs.Table.{decoded_complete, decoded_m_complete}
 use Rattle.rv_inst.proofs.Reading.{decoded-encodes, decoded-is_base, decoded_m-encodes}
 use Rattle.rv_inst.proofs.Bounds.{decoded_m_fits}
-use Rattle.rv_machine.specs.Decoded.{base_part}
+use Rattle.rv_machine.specs.Decoded.{in_set}
 
 -- an instruction of RV32I is read in both sets
 read-in-both : (w : ℕ) (i : Instr) → decoded w ≡ Some i → decoded_m w ≡ Some i
@@ -28,15 +28,15 @@ base-of : (w : ℕ) (i : Instr) (b : Bool) → is_base i ≡ b → decoded_m w �
 base-of w i true base e = sym (decoded_complete w i base (decoded_m-encodes w i e))
 base-of w i false base e = sym (lacking w i (decoded w) refl e base)
 
--- the smaller set has what is no operation of the M extension
-pub set-base : (w : ℕ) (i : Instr) → decoded_m w ≡ Some i → base_part i ≡ decoded_as Rv32i w
-unfolding decoded_as
-set-base w i e = base-of w i (is_base i) refl e
+all-of : (i : Instr) (b : Bool) → (if b then Some i else Some i) ≡ Some i
+all-of i true = refl
+all-of i false = refl
 
--- the larger set has all
-pub set-large : (w : ℕ) → decoded_as Rv32im w ≡ decoded_m w
-unfolding decoded_as
-set-large w = refl
+-- the instruction of the set is the one of the larger set, where the set has it
+pub set-read : (isa : Isa) (w : ℕ) (i : Instr) → decoded_m w ≡ Some i → in_set isa i ≡ decoded_as isa w
+unfolding decoded_as in_set
+set-read Rv32i w i e = base-of w i (is_base i) refl e
+set-read Rv32im w i e = all-of i (is_base i) ∙ sym e
 
 -- a word that stands for nothing in the larger set stands for nothing in either
 unread : (w : ℕ) (o : Option Instr) → decoded w ≡ o → decoded_m w ≡ None → o ≡ None
@@ -52,14 +52,17 @@ set-unknown Rv32im w e = e
 of_some : {A : Type 0} (o : Option A) (x : A) (P : A → Type 0) → IfSome o P → o ≡ Some x → P x
 of_some {A = A} o x P h e = let Q : Option A → Type 0 = λ u. IfSome u P in subst Q e h
 
-pub set-fits : (w : ℕ) (i : Instr) → decoded_m w ≡ Some i → Fits i
+set-fits : (w : ℕ) (i : Instr) → decoded_m w ≡ Some i → Fits i
 set-fits w i e = of_some (decoded_m w) i (λ j. Fits j) (decoded_m_fits w) e
 
-part-fits : (i : Instr) (b : Bool) → Fits i → IfSome (if b then Some i else None) (λ j. Fits j)
-part-fits i true fits = fits
-part-fits i false fits = tt
+part-fits : (i : Instr) (b : Bool) (o : Option Instr) → Fits i → IfSome o (λ j. Fits j) →
+    IfSome (if b then Some i else o) (λ j. Fits j)
+part-fits i true o fits other = fits
+part-fits i false o fits other = other
 
-pub base-fits : (w : ℕ) (i : Instr) → decoded_m w ≡ Some i → IfSome (base_part i) (λ j. Fits j)
-base-fits w i e = part-fits i (is_base i) (set-fits w i e)
+pub set-fit : (isa : Isa) (w : ℕ) (i : Instr) → decoded_m w ≡ Some i → IfSome (in_set isa i) (λ j. Fits j)
+unfolding in_set
+set-fit Rv32i w i e = part-fits i (is_base i) None (set-fits w i e) tt
+set-fit Rv32im w i e = part-fits i (is_base i) (Some i) (set-fits w i e) (set-fits w i e)
 
-pub ruleset sets = (set-base, set-large, set-fits, base-fits)
+pub ruleset sets = (set-read, set-fit)

@@ -1,13 +1,18 @@
 -- What stands at an address of memory, and what a cache may keep of it (RISC-V Unprivileged ISA Manual, "Zifencei" Extension for Instruction-Fetch Fence: stores need not be seen by fetches).
-use Rattle.std.specs.Prelude.{◌≡◌, ◌<◌, ◌≤◌, ◌^◌, ℕ, List, Option, Some, None, if◌then◌else◌, Result, Ok, Err}
+use Rattle.std.specs.Prelude.{◌≡◌, ◌<◌, ◌≤◌, ◌^◌, ◌/◌, ◌%◌, ◌==◌, ℕ, List, slice_index_or, Bool, true, false, if◌then◌else◌, Option, Some, None, Result, Ok, Err}
 use Rattle.std.specs.List.{All}
 use Rattle.mem_regions.specs.Memory.{Memory}
 use Rattle.mem_regions.specs.Fetching.{fetch_at}
 use Rattle.mem_regions.specs.declared.MemErr.{MemErr}
 use Rattle.mem_regions.specs.declared.MemErr.TheVariants.{Misaligned, NoAccess}
+use Rattle.rv_inst.specs.declared.isa.Isa.{Isa}
+use Rattle.rv_inst.specs.declared.isa.Isa.TheVariants.{Rv32i, Rv32im}
 use Rattle.rv_inst.specs.declared.instruction.Instr.{Instr}
+use Rattle.rv_inst.specs.declared.instruction.Instr.TheVariants.{Lui}
 use Rattle.rv_inst.specs.Decoding.{decoded_m}
 use Rattle.rv_inst.specs.Encoding.{is_base}
+use Rattle.rv_machine.specs.declared.outcome.Stepped.{Stepped}
+use Rattle.rv_machine.specs.declared.outcome.Stepped.TheVariants as stepped
 use Rattle.rv_machine.specs.declared.decode_cache.Found.{Found}
 use Rattle.rv_machine.specs.declared.decode_cache.Found.TheVariants as found
 use Rattle.rv_machine.specs.declared.decode_cache.Decoded.{Decoded}
@@ -27,9 +32,28 @@ read_from (Err Misaligned) = found.Misaligned
 unfoldable pub found_at : Memory → ℕ → Found
 found_at mem pc = read_from (fetch_at mem pc)
 
--- the instruction, where it is none of the M extension
-abbrev pub base_part : Instr → Option Instr
-base_part i = if is_base i then Some i else None
+-- it is an instruction
+abbrev pub is_instruction : Found → Bool
+is_instruction (found.Instruction word i) = true
+is_instruction (found.Unknown word) = false
+is_instruction found.Nothing = false
+is_instruction found.Misaligned = false
+
+-- the trap where it is none
+abbrev pub trap_of : ℕ → Found → Stepped
+trap_of pc (found.Instruction word i) = stepped.Trap 2 pc word
+trap_of pc (found.Unknown word) = stepped.Trap 2 pc word
+trap_of pc found.Nothing = stepped.Trap 1 pc pc
+trap_of pc found.Misaligned = stepped.Trap 0 pc pc
+
+-- an instruction of the M extension, where the set has it
+abbrev pub if_m : Isa → Instr → Option Instr
+if_m Rv32i i = None
+if_m Rv32im i = Some i
+
+-- the instruction, where the set has it
+unfoldable pub in_set : Isa → Instr → Option Instr
+in_set isa i = if is_base i then Some i else if_m isa i
 
 -- a place with nothing in it has an address beyond all others
 abbrev pub IsEmpty : Decoded → Type 0
@@ -42,3 +66,15 @@ IsKeptOf mem d = d.address < 2 ^ 32 → found_at mem d.address ≡ found.Instruc
 -- all that is kept is
 unfoldable pub IsCacheOf : Memory → List Decoded → Type 0
 IsCacheOf mem places = All (IsKeptOf mem) places
+
+-- the place of an address
+abbrev pub place_at : ℕ → ℕ
+place_at pc = pc / 4 % 1024
+
+-- what an index out of range would give, which is none of a cache
+abbrev pub nothing_kept : Decoded
+nothing_kept = record { address = 0; word = 0; instr = Lui 0 0 }
+
+-- the address is kept
+unfoldable pub keeps : List Decoded → ℕ → Bool
+keeps places pc = (slice_index_or places (place_at pc) nothing_kept).address == pc

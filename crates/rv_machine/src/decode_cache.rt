@@ -1,9 +1,9 @@
 //! Instructions that were decoded before.
 #![tactic(auto, unfolding(crate::specs::Decoded::found_at))]
 
-ghost use Rattle.std.specs.Prelude.{◌≡◌, ◌<◌};
+ghost use Rattle.std.specs.Prelude.{◌≡◌, ◌<◌, false, IsTrue, IfSome, IfNone};
 ghost use Rattle.std.specs.List.{All};
-ghost use Rattle.rv_machine.specs.Decoded.{IsEmpty, IsCacheOf, found_at};
+ghost use Rattle.rv_machine.specs.Decoded.{IsEmpty, IsCacheOf, found_at, is_instruction, place_at, keeps};
 
 use mem_regions::{MemErr, Regions};
 use rv_inst::{Instr, decode_m};
@@ -52,13 +52,15 @@ pub(crate) struct DecodeCache {
 /// The place of an address.
 #[inline(always)]
 fn place_of(pc: u32) -> usize
-    ensures { result < 1024 }
+    ensures place { result ≡ place_at pc }
+    ensures below { result < 1024 }
 {
     (pc / 4) as usize % PLACES
 }
 
 /// What stands at the address.
-fn find(mem: &Regions, pc: u32) -> Found
+#[inline(always)]
+pub(crate) fn look_up(mem: &Regions, pc: u32) -> Found
     ensures { result ≡ found_at mem.now pc }
 {
     match mem.fetch(pc) {
@@ -88,42 +90,63 @@ impl DecodeCache {
         self.places = [EMPTY; PLACES];
     }
 
-    /// What stands at the address, which is decoded and kept.
-    #[inline(never)]
-    #[tactic(auto, using(crate::proofs::Keeping::keeping))]
-    fn decode(&mut self, mem: &Regions, pc: u32) -> Found
-        requires { IsCacheOf mem.now self.old.places }
-        ensures found { result ≡ found_at mem.now pc }
-        ensures kept { IsCacheOf mem.now self.new.places }
+    /// Whether the address is kept.
+    #[inline(always)]
+    #[tactic(auto, unfolding(crate::specs::Decoded::keeps))]
+    fn has(&self, pc: u32) -> bool
+        ensures { result ≡ keeps self.now.places pc }
     {
-        let found = find(mem, pc);
-        if let Found::Instruction { word, instr } = found {
-            self.places[place_of(pc)] = Decoded {
-                address: u64::from(pc),
-                word,
-                instr,
-            };
-        }
-        found
+        self.places[place_of(pc)].address == u64::from(pc)
     }
 
-    /// What stands at the address.
+    /// Decodes and keeps the instruction at the address, where one stands there.
+    #[inline(never)]
+    #[tactic(auto, using(crate::proofs::Keeping::keeping))]
+    fn keep(&mut self, mem: &Regions, pc: u32) -> bool
+        requires { IsCacheOf mem.now self.old.places }
+        ensures found { result ≡ is_instruction (found_at mem.now pc) }
+        ensures has { IsTrue result → IsTrue (keeps self.new.places pc) }
+        ensures cache { IsCacheOf mem.now self.new.places }
+    {
+        match look_up(mem, pc) {
+            Found::Instruction { word, instr } => {
+                self.places[place_of(pc)] = Decoded {
+                    address: u64::from(pc),
+                    word,
+                    instr,
+                };
+                true
+            }
+            _ => false,
+        }
+    }
+
+    /// Whether an instruction stands at the address, which is kept then.
+    #[inline(always)]
+    #[tactic(auto, using(crate::proofs::Keeping::having))]
+    fn comes_to_have(&mut self, mem: &Regions, pc: u32) -> bool
+        requires { IsCacheOf mem.now self.old.places }
+        ensures found { result ≡ is_instruction (found_at mem.now pc) }
+        ensures has { IsTrue result → IsTrue (keeps self.new.places pc) }
+        ensures cache { IsCacheOf mem.now self.new.places }
+    {
+        self.has(pc) || self.keep(mem, pc)
+    }
+
+    /// The instruction at the address, where one stands there. It is read from its place also where it was decoded just
+    /// now, which keeps what is done seldom out of the way of the compiler.
     #[inline(always)]
     #[tactic(auto, using(crate::proofs::Keeping::keeping))]
-    pub(crate) fn find(&mut self, mem: &Regions, pc: u32) -> Found
+    pub(crate) fn find(&mut self, mem: &Regions, pc: u32) -> Option<Decoded>
         requires { IsCacheOf mem.now self.old.places }
-        ensures found { result ≡ found_at mem.now pc }
-        ensures kept { IsCacheOf mem.now self.new.places }
+        ensures some { IfSome result (λ d. found_at mem.now pc ≡ Found.Instruction d.word d.instr) }
+        ensures none { IfNone result (is_instruction (found_at mem.now pc) ≡ false) }
+        ensures cache { IsCacheOf mem.now self.new.places }
     {
-        let Decoded {
-            address,
-            word,
-            instr,
-        } = self.places[place_of(pc)];
-        if address == u64::from(pc) {
-            Found::Instruction { word, instr }
+        if self.comes_to_have(mem, pc) {
+            Some(self.places[place_of(pc)])
         } else {
-            self.decode(mem, pc)
+            None
         }
     }
 }

@@ -1,6 +1,6 @@
 #![tactic(auto, unfolding(crate::specs::Step::retire, crate::specs::Step::compute, crate::specs::Step::access_memory, crate::specs::Step::pass, crate::specs::Step::synchronize))]
 
-ghost use Rattle.std.specs.Prelude.{◌≡◌, ◌+◌, ◌<◌, ◌^◌, Some, IfSome, length, slice_index, true, false, IsTrue};
+ghost use Rattle.std.specs.Prelude.{◌≡◌, ◌+◌, ◌<◌, ◌^◌, Some, IfSome, IfNone, length, slice_index, true, false, IsTrue};
 ghost use Rattle.cf_io.specs.Causes.{HasCause};
 ghost use Rattle.mem_regions.specs.Access.{IsWidth, bounds_of, permits_at};
 ghost use Rattle.mem_regions.specs.Ranges.{load_at};
@@ -10,14 +10,14 @@ ghost use Rattle.rv_inst.specs.Accesses.{is_load};
 ghost use Rattle.rv_inst.specs.Operands.{class_of as class_name};
 ghost use Rattle.rv_mul.specs.Values.{computes};
 ghost use Rattle.rv_machine.specs.Machine.{start_hart};
-ghost use Rattle.rv_machine.specs.Decoded.{IsCacheOf, found_at, base_part};
+ghost use Rattle.rv_machine.specs.Decoded.{IsCacheOf, found_at, is_instruction, trap_of, if_m, in_set};
 ghost use Rattle.rv_machine.specs.Streams.{streams_of};
 ghost use Rattle.rv_machine.specs.Acts.{Acts, Does, Steps, Counts, CallsHere};
 ghost use Rattle.rv_machine.specs.Call.{call, asks_input, asks_output};
 ghost use Rattle.rv_machine.specs.Faults.{input_stepped, output_stepped};
 ghost use Rattle.rv_machine.specs.Step.{with_register, retire as retirement, first_value, second_value, compute as computation, loads, stores, access_memory as memory_access, pass as passing, synchronize as synchronization, environment, serial as serial_step, execute as execution, interpret as interpretation, breaks as is_breaking, synchronizes as is_synchronizing};
 
-use crate::decode_cache::{DecodeCache, Found};
+use crate::decode_cache::{DecodeCache, Decoded, Found, look_up};
 use crate::outcome::{Retired, Served, Stepped};
 use crate::serving::serve;
 use cf_io::{Sink, Source};
@@ -78,29 +78,38 @@ fn breaks(i: Instr) -> bool
     matches!(i, Instr::Ebreak)
 }
 
-/// The instruction, where it is none of the M extension.
+/// An instruction of the M extension, where the set has it.
 #[inline(always)]
-fn base(i: Instr) -> Option<Instr>
-    ensures { result ≡ base_part i }
+fn if_m(isa: Isa, i: Instr) -> Option<Instr>
+    ensures { result ≡ if_m isa i }
 {
-    match i {
-        Instr::Mul { .. } => None,
-        _ => Some(i),
+    match isa {
+        Isa::Rv32i => None,
+        Isa::Rv32im => Some(i),
     }
 }
 
 /// The instruction, where the set has it.
 #[inline(always)]
+#[tactic(auto, unfolding(crate::specs::Decoded::in_set))]
+fn in_set(isa: Isa, i: Instr) -> Option<Instr>
+    ensures { result ≡ in_set isa i }
+{
+    match i {
+        Instr::Mul { .. } => if_m(isa, i),
+        _ => Some(i),
+    }
+}
+
+/// The instruction that the word stands for, where the set has it.
+#[inline(always)]
 #[tactic(auto, using(crate::proofs::Sets::sets))]
-fn within(isa: Isa, word: u32, i: Instr) -> Option<Instr>
+fn read_in(isa: Isa, word: u32, i: Instr) -> Option<Instr>
     requires { decoded_m word ≡ Some i }
     ensures exact { result ≡ decoded_as isa word }
     ensures fits { IfSome result (λ i. Fits i) }
 {
-    match isa {
-        Isa::Rv32i => base(i),
-        Isa::Rv32im => Some(i),
-    }
+    in_set(isa, i)
 }
 
 #[inline(always)]
@@ -338,13 +347,27 @@ impl Machine {
         }
     }
 
-    /// What stands at the program counter.
+    /// The instruction at the program counter, where one stands there.
     #[inline(always)]
-    fn find(&mut self) -> Found
-        ensures found { result ≡ found_at self.old.mem self.old.pc }
+    fn find(&mut self) -> Option<Decoded>
+        ensures some { IfSome result (λ d. found_at self.old.mem self.old.pc ≡ Found.Instruction d.word d.instr) }
+        ensures none { IfNone result (is_instruction (found_at self.old.mem self.old.pc) ≡ false) }
         ensures unchanged { self.new ≡ self.old }
     {
         self.cache.find(&self.mem, self.pc)
+    }
+
+    /// The trap where none does.
+    #[inline(always)]
+    fn stop(&self) -> Stepped
+        ensures { result ≡ trap_of self.now.pc (found_at self.now.mem self.now.pc) }
+    {
+        match look_up(&self.mem, self.pc) {
+            Found::Instruction { word, .. } => self.trap(2, word),
+            Found::Unknown(word) => self.trap(2, word),
+            Found::Nothing => self.trap(1, self.pc),
+            Found::Misaligned => self.trap(0, self.pc),
+        }
     }
 
     #[inline(always)]
@@ -434,7 +457,7 @@ impl Machine {
         ensures input_asked { (decoded_as isa word ≡ Some Instr.Ecall → asks_input self.old.regs self.old.mem ≡ false) → input.new ≡ input.old }
         ensures output_asked { (decoded_as isa word ≡ Some Instr.Ecall → asks_output self.old.regs self.old.mem ≡ false) → output.new ≡ output.old }
     {
-        match within(isa, word, i) {
+        match read_in(isa, word, i) {
             Some(i) => self.execute(word, i, input, output),
             None => self.trap(2, word),
         }
@@ -461,12 +484,9 @@ impl Machine {
         ensures input_asked { (CallsHere isa self.old → asks_input self.old.regs self.old.mem ≡ false) → input.new ≡ input.old }
         ensures output_asked { (CallsHere isa self.old → asks_output self.old.regs self.old.mem ≡ false) → output.new ≡ output.old }
     {
-        let pc = self.pc();
         match self.find() {
-            Found::Instruction { word, instr } => self.interpret(isa, word, instr, input, output),
-            Found::Unknown(word) => self.trap(2, word),
-            Found::Nothing => self.trap(1, pc),
-            Found::Misaligned => self.trap(0, pc),
+            Some(decoded) => self.interpret(isa, decoded.word, decoded.instr, input, output),
+            None => self.stop(),
         }
     }
 
