@@ -12,3 +12,6 @@ pub use drawn::Drawn;
 pub use pace::Pace;
 pub use policy::Policy;
 pub use round::Round;
+
+#[cfg(test)]
+mod tests;
