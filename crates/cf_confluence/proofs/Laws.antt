@@ -1,19 +1,18 @@
 -- Drain and confluence: what every order of moves comes to, of each accepted layout and each machine with its 32 registers.
 use Rattle.std.proofs.Common.{◌≡◌, ℕ, ◌+◌, ◌*◌, ◌≤◌, suc, List, ◌∷◌, Option, Some, None, true, refl, sym, subst, ◌∙◌, length}
-use Rattle.std.specs.Prelude.{slice_get, slice_index}
+use Rattle.std.specs.Prelude.{slice_get}
 use Rattle.rv_machine.specs.Machine.{Machine}
 use Rattle.cf_layout.specs.Layout.{Plan}
 use Rattle.cf_layout.specs.Accepted.{IsAccepted}
 use Rattle.cf_bind.specs.declared.moves.Move.{Move}
 use Rattle.cf_bind.specs.declared.passenger.End.{End}
 use Rattle.cf_semantics.specs.State.{Moment}
-use Rattle.cf_semantics.specs.Passengers.{cached}
 use Rattle.cf_semantics.specs.Bars.{bar}
 use Rattle.cf_semantics.specs.Moves.{next}
 use Rattle.cf_semantics.specs.Runs.{IsReached, IsRun, run, start}
 use Rattle.cf_semantics.specs.Weight.{counts, is_issue, issues, moves_per_issue, weight}
 use Rattle.cf_semantics.specs.Drained.{IsStuck, is_drained}
-use Rattle.cf_semantics.specs.Determined.{Drains, EndAlike, EndsAs, Rests}
+use Rattle.cf_semantics.specs.Determined.{Drains, EndAlike, EndsAs, KeepsRegisters, Rests}
 use Rattle.cf_semantics.specs.Sites.{AreIndependent, IsLocal}
 use Rattle.cf_refinement.specs.Invariant.{HoldsAfter, HoldsAt, Sound}
 use Rattle.cf_refinement.proofs.Accepted.{accepted_suits}
@@ -93,8 +92,8 @@ some_pick plan x m acc wide reached going =
     (has_some (candidates plan m.state) p.0.0 p.0.1, has_some (held_back (candidates plan m.state)) p.1.0 p.1.1)
 
 -- in a drained state that has not ended, each value that is kept at the bottom is its register's
-pub kept_is_true : (plan : Plan) (x : Machine) (m : Moment) → IsAccepted plan → length x.hart.regs ≡ 32 → IsReached plan x m → m.state.ending ≡ None → is_drained m.state ≡ true → (r v : ℕ) → cached m.state.cache r ≡ Some v → v ≡ slice_index m.state.regs r
-kept_is_true plan x m acc wide reached going drained r v kept = kept_true plan x m (reached_holds plan x m acc wide reached) going drained r v kept
+pub kept_is_true : (plan : Plan) (x : Machine) (m : Moment) → IsAccepted plan → length x.hart.regs ≡ 32 → IsReached plan x m → m.state.ending ≡ None → is_drained m.state ≡ true → KeepsRegisters m.state
+kept_is_true plan x m acc wide reached going drained = kept_true plan x m (reached_holds plan x m acc wide reached) going drained
 
 -- the table of sites is right for every move
 pub move_local : (plan : Plan) (m : Moment) (mv : Move) → IsLocal plan m mv

@@ -1,19 +1,18 @@
 //! The laws of the processor: what holds of every run, whatever the order of its moves. Each is the contract of a function
 //! that does nothing; docs/PROMISES.md says each in plain words.
 
-ghost use Rattle.std.specs.Prelude.{◌≡◌, ◌≤◌, ◌*◌, ◌+◌, ◌⊎◌, ℕ, suc, List, ◌∷◌, Some, None, true, length, slice_index};
+ghost use Rattle.std.specs.Prelude.{◌≡◌, ◌≤◌, ◌*◌, ◌+◌, ◌⊎◌, ℕ, suc, List, ◌∷◌, Some, None, true, length};
 ghost use Rattle.rv_machine.specs.Machine.{Machine as Sequential};
 ghost use Rattle.cf_layout.specs.Layout.{Plan};
 ghost use Rattle.cf_layout.specs.Accepted.{IsAccepted};
 ghost use Rattle.cf_bind.specs.declared.moves.Move.{Move};
 ghost use Rattle.cf_semantics.specs.Bars.{bar};
-ghost use Rattle.cf_semantics.specs.Determined.{Drains, EndsAs, EndAlike, Rests};
+ghost use Rattle.cf_semantics.specs.Determined.{Drains, EndsAs, EndAlike, KeepsRegisters, Rests};
 ghost use Rattle.cf_semantics.specs.Drained.{is_drained, IsStuck};
 ghost use Rattle.cf_semantics.specs.Heeds.{Heeds};
 ghost use Rattle.cf_semantics.specs.Laws.{ComputesAsFinished, AccessesAsLaunched, ServesAndPasses, ReadsAsIssued};
 ghost use Rattle.cf_semantics.specs.Lines.{lines};
 ghost use Rattle.cf_semantics.specs.Moves.{next};
-ghost use Rattle.cf_semantics.specs.Passengers.{cached};
 ghost use Rattle.cf_semantics.specs.Refines.{IsPrefix, Refines};
 ghost use Rattle.cf_semantics.specs.Runs.{IsReached, IsRun, run, start};
 ghost use Rattle.cf_semantics.specs.Sites.{AreIndependent, IsLocal};
@@ -122,6 +121,5 @@ pub fn t5_5()
 /// In a drained state each value that is kept at the bottom is its register's.
 pub fn t5_7()
     ensures { (plan : Plan) (x : Sequential) (m : Moment) → IsAccepted plan → length x.hart.regs ≡ 32 → IsReached plan x m →
-        m.state.ending ≡ None → is_drained m.state ≡ true → (r v : ℕ) → cached m.state.cache r ≡ Some v →
-        v ≡ slice_index m.state.regs r }
+        m.state.ending ≡ None → is_drained m.state ≡ true → KeepsRegisters m.state }
 {}
