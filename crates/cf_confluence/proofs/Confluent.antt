@@ -1,6 +1,5 @@
 -- Two runs without Issue from one moment that cannot be extended end alike; and what is kept at the bottom of a drained state is the registers'.
-use Rattle.std.proofs.Common.{◌≡◌, ℕ, ◌+◌, List, [], ◌∷◌, Some, None, Bool, true, false, refl, sym, ap, subst, ◌∙◌}
-use Rattle.std.specs.Prelude.{slice_index}
+use Rattle.std.proofs.Common.{◌≡◌, ◌+◌, List, [], ◌∷◌, Some, None, Bool, true, false, refl, sym, ap, subst, ◌∙◌}
 use Rattle.rv_inst.specs.declared.isa.Isa.{Isa}
 use Rattle.rv_machine.specs.Machine.{Machine}
 use Rattle.rv_machine.specs.After.{after}
@@ -9,21 +8,17 @@ use Rattle.cf_bind.specs.declared.moves.Move.{Move}
 use Rattle.cf_bind.specs.declared.passenger.End.{End}
 use Rattle.cf_semantics.specs.Instructions.{Stops, step_here}
 use Rattle.cf_semantics.specs.State.{State, Moment}
-use Rattle.cf_semantics.specs.Column.{Item}
 use Rattle.cf_semantics.specs.Layouts.{isa_of}
-use Rattle.cf_semantics.specs.Passengers.{cached}
 use Rattle.cf_semantics.specs.Refines.{gained}
 use Rattle.cf_semantics.specs.Right.{right, way}
 use Rattle.cf_semantics.specs.Runs.{IsRun, run, opened}
-use Rattle.cf_semantics.specs.Walks.{walk}
 use Rattle.cf_semantics.specs.Drained.{is_drained}
-use Rattle.cf_semantics.specs.Determined.{Drains, EndAlike, EndsAs, EndsAt, IsDrainedAt, IsEndedAt, IsSame}
-use Rattle.cf_semantics.specs.Path as trail
+use Rattle.cf_semantics.specs.Determined.{Drains, EndAlike, EndsAs, EndsAt, IsDrainedAt, IsEndedAt, IsSame, KeepsRegisters}
 use Rattle.cf_refinement.specs.Invariant.{HoldsAfter, HoldsAt, Sound}
-use Rattle.cf_refinement.specs.Sure as sure
 use Rattle.cf_refinement.proofs.Level.{empty_column}
 use Rattle.cf_refinement.proofs.Runs.{going}
 use Rattle.cf_confluence.proofs.Determined.{some_same}
+use Rattle.cf_confluence.proofs.Rested.{empty_keeps}
 
 same_through : (s t u : State) → IsSame s u → IsSame t u → IsSame s t
 same_through s t u a b = record {
@@ -92,8 +87,7 @@ halted_alike l m t u e f a b =
     subst (λ (v : Moment). EndAlike v u) p (subst (λ (v : Moment). EndAlike m v) q (alike_self m e f))
 
 -- in a drained state that has not ended, each value that is kept at the bottom is its register's
-pub kept_true : (l : Plan) (x0 : Machine) (m : Moment) → HoldsAfter l x0 m → m.state.ending ≡ None → is_drained m.state ≡ true → (r v : ℕ) → cached m.state.cache r ≡ Some v → v ≡ slice_index m.state.regs r
-kept_true l x0 m h e d r v c =
+pub kept_true : (l : Plan) (x0 : Machine) (m : Moment) → HoldsAfter l x0 m → m.state.ending ≡ None → is_drained m.state ≡ true → KeepsRegisters m.state
+kept_true l x0 m h e d =
     let sound : Sound l m.state m.rest m.output h.machine = subst (HoldsAt l m.state m.rest m.output h.machine) e h.stage in
-    let k = subst (λ (q : List Item). sure.Keeps (walk (trail.past (isa_of l)) q (trail.top m.state h.machine)) m.state.cache) (empty_column m.state d) sound.cache in
-    k r v c ∙ ap (λ (q : List ℕ). slice_index q r) (sym sound.regs)
+    empty_keeps l h.machine m sound (empty_column m.state d)

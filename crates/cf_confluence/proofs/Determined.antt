@@ -31,7 +31,7 @@ use Rattle.cf_semantics.specs.Determined.{Drains, EndsAs, EndsAt, IsDrainedAt, I
 use Rattle.cf_semantics.specs.Refines.{gained}
 use Rattle.cf_semantics.specs.Instructions.{Goes, Stops, behind, step_at, step_here}
 use Rattle.cf_semantics.specs.Layouts.{isa_of}
-use Rattle.cf_semantics.specs.Lines.{line_at, retires}
+use Rattle.cf_semantics.specs.Lines.{lines_at, retires}
 use Rattle.cf_semantics.specs.Moves.{left, moved, next, without_passenger, written}
 use Rattle.cf_semantics.specs.Right.{Way, begin, follows, goes, past, past_passenger, stops, way}
 use Rattle.cf_semantics.specs.Runs.{IsRun, run}
@@ -170,7 +170,7 @@ steady_total l x0 m t n b e c h k w f =
 
 -- Leave, by what becomes of the machine
 abbrev pub LeftSo : Plan → State → Machine → State → List ℕ → List ℕ → Type 0
-LeftSo l s x t rest out = ((t.ending ≡ s.ending) × (t.retired ≡ s.retired) × (retires l s Leave ≡ []) × Sound l t rest out x) ⊎ (((y : Machine) × (step_here (isa_of l) x ≡ Goes y) × (t.ending ≡ s.ending) × (t.retired ≡ suc s.retired) × (retires l s Leave ≡ line_at (isa_of l) x ∷ []) × Sound l t rest out y) ⊎ ((e : End) × (t.ending ≡ Some e) × (t.retired ≡ s.retired) × (retires l s Leave ≡ []) × IsOver l t rest out x e))
+LeftSo l s x t rest out = ((t.ending ≡ s.ending) × (t.retired ≡ s.retired) × (retires l s Leave ≡ []) × Sound l t rest out x) ⊎ (((y : Machine) × (step_here (isa_of l) x ≡ Goes y) × (t.ending ≡ s.ending) × (t.retired ≡ suc s.retired) × (retires l s Leave ≡ lines_at (isa_of l) x) × Sound l t rest out y) ⊎ ((e : End) × (t.ending ≡ Some e) × (t.retired ≡ s.retired) × (retires l s Leave ≡ []) × IsOver l t rest out x e))
 
 -- what the walk comes to, over the machine to which the state goes on
 pub record LeftTotal (l : Plan) (s t : State) (x : Machine) (n : ℕ) (b : Bool) : Type 0 where

@@ -1,23 +1,24 @@
 -- Drain and confluence: what every order of moves comes to, of each accepted layout and each machine with its 32 registers.
-use Rattle.std.proofs.Common.{◌≡◌, ℕ, ◌+◌, ◌*◌, ◌≤◌, suc, List, ◌∷◌, Option, Some, None, true, refl, sym, subst, ◌∙◌, length}
-use Rattle.std.specs.Prelude.{slice_get, slice_index}
+use Rattle.std.proofs.Common.{◌≡◌, ℕ, ◌+◌, ◌*◌, ◌≤◌, suc, List, ◌∷◌, Option, Some, None, true, false, refl, sym, subst, ◌∙◌, arith, length}
+use Rattle.std.specs.Prelude.{slice_get}
 use Rattle.rv_machine.specs.Machine.{Machine}
 use Rattle.cf_layout.specs.Layout.{Plan}
 use Rattle.cf_layout.specs.Accepted.{IsAccepted}
 use Rattle.cf_bind.specs.declared.moves.Move.{Move}
 use Rattle.cf_bind.specs.declared.passenger.End.{End}
 use Rattle.cf_semantics.specs.State.{Moment}
-use Rattle.cf_semantics.specs.Passengers.{cached}
 use Rattle.cf_semantics.specs.Bars.{bar}
 use Rattle.cf_semantics.specs.Moves.{next}
 use Rattle.cf_semantics.specs.Runs.{IsReached, IsRun, run, start}
 use Rattle.cf_semantics.specs.Weight.{counts, is_issue, issues, moves_per_issue, weight}
 use Rattle.cf_semantics.specs.Drained.{IsStuck, is_drained}
-use Rattle.cf_semantics.specs.Determined.{Drains, EndAlike, EndsAs, Rests}
+use Rattle.cf_semantics.specs.Determined.{Drains, EndAlike, EndsAs, KeepsRegisters, Rests}
 use Rattle.cf_semantics.specs.Sites.{AreIndependent, IsLocal}
+use Rattle.cf_semantics.specs.Stutters.{Stutters}
 use Rattle.cf_refinement.specs.Invariant.{HoldsAfter, HoldsAt, Sound}
 use Rattle.cf_refinement.proofs.Accepted.{accepted_suits}
 use Rattle.cf_refinement.proofs.Runs.{holds_after}
+use Rattle.cf_refinement.proofs.Stutters.{stutters}
 use Rattle.cf_confluence.proofs.Apart.{all_retired, first_move, run_keeps}
 use Rattle.cf_confluence.proofs.Bound.{bounded_drain, bounded_run, costs, sound_at}
 use Rattle.cf_semantics.specs.Candidates.{candidates, held_back}
@@ -40,6 +41,17 @@ pub move_costs : (plan : Plan) (x : Machine) (m : Moment) (mv : Move) → IsAcce
 move_costs plan x m mv acc wide reached allowed =
     let h = reached_holds plan x m acc wide reached in
     costs plan m h.machine mv (accepted_suits plan acc) allowed (sound_at plan x m mv allowed h)
+
+-- seen from outside, a move is no step of the sequential machine, or exactly its next one
+pub move_stutters : (plan : Plan) (x : Machine) (m : Moment) (mv : Move) → IsAccepted plan → length x.hart.regs ≡ 32 → IsReached plan x m → bar plan m.state mv ≡ None → Stutters plan x m mv
+move_stutters plan x m mv acc wide reached allowed = stutters plan x m mv (accepted_suits plan acc) allowed (reached_holds plan x m acc wide reached)
+
+-- and the weight falls at each move but Issue
+pub rank_falls : (plan : Plan) (x : Machine) (m : Moment) (mv : Move) → IsAccepted plan → length x.hart.regs ≡ 32 → IsReached plan x m → bar plan m.state mv ≡ None → is_issue mv ≡ false → suc (weight plan (next plan m mv).state) ≤ weight plan m.state
+rank_falls plan x m mv acc wide reached allowed other =
+    let cost = move_costs plan x m mv acc wide reached allowed in
+    let none : moves_per_issue plan * counts (is_issue mv) 1 ≡ 0 = rw other (omega arith) in
+    omega (arith, cost, none)
 
 -- a run from the beginning has at most K moves for each Issue
 pub run_bounded : (plan : Plan) (x : Machine) (moves : List Move) → IsAccepted plan → length x.hart.regs ≡ 32 → IsRun plan (start plan x) moves → length moves ≤ moves_per_issue plan * issues moves
@@ -93,8 +105,8 @@ some_pick plan x m acc wide reached going =
     (has_some (candidates plan m.state) p.0.0 p.0.1, has_some (held_back (candidates plan m.state)) p.1.0 p.1.1)
 
 -- in a drained state that has not ended, each value that is kept at the bottom is its register's
-pub kept_is_true : (plan : Plan) (x : Machine) (m : Moment) → IsAccepted plan → length x.hart.regs ≡ 32 → IsReached plan x m → m.state.ending ≡ None → is_drained m.state ≡ true → (r v : ℕ) → cached m.state.cache r ≡ Some v → v ≡ slice_index m.state.regs r
-kept_is_true plan x m acc wide reached going drained r v kept = kept_true plan x m (reached_holds plan x m acc wide reached) going drained r v kept
+pub kept_is_true : (plan : Plan) (x : Machine) (m : Moment) → IsAccepted plan → length x.hart.regs ≡ 32 → IsReached plan x m → m.state.ending ≡ None → is_drained m.state ≡ true → KeepsRegisters m.state
+kept_is_true plan x m acc wide reached going drained = kept_true plan x m (reached_holds plan x m acc wide reached) going drained
 
 -- the table of sites is right for every move
 pub move_local : (plan : Plan) (m : Moment) (mv : Move) → IsLocal plan m mv

@@ -15,6 +15,8 @@ pub mod Confluent
 pub mod Laws
 pub mod Effects
 pub mod Touches
+pub mod BytesBack
+pub mod TakenBack
 pub mod Contents
 pub mod Locals
 pub mod Independent

@@ -1,6 +1,6 @@
 -- A sound state in which no move but Issue is allowed stands as one that starts on the machine.
 use Rattle.std.proofs.Common.{◌≡◌, ℕ, zero, suc, List, [], ◌∷◌, ◌++◌, length, Option, Some, None, Bool, true, false, ◌&&◌, ◌||◌, not, refl, sym, ap, subst, ◌∙◌, arith}
-use Rattle.std.specs.Prelude.{slice_get, replicate, map, unwrap_or}
+use Rattle.std.specs.Prelude.{slice_get, slice_index, replicate, map, unwrap_or}
 use Rattle.std.specs.List.{list_any}
 use Rattle.rv_machine.specs.Machine.{Machine}
 use Rattle.rv_machine.specs.After.{after}
@@ -20,11 +20,13 @@ use Rattle.cf_semantics.specs.Runs.{opened, empty_cell, empty_siding}
 use Rattle.cf_semantics.specs.Refines.{gained}
 use Rattle.cf_semantics.specs.Walks.{walk}
 use Rattle.cf_semantics.specs.Drained.{is_drained, is_occupied, IsStuck}
-use Rattle.cf_semantics.specs.Determined.{IsSame, IsDrainedAt}
+use Rattle.cf_semantics.specs.Determined.{IsSame, IsDrainedAt, KeepsRegisters}
+use Rattle.cf_semantics.specs.Path as trail
 use Rattle.cf_refinement.specs.Invariant.{HoldsAfter, HoldsAt, Sound}
 use Rattle.cf_refinement.specs.Operations.{operations, bare}
 use Rattle.cf_refinement.specs.Suited.{Suits}
 use Rattle.cf_refinement.specs.Port as dock
+use Rattle.cf_refinement.specs.Sure as sure
 use Rattle.cf_refinement.proofs.Sidings.{cells_in}
 use Rattle.cf_confluence.proofs.Counted.{after_counts}
 use Rattle.cf_confluence.proofs.Drains.{IsEmpty, stuck_empty}
@@ -114,6 +116,12 @@ after_gained l x0 m h = ap (after (isa_of l) x0) (gained_is l x0 m h) ∙ h.afte
 pub retired_is : (l : Plan) (x0 : Machine) (m : Moment) (h : HoldsAfter l x0 m) → m.state.retired ≡ h.machine.hart.retired
 retired_is l x0 m h = h.count ∙ sym (after_counts (isa_of l) x0 h.machine h.gained h.after)
 
+-- where nothing stands in the pipes, each value that is kept at the bottom is its register's
+pub empty_keeps : (l : Plan) (x : Machine) (m : Moment) → Sound l m.state m.rest m.output x → column m.state ≡ [] → KeepsRegisters m.state
+empty_keeps l x m h e r v c =
+    let k = subst (λ (q : List Item). sure.Keeps (walk (trail.past (isa_of l)) q (trail.top m.state x)) m.state.cache) e h.cache in
+    k r v c ∙ ap (λ (q : List ℕ). slice_index q r) (sym h.regs)
+
 pub empty_drained : (l : Plan) (x : Machine) (m : Moment) → IsTidy l m.state → m.state.retired ≡ x.hart.retired → m.state.ending ≡ None → Sound l m.state m.rest m.output x → IsEmpty l m.state x → IsDrainedAt l x m
 unfolding opened
 empty_drained l x m t n e h q =
@@ -130,6 +138,7 @@ empty_drained l x m t n e h q =
         ending = e;
         failed = t.failed;
       };
+      kept = empty_keeps l x m h q.column;
       rest = ends.is_rest;
       output = ends.is_out;
     }

@@ -74,14 +74,14 @@ stages_other (p ∷ ps) cells j e =
     let z = either (j == p.stage) (any_stage j ps) e in
     stages_other ps (put_cell cells p.stage p.cell) j z.1 ∙ cell_other cells p.stage j p.cell (differ j p.stage z.0)
 
-set_swap : {A : Type 0} → (q : List A) (i j : ℕ) (a b : A) → i ≢ j → slice_set (slice_set q i a) j b ≡ slice_set (slice_set q j b) i a
+pub set_swap : {A : Type 0} → (q : List A) (i j : ℕ) (a b : A) → i ≢ j → slice_set (slice_set q i a) j b ≡ slice_set (slice_set q j b) i a
 set_swap [] i j a b e = refl
 set_swap (x ∷ q) zero zero a b e = absurd (e refl)
 set_swap (x ∷ q) zero (suc j) a b e = refl
 set_swap (x ∷ q) (suc i) zero a b e = refl
 set_swap (x ∷ q) (suc i) (suc j) a b e = ap (λ (l : List _). x ∷ l) (set_swap q i j a b (λ f. e (ap suc f)))
 
-put_swap : (cells : List Cell) (i j : ℕ) (c d : Cell) → i ≢ j → put_cell (put_cell cells i c) j d ≡ put_cell (put_cell cells j d) i c
+pub put_swap : (cells : List Cell) (i j : ℕ) (c d : Cell) → i ≢ j → put_cell (put_cell cells i c) j d ≡ put_cell (put_cell cells j d) i c
 put_swap cells zero zero c d e = refl
 put_swap cells zero (suc j) c d e = refl
 put_swap cells (suc i) zero c d e = refl

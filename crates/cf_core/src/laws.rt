@@ -1,24 +1,26 @@
 //! The laws of the processor: what holds of every run, whatever the order of its moves. Each is the contract of a function
 //! that does nothing; docs/PROMISES.md says each in plain words.
 
-ghost use Rattle.std.specs.Prelude.{◌≡◌, ◌≤◌, ◌*◌, ◌+◌, ◌⊎◌, ℕ, suc, List, ◌∷◌, Some, None, true, length, slice_index};
+ghost use Rattle.std.specs.Prelude.{◌≡◌, ◌≢◌, ◌≤◌, ◌*◌, ◌+◌, ◌⊎◌, ℕ, suc, List, ◌∷◌, Some, None, true, false, length};
 ghost use Rattle.rv_machine.specs.Machine.{Machine as Sequential};
 ghost use Rattle.cf_layout.specs.Layout.{Plan};
 ghost use Rattle.cf_layout.specs.Accepted.{IsAccepted};
 ghost use Rattle.cf_bind.specs.declared.moves.Move.{Move};
+ghost use Rattle.cf_bind.specs.declared.moves.Move.TheVariants.{Serve};
 ghost use Rattle.cf_semantics.specs.Bars.{bar};
-ghost use Rattle.cf_semantics.specs.Determined.{Drains, EndsAs, EndAlike, Rests};
+ghost use Rattle.cf_semantics.specs.Determined.{Drains, EndsAs, EndAlike, KeepsRegisters, Rests};
 ghost use Rattle.cf_semantics.specs.Drained.{is_drained, IsStuck};
 ghost use Rattle.cf_semantics.specs.Heeds.{Heeds};
+ghost use Rattle.cf_semantics.specs.Kept.{kept, taken_back};
 ghost use Rattle.cf_semantics.specs.Laws.{ComputesAsFinished, AccessesAsLaunched, ServesAndPasses, ReadsAsIssued};
 ghost use Rattle.cf_semantics.specs.Lines.{lines};
 ghost use Rattle.cf_semantics.specs.Moves.{next};
-ghost use Rattle.cf_semantics.specs.Passengers.{cached};
 ghost use Rattle.cf_semantics.specs.Refines.{IsPrefix, Refines};
 ghost use Rattle.cf_semantics.specs.Runs.{IsReached, IsRun, run, start};
 ghost use Rattle.cf_semantics.specs.Sites.{AreIndependent, IsLocal};
 ghost use Rattle.cf_semantics.specs.SoundAfter.{IsSoundAfter};
 ghost use Rattle.cf_semantics.specs.State.{Moment};
+ghost use Rattle.cf_semantics.specs.Stutters.{Stutters};
 ghost use Rattle.cf_semantics.specs.Weight.{counts, is_issue, issues, moves_per_issue, weight};
 
 /// What a unit computes is what the sequential machine computes.
@@ -122,6 +124,23 @@ pub fn t5_5()
 /// In a drained state each value that is kept at the bottom is its register's.
 pub fn t5_7()
     ensures { (plan : Plan) (x : Sequential) (m : Moment) → IsAccepted plan → length x.hart.regs ≡ 32 → IsReached plan x m →
-        m.state.ending ≡ None → is_drained m.state ≡ true → (r v : ℕ) → cached m.state.cache r ≡ Some v →
-        v ≡ slice_index m.state.regs r }
+        m.state.ending ≡ None → is_drained m.state ≡ true → KeepsRegisters m.state }
+{}
+
+/// An allowed move other than Serve is taken back, at any moment: with the old contents of what it wrote put back, all is as
+/// before.
+pub fn moves_are_taken_back()
+    ensures { (plan : Plan) (m : Moment) (mv : Move) → bar plan m.state mv ≡ None → mv ≢ Serve →
+        taken_back (next plan m mv) (kept plan m.state mv) ≡ m }
+{}
+
+/// The refinement move by move. Seen through count, registers and ending a move is no step of the sequential machine, or it is
+/// Leave, and exactly the machine's next step; seen through input and output Serve alone is one, and seen through memory
+/// Access and Serve alone. A rank, the weight, falls at each move but Issue, which no view sees.
+pub fn stutters()
+    ensures views { (plan : Plan) (x : Sequential) (m : Moment) (mv : Move) → IsAccepted plan → length x.hart.regs ≡ 32 →
+        IsReached plan x m → bar plan m.state mv ≡ None → Stutters plan x m mv }
+    ensures rank { (plan : Plan) (x : Sequential) (m : Moment) (mv : Move) → IsAccepted plan → length x.hart.regs ≡ 32 →
+        IsReached plan x m → bar plan m.state mv ≡ None → is_issue mv ≡ false →
+        suc (weight plan (next plan m mv).state) ≤ weight plan m.state }
 {}

@@ -30,7 +30,7 @@ use Rattle.cf_refinement.specs.Stands.{Each, Stands}
 use Rattle.cf_refinement.specs.Suited.{Suits}
 use Rattle.cf_semantics.specs.Bars.{access_bar, bar, last_op, row_bar}
 use Rattle.cf_semantics.specs.Column.{Down, Item, Up, column}
-use Rattle.cf_semantics.specs.Instructions.{Goes, access_trap, answer_of, behind, dst_of, is_memory, mem_after, step_at, value_written}
+use Rattle.cf_semantics.specs.Instructions.{Goes, Stepped, access_trap, answer_of, behind, dst_of, is_memory, mem_after, step_at, value_written}
 use Rattle.cf_semantics.specs.Layouts.{isa_of, port}
 use Rattle.cf_semantics.specs.Moves.{accessed, moved, operation, set_last}
 use Rattle.cf_semantics.specs.Options.{is_some, on}
@@ -135,12 +135,12 @@ write_answers : (o : Option Binding) (d : Option ℕ) (v : ℕ) (regs : List ℕ
 write_answers None d v regs l b e = tt
 write_answers (Some q) d v regs l b e = rw (← e) (get_or-set_same regs q.reg v 0 (rw l (b q.reg (sym e))))
 
-made : (isa : Isa) (p : Passenger) (w : trail.Walk) → length w.machine.hart.regs ≡ 32 → is_memory (kind p) ≡ true → missing p.src1 ≡ None → missing p.src2 ≡ None → access_trap (instruction p) p.pc (value_in p.src1) (bounds_of w.machine.hart.mem) ≡ None → sure.SureAt isa p w → ((behind (step_at isa w.machine p.pc) w.machine).hart.mem ≡ mem_after (instruction p) (value_in p.src1) (value_in p.src2) w.machine.hart.mem) × dock.Answers p.dst (behind (step_at isa w.machine p.pc) w.machine).hart.regs (answer_of (instruction p) (value_in p.src1) (value_in p.src2) w.machine.hart.mem)
+made : (isa : Isa) (p : Passenger) (w : trail.Walk) → length w.machine.hart.regs ≡ 32 → is_memory (kind p) ≡ true → missing p.src1 ≡ None → missing p.src2 ≡ None → access_trap (instruction p) p.pc (value_in p.src1) (bounds_of w.machine.hart.mem) ≡ None → sure.SureAt isa p w → (step_at isa w.machine p.pc ≡ Goes (behind (step_at isa w.machine p.pc) w.machine)) × ((behind (step_at isa w.machine p.pc) w.machine).hart.mem ≡ mem_after (instruction p) (value_in p.src1) (value_in p.src2) w.machine.hart.mem) × dock.Answers p.dst (behind (step_at isa w.machine p.pc) w.machine).hart.regs (answer_of (instruction p) (value_in p.src1) (value_in p.src2) w.machine.hart.mem)
 unfolding sure.SureAt
 made isa p w l m m1 m2 t h =
     let q = l2 isa p w.machine w.goto m m1 m2 h.0 in
     let s : step_at isa w.machine p.pc ≡ Goes (after_access w.machine (instruction p) p.pc (value_in p.src1) (value_in p.src2)) = rw t at q.1 in
-    (rw s refl, rw s (write_answers p.dst (dst_of (instruction p)) _ w.machine.hart.regs l (sure_dst_below isa p w.machine (step_at isa w.machine p.pc) w.goto (instruction p) q.0 h.0) (h.0.shape (instruction p) q.0).three))
+    (s ∙ ap (λ (z : Stepped). Goes (behind z w.machine)) (sym s), rw s refl, rw s (write_answers p.dst (dst_of (instruction p)) _ w.machine.hart.regs l (sure_dst_below isa p w.machine (step_at isa w.machine p.pc) w.goto (instruction p) q.0 h.0) (h.0.shape (instruction p) q.0).three))
 
 unanswered : (p : Passenger) (o : Option ℕ) → o ≡ None → is_memory (kind p) ≡ true → p.recovered ≡ false → ahead.has_ported p o ≡ false
 unanswered p o e m n = grind arith
@@ -177,12 +177,29 @@ not_barred w s r = go w.path.barred refl
 same4 : {A : Type 0} → (f : Instr → ℕ → ℕ → memory.Memory → A) → {i j : Instr} {a c b d : ℕ} {m n : memory.Memory} → i ≡ j → a ≡ c → b ≡ d → m ≡ n → f i a b m ≡ f j c d n
 same4 f e g h k = rw (e, g, h, k) refl
 
-pub access_kept : {rest out : List ℕ} (l : Plan) (s : State) (x : Machine) → Suits l → bar l s Access ≡ None → Sound l s rest out x → Sound l (moved l s Access) rest out x
-access_kept {rest} {out} l s x acc e h =
+-- the scene of an access: the operation, its passenger, the topmost that is out, and the machine where that stands
+pub record Scene (l : Plan) (s : State) (x : Machine) : Type 0 where
+  pub ready : Accesses l s
+  pub first : First l (port l) (column s) (record ready.what { answer = None })
+  pub memory : is_memory (kind first.who) ≡ true
+  pub flies : ahead.flies first.who ≡ true
+  pub live : first.who.dead ≡ false
+  pub calm : (walk (dock.past (isa_of l)) first.above (dock.top l s x)).risky ≡ false
+  pub landed : Landed first.above
+  pub waiting : Waiting first.below
+  pub unanswered : (walk (dock.past (isa_of l)) first.above (dock.top l s x)).answer ≡ None
+  pub range : (launch_stage l (port l) ≤ first.stage) × (first.stage ≤ recover_stage l (port l))
+  pub certain : sure.SureAt (isa_of l) first.who (walk (dock.past (isa_of l)) first.above (dock.top l s x)).path
+  pub before : s.mem ≡ (walk (dock.past (isa_of l)) first.above (dock.top l s x)).path.machine.hart.mem
+  pub goes : step_at (isa_of l) (walk (dock.past (isa_of l)) first.above (dock.top l s x)).path.machine first.who.pc ≡ Goes (behind (step_at (isa_of l) (walk (dock.past (isa_of l)) first.above (dock.top l s x)).path.machine first.who.pc) (walk (dock.past (isa_of l)) first.above (dock.top l s x)).path.machine)
+  pub stored : mem_after ready.what.instr ready.what.a ready.what.b s.mem ≡ (behind (step_at (isa_of l) (walk (dock.past (isa_of l)) first.above (dock.top l s x)).path.machine first.who.pc) (walk (dock.past (isa_of l)) first.above (dock.top l s x)).path.machine).hart.mem
+  pub answers : dock.Answers first.who.dst (behind (step_at (isa_of l) (walk (dock.past (isa_of l)) first.above (dock.top l s x)).path.machine first.who.pc) (walk (dock.past (isa_of l)) first.above (dock.top l s x)).path.machine).hart.regs (answer_of ready.what.instr ready.what.a ready.what.b s.mem)
+
+pub access_scene : {rest out : List ℕ} (l : Plan) (s : State) (x : Machine) → Suits l → bar l s Access ≡ None → Sound l s rest out x → Scene l s x
+access_scene {rest} {out} l s x acc e h =
     let r = access_ready l s (bar_row l s Access e) in
     let k = (port l) in
     let q = siding_at s k in
-    let n = berthed l acc s (column s) k h.moored Memory acc.memory in
     let f = first_out l k (column s) (record r.what { answer = None }) (operations (set_last q None)) (sym (h.moored.flown k) ∙ operations-last q r.what r.lies) in
     let p = f.who in
     let i = f.stage in
@@ -206,16 +223,45 @@ access_kept {rest} {out} l s x acc e h =
     let certain : sure.SureAt (isa_of l) p u.path = sure_here (isa_of l) i p u.path known.0 unbarred (subst (λ (z : trail.Walk). sure.Fits (isa_of l) (Up i p) z) (sym y.same) y.path_fit.0) in
     let wide : length u.path.machine.hart.regs ≡ 32 = subst (λ (z : trail.Walk). length z.machine.hart.regs ≡ 32) (sym y.same) y.wide in
     let did = made (isa_of l) p u.path wide m (y.stands.0.sourced1 o.0) (y.stands.0.sourced2 o.0) known.2 certain in
-    let fits = rw was at h.port_fit in
     let past = waiting_mem (isa_of l) f.below (dock.past (isa_of l) (Up i p) u) wait (none_past (isa_of l) (Up i p) u none) in
     let mem : s.mem ≡ u.path.machine.hart.mem = h.port_ends.is_mem ∙ ap (λ (z : List Item). (walk (dock.past (isa_of l)) z w0).mem) was ∙ ap (λ (z : dock.Dock). z.mem) (walk-append (dock.past (isa_of l)) f.above ((Up i p ∷ []) ++ f.below) w0) ∙ past ∙ past_unported (isa_of l) i p u (unanswered p u.answer none m o.1) ∙ fresh in
     let code = ap (λ (z : Op). z.instr) (sym f.op) in
     let a1 = ap (λ (z : Op). z.a) (sym f.op) in
     let a2 = ap (λ (z : Op). z.b) (sym f.op) in
+    record {
+      ready = r;
+      first = f;
+      memory = m;
+      flies = flies;
+      live = known.0;
+      calm = known.1;
+      landed = land;
+      waiting = wait;
+      unanswered = none;
+      range = range;
+      certain = certain;
+      before = mem;
+      goes = did.0;
+      stored = same4 mem_after code a1 a2 mem ∙ sym did.1;
+      answers = subst (λ (v : ℕ). dock.Answers p.dst (behind (step_at (isa_of l) u.path.machine p.pc) u.path.machine).hart.regs v) (sym (same4 answer_of code a1 a2 mem)) did.2;
+    }
+
+pub access_kept : {rest out : List ℕ} (l : Plan) (s : State) (x : Machine) → Suits l → bar l s Access ≡ None → Sound l s rest out x → Sound l (moved l s Access) rest out x
+access_kept {rest} {out} l s x acc e h =
+    let z = access_scene l s x acc e h in
+    let r = z.ready in
+    let f = z.first in
+    let k = (port l) in
+    let q = siding_at s k in
+    let n = berthed l acc s (column s) k h.moored Memory acc.memory in
+    let p = f.who in
+    let i = f.stage in
+    let was : column s ≡ f.above ++ ((Up i p ∷ []) ++ f.below) = f.was in
+    let w0 = dock.top l s x in
+    let u = walk (dock.past (isa_of l)) f.above w0 in
+    let fits = rw was at h.port_fit in
     let a = answer_of r.what.instr r.what.a r.what.b s.mem in
-    let answers : dock.Answers p.dst (behind (step_at (isa_of l) u.path.machine p.pc) u.path.machine).hart.regs a = subst (λ (v : ℕ). dock.Answers p.dst (behind (step_at (isa_of l) u.path.machine p.pc) u.path.machine).hart.regs v) (sym (same4 answer_of code a1 a2 mem)) did.1 in
-    let stored : mem_after r.what.instr r.what.a r.what.b s.mem ≡ (behind (step_at (isa_of l) u.path.machine p.pc) u.path.machine).hart.mem = same4 mem_after code a1 a2 mem ∙ sym did.0 in
-    let all = access_fits (isa_of l) i p f.above f.below w0 a land wait known.0 flies none answers fits in
+    let all = access_fits (isa_of l) i p f.above f.below w0 a z.landed z.waiting z.live z.flies z.unanswered z.answers fits in
     let op : Op = record r.what { answer = Some a } in
     let t : State = accessed l s r.what in
     let cell : last_answer (siding_at t k) ≡ Some a = ap last_answer (put_here s.sidings k (set_last q (Some op)) n.0 n.1) ∙ ap (λ (z : Option Op). on z None (λ z. z.answer)) (last_set q n.0 (Some op) n.1) in
@@ -231,7 +277,7 @@ access_kept {rest} {out} l s x acc e h =
       lone_ends = h.lone_ends;
       stands = h.stands;
       port_fit = subst (λ (z : dock.Dock). Everywhere (dock.Fits (isa_of l)) (dock.past (isa_of l)) (column s) z) (sym top) (subst (λ (z : List Item). Everywhere (dock.Fits (isa_of l)) (dock.past (isa_of l)) z (record w0 { answer = Some a })) (sym was) all.0);
-      port_ends = subst (λ (z : dock.Dock). dock.Ends z (mem_after r.what.instr r.what.a r.what.b s.mem) rest out) (sym (ap (λ (z : dock.Dock). walk (dock.past (isa_of l)) (column s) z) top ∙ ap (λ (z : List Item). walk (dock.past (isa_of l)) z (record w0 { answer = Some a })) was ∙ all.1)) (stored_ends l s x f.above f.below i p was stored (code_after r.what.instr r.what.a r.what.b s.mem) h);
+      port_ends = subst (λ (z : dock.Dock). dock.Ends z (mem_after r.what.instr r.what.a r.what.b s.mem) rest out) (sym (ap (λ (z : dock.Dock). walk (dock.past (isa_of l)) (column s) z) top ∙ ap (λ (z : List Item). walk (dock.past (isa_of l)) z (record w0 { answer = Some a })) was ∙ all.1)) (stored_ends l s x f.above f.below i p was z.stored (code_after r.what.instr r.what.a r.what.b s.mem) h);
       moored = rehung l s t (column s) (column s) k (set_last q (Some op)) refl n.0 n.1 (set_last_size q (Some op)) (answered_operations q n.0 r.what (Some a) n.1 r.lies ∙ h.moored.flown k) (λ j z. refl) (front_set_last q (Some op) (h.moored.front k)) (λ z. absurd (z refl)) h.moored;
     })
   where

@@ -110,7 +110,7 @@ unfolding dock.past trail.past ahead.counted
 result_past isa i k w t = (grind arith, grind arith, refl, refl, refl, λ e. grind arith)
 
 -- at a rider
-live_on : (l : Plan) (m : Machine) (n i : ℕ) (p : Passenger) (w : dock.Dock) (t : ahead.Tally) → Stands l i p → sure.Fits (isa_of l) (Up i p) w.path → dock.Fits (isa_of l) (Up i p) w → (w.path.barred ≡ true → w.risky ≡ true) → p.dead ≡ false → (dock.past (isa_of l) (Up i p) w).risky ≡ false → still p ≡ false → OnPath (isa_of l) m n w t → OnPath (isa_of l) m n (dock.past (isa_of l) (Up i p) w) (ahead.counted (Up i p) t)
+pub live_on : (l : Plan) (m : Machine) (n i : ℕ) (p : Passenger) (w : dock.Dock) (t : ahead.Tally) → Stands l i p → sure.Fits (isa_of l) (Up i p) w.path → dock.Fits (isa_of l) (Up i p) w → (w.path.barred ≡ true → w.risky ≡ true) → p.dead ≡ false → (dock.past (isa_of l) (Up i p) w).risky ≡ false → still p ≡ false → OnPath (isa_of l) m n w t → OnPath (isa_of l) m n (dock.past (isa_of l) (Up i p) w) (ahead.counted (Up i p) t)
 live_on l m n i p w t s f k g d r b h =
     let q = risk_past (isa_of l) i p w r in
     let o = open_of w g q.0 in
@@ -127,7 +127,7 @@ live_on l m n i p w t s f k g d r b h =
     still_off : p.dead ≡ false → (is_memory (kind p) && not p.done && not p.launched) ≡ false
     still_off d = grind arith
 
-dead_on : (isa : Isa) (m : Machine) (n i : ℕ) (p : Passenger) (w : dock.Dock) (t : ahead.Tally) → p.dead ≡ true → OnPath isa m n w t → OnPath isa m n (dock.past isa (Up i p) w) (ahead.counted (Up i p) t)
+pub dead_on : (isa : Isa) (m : Machine) (n i : ℕ) (p : Passenger) (w : dock.Dock) (t : ahead.Tally) → p.dead ≡ true → OnPath isa m n w t → OnPath isa m n (dock.past isa (Up i p) w) (ahead.counted (Up i p) t)
 dead_on isa m n i p w t d h =
     let v = dead_past isa i p w d in
     let u = (tally_past i p t (ahead.has_ported p t.answer) refl).1 in

@@ -4,6 +4,7 @@ use Rattle.rv_inst.specs.declared.instruction.Instr.{Instr}
 use Rattle.rv_inst.specs.declared.isa.Isa.{Isa}
 use Rattle.rv_inst.specs.declared.isa.Isa.TheVariants.{Rv32i, Rv32im}
 use Rattle.rv_inst.specs.Decoding.{decoded_as}
+use Rattle.rv_inst.specs.Operands.{dest_of}
 use Rattle.rv_inst.proofs.Reading.{decoded-encodes}
 use Rattle.rv_inst.proofs.Table.{decoded_m_complete}
 use Rattle.rv_machine.specs.After.{after, step_from, next_machine}
@@ -12,8 +13,9 @@ use Rattle.rv_machine.specs.Outcome as outcome
 use Rattle.rv_machine.specs.Step.{step}
 use Rattle.cf_semantics.specs.Options.{on}
 use Rattle.cf_semantics.specs.Instructions.{Fetched, Got, Bad, fetched, dst_of, Stepped, Goes, Stops, step_at, step_here, stepped, behind}
-use Rattle.cf_semantics.specs.Lines.{Line, row, got, line_at, line_by, sequence}
-use Rattle.cf_refinement.proofs.Steps.{fetched_is, bad_step, step_is}
+use Rattle.cf_semantics.specs.Lines.{Line, lines_at, lines_in, sequence}
+use Rattle.cf_refinement.proofs.OwnLines.{GivesOwn, own_step}
+use Rattle.cf_refinement.proofs.Steps.{IsFetched, fetched_is, bad_step, step_executes, step_is}
 
 -- an instruction of the base set is read by both
 read_by_both : (w : ℕ) (i : Instr) → decoded_as Rv32i w ≡ Some i → decoded_as Rv32im w ≡ Some i
@@ -31,11 +33,21 @@ fetched_by_both x i e =
 same_step : (x : Machine) (i : Instr) → fetched Rv32i x.hart.mem x.hart.pc ≡ Got i → step_here Rv32i x ≡ step_here Rv32im x
 same_step x i e = step_is Rv32i x x.hart.pc i e ∙ sym (step_is Rv32im x x.hart.pc i (fetched_by_both x i e))
 
-same_line : (x : Machine) (i : Instr) → fetched Rv32i x.hart.mem x.hart.pc ≡ Got i → line_at Rv32i x ≡ line_at Rv32im x
+-- and its line says the same, read as of either
+same_reading : (x : Machine) (i : Instr) (w r : ℕ) (o : outcome.Outcome Machine) → decoded_as Rv32i w ≡ Some i → GivesOwn x w r o → lines_in Rv32i o ≡ lines_in Rv32im o
+same_reading x i w r (outcome.Next n own) e h =
+    let a : decoded_as Rv32i own.word ≡ Some i = ap (decoded_as Rv32i) h.word ∙ e in
+    rw (a, read_by_both own.word i a) refl
+same_reading x i w r (outcome.Trap cause pc detail) e h = refl
+same_reading x i w r (outcome.Exit status) e h = refl
+
+same_line : (x : Machine) (i : Instr) → fetched Rv32i x.hart.mem x.hart.pc ≡ Got i → lines_at Rv32i x ≡ lines_at Rv32im x
+unfolding fetched
 same_line x i e =
-    ap (λ (q : Fetched). line_by Rv32i q x) e
-    ∙ ap (λ (s : Stepped). row x.hart.pc i (got (behind s x).hart.regs (dst_of i))) (same_step x i e)
-    ∙ sym (ap (λ (q : Fetched). line_by Rv32im q x) (fetched_by_both x i e))
+    let q = fetched_is Rv32i x.hart.mem x.hart.pc i (unfold fetched in e) in
+    let r : IsFetched Rv32im x.hart.mem x.hart.pc i = record { word = q.word; aligned = q.aligned; found = q.found; read = read_by_both q.word i q.read } in
+    same_reading x i q.word (dest_of i) (step Rv32i x) q.read (own_step Rv32i x i q)
+    ∙ ap (lines_in Rv32im) (step_executes Rv32i x i q ∙ sym (step_executes Rv32im x i r))
 
 -- the machine behind a step that goes on
 abbrev onward_of : Stepped → Option Machine
@@ -81,13 +93,13 @@ alike m (suc n) x e = go (after Rv32i m n) refl e (alike m n)
     go (Some y) f h r =
         let k = r y f in
         let q = stands_at y x h in
-        let added : on (after Rv32i m n) [] (λ z. line_at Rv32i z ∷ []) ≡ on (after Rv32im m n) [] (λ z. line_at Rv32im z ∷ []) =
-        ap (λ (o : Option Machine). on o [] (λ z. line_at Rv32i z ∷ [])) f
-        ∙ ap (λ (l : Line). l ∷ []) (same_line y q.0 q.1)
-        ∙ sym (ap (λ (o : Option Machine). on o [] (λ z. line_at Rv32im z ∷ [])) k.count) in
+        let added : on (after Rv32i m n) [] (lines_at Rv32i) ≡ on (after Rv32im m n) [] (lines_at Rv32im) =
+        ap (λ (o : Option Machine). on o [] (lines_at Rv32i)) f
+        ∙ same_line y q.0 q.1
+        ∙ sym (ap (λ (o : Option Machine). on o [] (lines_at Rv32im)) k.count) in
         record {
           count = ap (step_from Rv32im) k.count ∙ next_alike y x h;
-          lines = ap (λ (l : List Line). l ++ on (after Rv32i m n) [] (λ z. line_at Rv32i z ∷ [])) k.lines ∙ ap (λ (l : List Line). sequence Rv32im m n ++ l) added;
+          lines = ap (λ (l : List Line). l ++ on (after Rv32i m n) [] (lines_at Rv32i)) k.lines ∙ ap (λ (l : List Line). sequence Rv32im m n ++ l) added;
         }
 
 -- the lines of two machines that start alike are those of one

@@ -1,11 +1,11 @@
 -- Only passengers on the sequential path change memory, registers, output, or end the program.
-use Rattle.std.proofs.Common.{◌≡◌, ℕ, ◌≤◌, ◌<◌, List, [], ◌∷◌, ◌++◌, Some, None, Bool, true, false, ◌==◌, ◌&&◌, not, refl, sym, ap, subst, ◌∙◌, arith, length, ◌⊎◌, inl, inr}
+use Rattle.std.proofs.Common.{◌≡◌, ◌≢◌, ℕ, ◌≤◌, ◌<◌, List, [], ◌∷◌, ◌++◌, Some, None, Bool, true, false, ◌==◌, ◌&&◌, not, refl, sym, ap, subst, ◌∙◌, arith, length, ◌⊎◌, inl, inr}
 use Rattle.cf_bind.specs.declared.moves.Move.{Move}
 use Rattle.cf_bind.specs.declared.moves.Move.TheVariants.{Access, Climb, Emit, Execute, Exit, Fall, Issue, Launch, Leave, Meet, Recover, Send, Serve, Slide}
 use Rattle.cf_bind.specs.declared.packet.Packet.{Packet}
 use Rattle.cf_bind.specs.declared.passenger.Passenger.{Passenger}
 use Rattle.cf_layout.specs.Layout.{Plan, launch_stage}
-use Rattle.cf_refinement.proofs.Access.{walk_risky}
+use Rattle.cf_refinement.proofs.Access.{Landed, walk_risky}
 use Rattle.cf_refinement.proofs.Accesses.{access_ready, between, first_out, out_is}
 use Rattle.cf_refinement.proofs.Ahead.{dead_past, docked_of, open_of, result_past, risk_past, still, still_low, sure_of, sure_past, sure_pc}
 use Rattle.cf_refinement.proofs.Change.{here, past_safe}
@@ -17,12 +17,12 @@ use Rattle.cf_refinement.proofs.Kept.{bar_row}
 use Rattle.cf_refinement.proofs.Lines.{gained_is}
 use Rattle.cf_refinement.proofs.Launch.{flies_out}
 use Rattle.cf_refinement.proofs.Leave.{Leaves, leave_ready, left_dead, next-leave}
-use Rattle.cf_refinement.proofs.Recovered.{docked_live}
+use Rattle.cf_refinement.proofs.Recovered.{docked_live, landed}
 use Rattle.cf_refinement.proofs.Runs.{going, holds_after}
 use Rattle.cf_refinement.proofs.Serve.{serve_ready}
 use Rattle.cf_refinement.proofs.Sorted.{Riders, Sorted, over, sorted}
 use Rattle.cf_refinement.proofs.Stands.{each_front}
-use Rattle.cf_semantics.specs.Heeds.{Acted, Heeds, OnWay, Unmoved, as_launched}
+use Rattle.cf_semantics.specs.Heeds.{Acted, Heeds, NoneFlies, OnWay, Unmoved, as_launched}
 use Rattle.cf_semantics.specs.Refines.{gained}
 use Rattle.cf_refinement.specs.Invariant.{HoldsAt, Sound}
 use Rattle.cf_refinement.specs.Operations.{operations}
@@ -62,7 +62,7 @@ Out [] = Unit {0}
 Out (Up i p ∷ xs) = (still p ≡ false) × Out xs
 Out (Down i k ∷ xs) = Out xs
 
-out_above : (l : Plan) (i : ℕ) (xs : List Item) → Suits l → launch_stage l (port l) ≤ i → Riders (λ j. i < j) xs → Each l xs → Out xs
+pub out_above : (l : Plan) (i : ℕ) (xs : List Item) → Suits l → launch_stage l (port l) ≤ i → Riders (λ j. i < j) xs → Each l xs → Out xs
 out_above l i [] acc e r h = tt
 out_above l i (Up j p ∷ xs) acc e r h = (go (still p) refl, out_above l i xs acc e r.1 h.1)
   where
@@ -166,6 +166,23 @@ issue_unmoved : (l : Plan) (s : State) (g : _) → Untouched s (moved l s (Issue
 unfolding moved
 issue_unmoved l s g = record { regs = grind arith; mem = grind arith; ending = grind arith }
 
+-- the moves that leave registers, memory and ending
+pub quiet_unmoved : (l : Plan) (s : State) (mv : Move) → mv ≢ Access → mv ≢ Leave → mv ≢ Serve → Untouched s (moved l s mv)
+quiet_unmoved l s (Issue g) a b c = issue_unmoved l s g
+quiet_unmoved l s Emit a b c = emit_unmoved l s
+quiet_unmoved l s (Climb i) a b c = climb_unmoved l s i
+quiet_unmoved l s (Fall i) a b c = fall_unmoved l s i
+quiet_unmoved l s (Meet i) a b c = meet_unmoved l s i
+quiet_unmoved l s (Execute i) a b c = execute_unmoved l s i
+quiet_unmoved l s (Send i) a b c = send_unmoved l s i
+quiet_unmoved l s (Launch i) a b c = launch_unmoved l s i
+quiet_unmoved l s (Slide j k) a b c = slide_unmoved l s j k
+quiet_unmoved l s Access a b c = absurd (a refl)
+quiet_unmoved l s (Recover i) a b c = recover_unmoved l s i
+quiet_unmoved l s Leave a b c = absurd (b refl)
+quiet_unmoved l s Exit a b c = exit_unmoved l s
+quiet_unmoved l s Serve a b c = absurd (c refl)
+
 dead_unmoved : (s : State) (n : ℕ) (c : _) → Untouched s (with_cell s n (without_passenger c))
 dead_unmoved s n c = record { regs = refl; mem = refl; ending = refl }
 
@@ -224,12 +241,14 @@ access_acts {rest} {out} l s x acc e h =
       stage = i;
       who = p;
       was = f.was;
-      acts = (under_way p.launched p.recovered (is_memory (kind p)) o.0 o.1 m, ap as_launched r.lies ∙ ap Some (sym f.op));
+      acts = (flies, none_flies f.above (landed l acc f.above f.none), ap as_launched r.lies ∙ ap Some (sym f.op));
       way = record { sure = ap (λ (u : trail.Walk). trail.is_sure p u) z.2 ∙ both p.dead w.path.barred known.0 b; on = z.0; pc = sure_pc (isa_of l) p w.path w.path.machine.hart.pc z.1 certain ∙ ap (λ (u : trail.Walk). u.machine.hart.pc) (sym z.2) };
     }
   where
-    under_way : (a b c : Bool) → a ≡ true → b ≡ false → c ≡ true → (a && not b && c) ≡ true
-    under_way a b c e f g = rw (e, f, g) refl
+    none_flies : (xs : List Item) → Landed xs → NoneFlies xs
+    none_flies [] h = tt
+    none_flies (Up i p ∷ xs) h = (h.0, none_flies xs h.1)
+    none_flies (Down i k ∷ xs) h = none_flies xs h
 
     both : (a b : Bool) → a ≡ false → b ≡ false → (not a && not b) ≡ true
     both a b e f = rw (e, f) refl

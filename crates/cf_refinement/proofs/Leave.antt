@@ -19,15 +19,16 @@ use Rattle.cf_refinement.proofs.Kept.{bar_row, put_size}
 use Rattle.cf_refinement.proofs.Memory.{l2}
 use Rattle.cf_refinement.proofs.Port.{ported_calm}
 use Rattle.cf_refinement.proofs.Quiet.{Unchanged, quiet}
+use Rattle.cf_refinement.proofs.OwnLines.{got, own_line}
 use Rattle.cf_refinement.proofs.Steps.{step_wide, step_writes, sure_dst_below, sure_leaves, word_is}
 use Rattle.cf_refinement.specs.Invariant.{IsOver, Sound}
 use Rattle.cf_refinement.specs.Operations.{flown, is_out}
 use Rattle.cf_refinement.specs.Stands.{Stands}
 use Rattle.cf_semantics.specs.Bars.{bar, is_full, leave_bar, row_bar}
 use Rattle.cf_semantics.specs.Column.{Down, Item, Up, column, column_from, packet_in}
-use Rattle.cf_semantics.specs.Instructions.{Bad, Fetched, Goes, Got, Stops, behind, dst_of, fetched, is_memory, is_serial, step_at, step_here, value_written}
+use Rattle.cf_semantics.specs.Instructions.{Bad, Fetched, Goes, Got, Stepped, Stops, behind, dst_of, fetched, is_memory, is_serial, step_at, step_here, value_written}
 use Rattle.cf_semantics.specs.Layouts.{isa_of}
-use Rattle.cf_semantics.specs.Lines.{Line, got, line_at, line_by, line_of, retired_by, retires, row}
+use Rattle.cf_semantics.specs.Lines.{Line, line_of, lines_at, retired_by, retires, row}
 use Rattle.cf_semantics.specs.Moves.{left, moved, without_passenger, written}
 use Rattle.cf_semantics.specs.Options.{on}
 use Rattle.cf_semantics.specs.Passengers.{kind, missing, reg_in}
@@ -286,7 +287,7 @@ nobody l s c e = go s.cells l.stages c e
 
 -- the machine stays, it makes a step, or it ends
 pub record Left (l : Plan) (s t : State) (rest out : List ℕ) (x : Machine) : Type 0 where
-  pub how : ((t.ending ≡ s.ending) × (t.retired ≡ s.retired) × (retires l s Leave ≡ []) × Sound l t rest out x) ⊎ (((y : Machine) × (step_here (isa_of l) x ≡ Goes y) × (t.ending ≡ s.ending) × (t.retired ≡ suc s.retired) × (retires l s Leave ≡ line_at (isa_of l) x ∷ []) × Sound l t rest out y) ⊎ ((e : End) × (t.ending ≡ Some e) × (t.retired ≡ s.retired) × (retires l s Leave ≡ []) × IsOver l t rest out x e))
+  pub how : ((t.ending ≡ s.ending) × (t.retired ≡ s.retired) × (retires l s Leave ≡ []) × Sound l t rest out x) ⊎ (((y : Machine) × (step_here (isa_of l) x ≡ Goes y) × (t.ending ≡ s.ending) × (t.retired ≡ suc s.retired) × (retires l s Leave ≡ lines_at (isa_of l) x) × Sound l t rest out y) ⊎ ((e : End) × (t.ending ≡ Some e) × (t.retired ≡ s.retired) × (retires l s Leave ≡ []) × IsOver l t rest out x e))
 
 -- its line
 retires-is : (l : Plan) (s : State) (c : Cell) (p : Passenger) → cell_at s.cells l.stages ≡ Some c → c.passenger ≡ Some p → retires l s Leave ≡ retired_by p
@@ -310,20 +311,21 @@ dst_got (Some b) d regs e k a =
 same_line : {a b : ℕ} {i j : Instr} {u v : Option Binding} → a ≡ b → i ≡ j → u ≡ v → row a i u ≡ row b j v
 same_line e f g = rw (e, f, g) refl
 
-line_sure : (isa : Isa) (p : Passenger) (x : Machine) (g : Option ℕ) → p.pc ≡ x.hart.pc → p.done ≡ true → p.ending ≡ None → sure.IsSure isa p x (step_at isa x p.pc) g → line_of p ≡ line_at isa x
-line_sure isa p x g c d n h = go (fetched isa x.hart.mem p.pc) refl h.reads
+line_sure : (isa : Isa) (p : Passenger) (x y : Machine) (g : Option ℕ) → length x.hart.regs ≡ 32 → step_here isa x ≡ Goes y → p.pc ≡ x.hart.pc → p.done ≡ true → p.ending ≡ None → sure.IsSure isa p x (step_at isa x p.pc) g → line_of p ∷ [] ≡ lines_at isa x
+line_sure isa p x y g wide goes c d n h = go (fetched isa x.hart.mem p.pc) refl h.reads
   where
-    go : (q : Fetched) → fetched isa x.hart.mem p.pc ≡ q → sure.Reads p q → line_of p ≡ line_at isa x
+    go : (q : Fetched) → fetched isa x.hart.mem p.pc ≡ q → sure.Reads p q → line_of p ∷ [] ≡ lines_at isa x
     go (Got i) f w =
         let z = dst_got p.dst (dst_of i) (behind (step_at isa x p.pc) x).hart.regs (h.shape i w).three (h.known d n) h.value3 in
         let f' : fetched isa x.hart.mem x.hart.pc ≡ Got i = ap (fetched isa x.hart.mem) (sym c) ∙ f in
         let z' : p.dst ≡ got (behind (step_here isa x) x).hart.regs (dst_of i) = subst (λ (a : ℕ). p.dst ≡ got (behind (step_at isa x a) x).hart.regs (dst_of i)) c z in
-        same_line c (word_is p i w) z' ∙ sym (ap (λ (q : Fetched). line_by isa q x) f')
+        let z'' : p.dst ≡ got y.hart.regs (dst_of i) = z' ∙ ap (λ (s : Stepped). got (behind s x).hart.regs (dst_of i)) goes in
+        ap (λ (l : Line). l ∷ []) (same_line c (word_is p i w) z'') ∙ sym (own_line isa x y i wide f' goes)
     go (Bad b) f w = absurd (let z = sym n ∙ w.1 in cc)
 
-sure_line : (isa : Isa) (p : Passenger) (w : trail.Walk) → w.goto ≡ Some w.machine.hart.pc → p.done ≡ true → p.ending ≡ None → sure.SureAt isa p w → line_of p ≡ line_at isa w.machine
+sure_line : (isa : Isa) (p : Passenger) (w : trail.Walk) (y : Machine) → length w.machine.hart.regs ≡ 32 → step_here isa w.machine ≡ Goes y → w.goto ≡ Some w.machine.hart.pc → p.done ≡ true → p.ending ≡ None → sure.SureAt isa p w → line_of p ∷ [] ≡ lines_at isa w.machine
 unfolding sure.SureAt
-sure_line isa p w e d n h = line_sure isa p w.machine w.goto (pc_of (sym e ∙ h.0.path)) d n h.0
+sure_line isa p w y wide goes e d n h = line_sure isa p w.machine y w.goto wide goes (pc_of (sym e ∙ h.0.path)) d n h.0
   where
     pc_of : Some w.machine.hart.pc ≡ Some p.pc → p.pc ≡ w.machine.hart.pc
     pc_of e = cc
@@ -363,7 +365,8 @@ leave_kept {rest} {out} l s x e h =
         let certain = top_sure (isa_of l) l.stages p (trail.top s x) d refl fit.0 in
         let g = sure_goes (isa_of l) p (trail.top s x) u n certain in
         let f = live_path (isa_of l) s t l.stages p x y refl refl d u n r.nothing g.1 in
-        rw (left_on s l.stages r.here p d n) (record { how = inr (inl (y, at_top (isa_of l) p (trail.top s x) refl certain ∙ g.0, refl, omega arith, retires-is l s r.here r.who r.at_here r.sits ∙ live_line r.who d n ∙ ap (λ (z : Line). z ∷ []) (sure_line (isa_of l) p (trail.top s x) refl u n certain), gone l s t x y l.stages p below was is refl refl (put_size s.cells l.stages (without_passenger r.here)) (rw h.regs (sure_regs (isa_of l) p (trail.top s x) h.wide u n certain)) (step_wide (isa_of l) x p.pc ∙ h.wide) refl refl (λ k. not_out l k p r.back) f (live_port l s t l.stages p x refl d u n r.back stand.0 certain f) h)) })
+        let steps : step_here (isa_of l) x ≡ Goes y = at_top (isa_of l) p (trail.top s x) refl certain ∙ g.0 in
+        rw (left_on s l.stages r.here p d n) (record { how = inr (inl (y, steps, refl, omega arith, retires-is l s r.here r.who r.at_here r.sits ∙ live_line r.who d n ∙ sure_line (isa_of l) p (trail.top s x) y h.wide steps refl u n certain, gone l s t x y l.stages p below was is refl refl (put_size s.cells l.stages (without_passenger r.here)) (rw h.regs (sure_regs (isa_of l) p (trail.top s x) h.wide u n certain)) (step_wide (isa_of l) x p.pc ∙ h.wide) refl refl (λ k. not_out l k p r.back) f (live_port l s t l.stages p x refl d u n r.back stand.0 certain f) h)) })
     go r below was is false (Some b) d n =
         let p = r.who in
         let fit = rw was at h.path_fit in

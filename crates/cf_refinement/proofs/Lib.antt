@@ -1,4 +1,5 @@
 pub mod Steps
+pub mod OwnLines
 pub mod Fetches
 pub mod Homes
 pub mod Layouts
@@ -55,6 +56,7 @@ pub mod Level
 pub mod Bases
 pub mod Refines
 pub mod Heeds
+pub mod Stutters
 pub mod SoundnessPath
 pub mod SoundnessLone
 pub mod SoundnessSidings

@@ -11,7 +11,7 @@ use Rattle.cf_refinement.specs.Suited.{Suits}
 use Rattle.cf_semantics.specs.Bars.{bar}
 use Rattle.cf_semantics.specs.Instructions.{Goes, step_here}
 use Rattle.cf_semantics.specs.Layouts.{isa_of}
-use Rattle.cf_semantics.specs.Lines.{Line, line_at, lines, retires, sequence}
+use Rattle.cf_semantics.specs.Lines.{Line, lines, lines_at, retires, sequence}
 use Rattle.cf_semantics.specs.Moves.{next}
 use Rattle.cf_semantics.specs.Options.{on}
 use Rattle.cf_semantics.specs.Runs.{IsRun, opened, run, start}
@@ -35,11 +35,11 @@ left l x0 s t rest out x b a h = go h.how
     stay : t.retired ≡ s.retired → retires l s Leave ≡ [] → seq (gained x0 t) ≡ seq (gained x0 s) ++ retires l s Leave
     stay e n = ap (λ n. seq (n - x0.hart.retired)) e ∙ sym (ap (λ (z : List Line). seq (gained x0 s) ++ z) n ∙ append-nil (seq (gained x0 s)))
 
-    go : ((t.ending ≡ s.ending) × (t.retired ≡ s.retired) × (retires l s Leave ≡ []) × Sound l t rest out x) ⊎ (((y : Machine) × (step_here (isa_of l) x ≡ Goes y) × (t.ending ≡ s.ending) × (t.retired ≡ suc s.retired) × (retires l s Leave ≡ line_at (isa_of l) x ∷ []) × Sound l t rest out y) ⊎ ((e : End) × (t.ending ≡ Some e) × (t.retired ≡ s.retired) × (retires l s Leave ≡ []) × IsOver l t rest out x e)) → seq (gained x0 t) ≡ seq (gained x0 s) ++ retires l s Leave
+    go : ((t.ending ≡ s.ending) × (t.retired ≡ s.retired) × (retires l s Leave ≡ []) × Sound l t rest out x) ⊎ (((y : Machine) × (step_here (isa_of l) x ≡ Goes y) × (t.ending ≡ s.ending) × (t.retired ≡ suc s.retired) × (retires l s Leave ≡ lines_at (isa_of l) x) × Sound l t rest out y) ⊎ ((e : End) × (t.ending ≡ Some e) × (t.retired ≡ s.retired) × (retires l s Leave ≡ []) × IsOver l t rest out x e)) → seq (gained x0 t) ≡ seq (gained x0 s) ++ retires l s Leave
     go (inl q) = stay q.1 q.2
     go (inr (inl q)) =
         let more : gained x0 t ≡ suc (gained x0 s) = omega (arith, q.3) in
-        ap seq more ∙ ap (λ (o : Option Machine). seq (gained x0 s) ++ on o [] (λ y. line_at (isa_of l) y ∷ [])) a ∙ sym (ap (λ (z : List Line). seq (gained x0 s) ++ z) q.4)
+        ap seq more ∙ ap (λ (o : Option Machine). seq (gained x0 s) ++ on o [] (lines_at (isa_of l))) a ∙ sym (ap (λ (z : List Line). seq (gained x0 s) ++ z) q.4)
     go (inr (inr q)) = stay q.2 q.3
 
 pub gained_is : (l : Plan) (x0 : Machine) (m : Moment) (h : HoldsAfter l x0 m) → gained x0 m.state ≡ h.gained
@@ -96,5 +96,5 @@ prefix isa m a zero = let e : 0 + a ≡ a = omega arith in ([], ap (sequence isa
 prefix isa m a (suc d) =
     let q = prefix isa m a d in
     let e : suc d + a ≡ suc (d + a) = omega arith in
-    let new = on (after isa m (d + a)) [] (λ x. line_at isa x ∷ []) in
+    let new = on (after isa m (d + a)) [] (lines_at isa) in
     (q.0 ++ new, ap (sequence isa m) e ∙ ap (λ (z : List Line). z ++ new) q.1 ∙ append_assoc (sequence isa m a) q.0 new)

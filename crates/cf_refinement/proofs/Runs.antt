@@ -14,7 +14,7 @@ use Rattle.cf_semantics.specs.Bars.{bar}
 use Rattle.cf_semantics.specs.Column.{column_from}
 use Rattle.cf_semantics.specs.Instructions.{Goes, stepped, step_at, step_here}
 use Rattle.cf_semantics.specs.Layouts.{isa_of}
-use Rattle.cf_semantics.specs.Lines.{line_at, retires}
+use Rattle.cf_semantics.specs.Lines.{lines_at, retires}
 use Rattle.cf_semantics.specs.Moves.{moved, next}
 use Rattle.cf_semantics.specs.Options.{on}
 use Rattle.cf_semantics.specs.Passengers.{cached}
@@ -139,7 +139,7 @@ left l m t x0 e h k = go k.how
     s : State
     s = m.state
 
-    go : ((t.state.ending ≡ s.ending) × (t.state.retired ≡ s.retired) × (retires l s Leave ≡ []) × Sound l t.state t.rest t.output x) ⊎ (((y : Machine) × (step_here (isa_of l) x ≡ Goes y) × (t.state.ending ≡ s.ending) × (t.state.retired ≡ suc s.retired) × (retires l s Leave ≡ line_at (isa_of l) x ∷ []) × Sound l t.state t.rest t.output y) ⊎ ((e : End) × (t.state.ending ≡ Some e) × (t.state.retired ≡ s.retired) × (retires l s Leave ≡ []) × IsOver l t.state t.rest t.output x e)) → HoldsAfter l x0 t
+    go : ((t.state.ending ≡ s.ending) × (t.state.retired ≡ s.retired) × (retires l s Leave ≡ []) × Sound l t.state t.rest t.output x) ⊎ (((y : Machine) × (step_here (isa_of l) x ≡ Goes y) × (t.state.ending ≡ s.ending) × (t.state.retired ≡ suc s.retired) × (retires l s Leave ≡ lines_at (isa_of l) x) × Sound l t.state t.rest t.output y) ⊎ ((e : End) × (t.state.ending ≡ Some e) × (t.state.retired ≡ s.retired) × (retires l s Leave ≡ []) × IsOver l t.state t.rest t.output x e)) → HoldsAfter l x0 t
     go (inl q) = record { gained = h.gained; machine = x; count = q.1 ∙ h.count; after = h.after; stage = subst (HoldsAt l t.state t.rest t.output x) (sym (q.0 ∙ e)) q.3 }
     go (inr (inl q)) = record { gained = suc h.gained; machine = q.0; count = q.3 ∙ ap suc h.count ∙ omega arith; after = after_more (isa_of l) x0 x q.0 h.gained h.after q.1; stage = subst (HoldsAt l t.state t.rest t.output q.0) (sym (q.2 ∙ e)) q.5 }
     go (inr (inr q)) = record { gained = h.gained; machine = x; count = q.2 ∙ h.count; after = h.after; stage = subst (HoldsAt l t.state t.rest t.output x) (sym q.1) q.4 }

@@ -283,7 +283,7 @@ scene {rest} {out} l s x r h =
       output = ends.is_out ∙ under.out ∙ same.out;
     }
 
-sure_step : (isa : Isa) (p : Passenger) (w : trail.Walk) (a : Answer) → kind p ≡ Serial → serve_of (instruction p) w.machine.hart.regs w.machine.hart.mem w.machine.rest ≡ called.Value a → sure.SureAt isa p w → step_at isa w.machine p.pc ≡ Goes (after_call w.machine (instruction p) p.pc a)
+pub sure_step : (isa : Isa) (p : Passenger) (w : trail.Walk) (a : Answer) → kind p ≡ Serial → serve_of (instruction p) w.machine.hart.regs w.machine.hart.mem w.machine.rest ≡ called.Value a → sure.SureAt isa p w → step_at isa w.machine p.pc ≡ Goes (after_call w.machine (instruction p) p.pc a)
 unfolding sure.SureAt
 sure_step isa p w a k e h = l3_served isa p w.machine w.goto a k e h.0
 

@@ -1,5 +1,5 @@
 -- How a run ends in which Issue is held back and that cannot be extended: drained, or with the end of the program.
-use Rattle.std.specs.Prelude.{◌≡◌, ◌+◌, List, Some, None, Bool, true, false}
+use Rattle.std.specs.Prelude.{◌≡◌, ℕ, ◌+◌, List, Some, None, Bool, true, false, slice_index}
 use Rattle.rv_machine.specs.Machine.{Machine}
 use Rattle.rv_machine.specs.After.{after}
 use Rattle.cf_layout.specs.Layout.{Plan}
@@ -9,6 +9,7 @@ use Rattle.cf_bind.specs.declared.moves.Move.{Move}
 use Rattle.cf_bind.specs.declared.moves.Move.TheVariants.{Issue}
 use Rattle.cf_semantics.specs.Instructions.{Stops, step_here}
 use Rattle.cf_semantics.specs.State.{State, Moment}
+use Rattle.cf_semantics.specs.Passengers.{cached}
 use Rattle.cf_semantics.specs.Layouts.{isa_of}
 use Rattle.cf_semantics.specs.Bars.{bar}
 use Rattle.cf_semantics.specs.Runs.{opened, IsRun, run}
@@ -37,9 +38,14 @@ pub record IsSame (s t : State) : Type 0 where
   pub ending : s.ending ≡ t.ending
   pub failed : s.failed ≡ t.failed
 
--- drained at the machine: but for what is kept at the bottom, the processor stands as one that starts on the machine
+-- each value that is kept at the bottom is its register's
+abbrev pub KeepsRegisters : State → Type 0
+KeepsRegisters s = (r v : ℕ) → cached s.cache r ≡ Some v → v ≡ slice_index s.regs r
+
+-- drained at the machine: the processor stands as one that starts on the machine, but that values may be kept at the bottom, each its register's
 pub record IsDrainedAt (plan : Plan) (x : Machine) (m : Moment) : Type 0 where
   pub same : IsSame m.state (opened plan x)
+  pub kept : KeepsRegisters m.state
   pub rest : m.rest ≡ x.rest
   pub output : m.output ≡ x.output
 
@@ -75,7 +81,7 @@ pub record EndsAs (plan : Plan) (start : Machine) (m t : Moment) : Type 0 where
   pub more : after (isa_of plan) start (gained start m.state + right (isa_of plan) m.state at) ≡ Some final
   pub ends : EndsAt (way (isa_of plan) m.state at).stop plan final t
 
--- two ends are alike: they agree in all that is seen of them, and where the program goes on they are the same
+-- two ends are alike: they agree in ending, count, registers, memory, input and output; and where the program goes on the two states are the same, but for what is kept at the bottom
 pub record EndAlike (t u : Moment) : Type 0 where
   pub ending : t.state.ending ≡ u.state.ending
   pub retired : t.state.retired ≡ u.state.retired

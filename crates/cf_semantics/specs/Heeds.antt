@@ -1,5 +1,5 @@
 -- Which passenger a move acts for, and whether that one is on the sequential path.
-use Rattle.std.specs.Prelude.{◌≡◌, ◌⊎◌, ℕ, List, ◌∷◌, ◌++◌, Option, Some, None, Bool, true, ◌&&◌, not}
+use Rattle.std.specs.Prelude.{◌≡◌, ◌⊎◌, ℕ, List, [], ◌∷◌, ◌++◌, Option, Some, None, true, false}
 use Rattle.rv_inst.specs.declared.isa.Isa.{Isa}
 use Rattle.rv_machine.specs.Machine.{Machine}
 use Rattle.rv_machine.specs.After.{after}
@@ -8,10 +8,9 @@ use Rattle.cf_bind.specs.declared.cell.Op.{Op}
 use Rattle.cf_bind.specs.declared.passenger.Passenger.{Passenger}
 use Rattle.cf_bind.specs.declared.moves.Move.{Move}
 use Rattle.cf_bind.specs.declared.moves.Move.TheVariants.{Access, Leave, Serve}
-use Rattle.cf_semantics.specs.Instructions.{is_memory}
 use Rattle.cf_semantics.specs.State.{State, Moment, siding_at}
-use Rattle.cf_semantics.specs.Column.{Item, Up, column}
-use Rattle.cf_semantics.specs.Passengers.{kind}
+use Rattle.cf_semantics.specs.Column.{Item, Up, Down, column}
+use Rattle.cf_semantics.specs.Ahead.{flies}
 use Rattle.cf_semantics.specs.Layouts.{isa_of, port}
 use Rattle.cf_semantics.specs.Bars.{last_op}
 use Rattle.cf_semantics.specs.Moves.{next, operation}
@@ -34,21 +33,24 @@ pub record Unmoved (m k : Moment) : Type 0 where
   pub output : k.output ≡ m.output
   pub ending : k.state.ending ≡ m.state.ending
 
--- its load or store is in Memory's siding
-abbrev pub is_under_way : Passenger → Bool
-is_under_way p = p.launched && not p.recovered && is_memory (kind p)
+-- no passenger of these has its load or store in Memory's siding
+abbrev pub NoneFlies : List Item → Type 0
+NoneFlies [] = Unit {0}
+NoneFlies (Up i p ∷ items) = (flies p ≡ false) × NoneFlies items
+NoneFlies (Down i k ∷ items) = NoneFlies items
 
 -- an operation as it was launched
 abbrev pub as_launched : Option Op → Option Op
 as_launched None = None
 as_launched (Some op) = Some (record op { answer = None })
 
--- the move acts for this passenger: the one of the highest stage, or the one whose operation is at the end of Memory's siding
-abbrev pub ActsFor : Plan → State → Move → ℕ → Passenger → Type 0
-ActsFor plan s Leave i p = i ≡ plan.stages
-ActsFor plan s Serve i p = i ≡ plan.stages
-ActsFor plan s Access i p = (is_under_way p ≡ true) × (as_launched (last_op (siding_at s (port plan))) ≡ Some (operation p))
-ActsFor plan s mv i p = ⊥
+-- the move acts for this passenger, above which these items stand: the one of the highest stage; or, of those whose load or store is in Memory's siding, the one that stands highest, whose operation so is the one at the siding's end
+abbrev pub ActsFor : Plan → State → Move → List Item → ℕ → Passenger → Type 0
+ActsFor plan s Leave above i p = i ≡ plan.stages
+ActsFor plan s Serve above i p = i ≡ plan.stages
+ActsFor plan s Access above i p =
+    (flies p ≡ true) × NoneFlies above × (as_launched (last_op (siding_at s (port plan))) ≡ Some (operation p))
+ActsFor plan s mv above i p = ⊥
 
 -- the move acts for a passenger of the column that is on the sequential path
 pub record Acted (plan : Plan) (s : State) (x : Machine) (mv : Move) : Type 0 where
@@ -57,7 +59,7 @@ pub record Acted (plan : Plan) (s : State) (x : Machine) (mv : Move) : Type 0 wh
   pub stage : ℕ
   pub who : Passenger
   pub was : column s ≡ above ++ (Up stage who ∷ below)
-  pub acts : ActsFor plan s mv stage who
+  pub acts : ActsFor plan s mv above stage who
   pub way : OnWay (isa_of plan) s x above who
 
 -- a move changes nothing of these, or acts for a passenger on the sequential path

@@ -1,7 +1,7 @@
 -- What a move writes over, so that it can be taken back; Serve cannot, for its output is gone.
 use Rattle.std.specs.Prelude.{ℕ, ◌+◌, ◌-◌, List, [], ◌∷◌, Option, Some, None, if◌then◌else◌, length, take, slice_get, slice_set, slice_index}
 use Rattle.mem_regions.specs.Memory.{Memory}
-use Rattle.mem_regions.specs.Ranges.{range_of}
+use Rattle.mem_regions.specs.Ranges.{writable_of}
 use Rattle.mem_regions.specs.Writing.{memory_with}
 use Rattle.rv_inst.specs.declared.accesses.Access.{Access}
 use Rattle.rv_inst.specs.Accesses.{access_made}
@@ -14,7 +14,7 @@ use Rattle.cf_bind.specs.declared.moves.Move.{Move}
 use Rattle.cf_bind.specs.declared.moves.Move.TheVariants.{Issue, Emit, Climb, Fall, Meet, Execute, Send, Launch, Slide, Access as AccessMove, Recover, Leave, Exit, Serve}
 use Rattle.cf_semantics.specs.Options.{on}
 use Rattle.cf_semantics.specs.Instructions.{fetched}
-use Rattle.cf_semantics.specs.State.{State, cell_at, put_cell, siding_at}
+use Rattle.cf_semantics.specs.State.{State, Moment, cell_at, put_cell, siding_at}
 use Rattle.cf_semantics.specs.Passengers.{kind, reg_in, fresh, requests}
 use Rattle.cf_semantics.specs.Layouts.{isa_of, port}
 use Rattle.cf_semantics.specs.Bars.{last_op, running}
@@ -108,9 +108,9 @@ abbrev pub kept_register : Plan → State → Move → Option KeptRegister
 kept_register plan s Leave = on (cell_at s.cells plan.stages) None (λ c. on c.passenger None (λ p. on (reg_in p.dst) None (λ r. Some (record { reg = r; value = slice_index s.regs r }))))
 kept_register plan s mv = None
 
--- the bytes that an access writes over: those of a store
+-- the bytes that an access writes over: those of a store, in the region that it writes
 abbrev pub kept_range : Memory → Access → Option KeptBytes
-kept_range mem access = if access.write then on (range_of mem access.addr access.width) None (λ bytes. Some (record { addr = access.addr; bytes = bytes })) else None
+kept_range mem access = if access.write then on (writable_of mem access.addr access.width) None (λ bytes. Some (record { addr = access.addr; bytes = bytes })) else None
 
 abbrev pub kept_bytes : Plan → State → Move → Option KeptBytes
 kept_bytes plan s AccessMove = on (last_op (siding_at s (port plan))) None (λ op. kept_range s.mem (access_made op.instr op.a op.b))
@@ -168,3 +168,7 @@ restored s k = record s {
   retired = k.retired;
   ending = k.ending;
 }
+
+-- a moment with the kept contents put back; input and output stay
+abbrev pub taken_back : Moment → Kept → Moment
+taken_back m k = record m { state = restored m.state k }

@@ -20,6 +20,7 @@ pub mod Drained
 pub mod Determined
 pub mod Sites
 pub mod Refines
+pub mod Stutters
 pub mod Heeds
 pub mod Events
 pub mod Kept

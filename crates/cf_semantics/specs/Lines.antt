@@ -1,17 +1,21 @@
 -- Retirements: of a run of moves, and of the sequential machine.
-use Rattle.std.specs.Prelude.{ℕ, zero, suc, List, [], ◌∷◌, ◌++◌, Option, Some, None, if◌then◌else◌, slice_index}
+use Rattle.std.specs.Prelude.{ℕ, zero, suc, List, [], ◌∷◌, ◌++◌, Option, Some, None, if◌then◌else◌}
 use Rattle.rv_inst.specs.declared.instruction.Instr.{Instr}
 use Rattle.rv_inst.specs.declared.instruction.Instr.TheVariants.{Ebreak}
 use Rattle.rv_inst.specs.declared.isa.Isa.{Isa}
+use Rattle.rv_inst.specs.Decoding.{decoded_as}
 use Rattle.rv_machine.specs.Machine.{Machine}
 use Rattle.rv_machine.specs.After.{after}
+use Rattle.rv_machine.specs.Outcome as outcome
+use Rattle.rv_machine.specs.Step.{step}
+use Rattle.rv_machine.specs.declared.outcome.Retired.{Retired}
 use Rattle.cf_layout.specs.Layout.{Plan}
 use Rattle.cf_bind.specs.declared.binding.Binding.{Binding}
 use Rattle.cf_bind.specs.declared.passenger.Passenger.{Passenger}
 use Rattle.cf_bind.specs.declared.moves.Move.{Move}
 use Rattle.cf_bind.specs.declared.moves.Move.TheVariants.{Leave}
 use Rattle.cf_semantics.specs.Options.{on}
-use Rattle.cf_semantics.specs.Instructions.{Fetched, Got, Bad, fetched, dst_of, step_here, behind}
+use Rattle.cf_semantics.specs.Instructions.{register}
 use Rattle.cf_semantics.specs.State.{State, Moment, cell_at}
 use Rattle.cf_semantics.specs.Passengers.{instruction}
 use Rattle.cf_semantics.specs.Moves.{next}
@@ -25,23 +29,28 @@ pub record Line : Type 0 where
 abbrev pub row : ℕ → Instr → Option Binding → Line
 row pc what wrote = record { pc = pc; what = what; wrote = wrote }
 
--- what a register got
-abbrev pub got : List ℕ → Option ℕ → Option Binding
-got regs None = None
-got regs (Some r) = Some (record { reg = r; value = Some (slice_index regs r) })
+-- the register that the machine's own line names, with the value there; x0 stands for none
+abbrev pub named : ℕ → ℕ → Option Binding
+named r v = on (register r) None (λ q. Some (record { reg = q; value = Some v }))
 
-abbrev pub line_by : Isa → Fetched → Machine → Line
-line_by isa (Got i) x = row x.hart.pc i (got (behind (step_here isa x) x).hart.regs (dst_of i))
-line_by isa (Bad e) x = row x.hart.pc Ebreak None
+-- the machine's own line, its word read as the instruction of the set that it is
+abbrev pub line_read : Isa → Retired → Line
+line_read isa own = row own.pc (on (decoded_as isa own.word) Ebreak (λ i. i)) (named own.reg own.value)
 
--- the line of the machine's next step, where that retires an instruction
-abbrev pub line_at : Isa → Machine → Line
-line_at isa x = line_by isa (fetched isa x.hart.mem x.hart.pc) x
+-- the line that an outcome gives, where an instruction retires
+abbrev pub lines_in : Isa → outcome.Outcome Machine → List Line
+lines_in isa (outcome.Next m own) = line_read isa own ∷ []
+lines_in isa (outcome.Trap cause pc detail) = []
+lines_in isa (outcome.Exit status) = []
+
+-- the line of the machine's next step
+abbrev pub lines_at : Isa → Machine → List Line
+lines_at isa x = lines_in isa (step isa x)
 
 -- the lines of its first n steps
 unfoldable pub sequence : Isa → Machine → ℕ → List Line
 sequence isa m zero = []
-sequence isa m (suc n) = sequence isa m n ++ on (after isa m n) [] (λ x. line_at isa x ∷ [])
+sequence isa m (suc n) = sequence isa m n ++ on (after isa m n) [] (lines_at isa)
 
 -- the line of a passenger that leaves
 abbrev pub line_of : Passenger → Line

@@ -6,7 +6,7 @@ use Rattle.rv_machine.specs.Machine.{Machine}
 use Rattle.rv_machine.specs.Outcome as outcome
 use Rattle.rv_machine.specs.Step.{step}
 use Rattle.cf_semantics.specs.Instructions.{Goes, step_at, step_here, stepped}
-use Rattle.cf_semantics.specs.Lines.{Line, line_at, sequence}
+use Rattle.cf_semantics.specs.Lines.{Line, lines_at, sequence}
 use Rattle.cf_semantics.specs.Options.{on}
 use Rattle.cf_untold.specs.Anew.{GoesTo}
 
@@ -44,7 +44,7 @@ goes_on isa x0 x y n (suc g) written goes e =
     subst (λ (k : ℕ). GoesTo isa x0 k y (written ++ sequence isa x (suc g))) number (of (after isa x g) refl e (λ z f. goes_on isa x0 x z n g written goes f))
   where
     of : (o : Option Machine) → after isa x g ≡ o → step_from isa o ≡ Some y → ((z : Machine) → after isa x g ≡ Some z → GoesTo isa x0 (g + n) z (written ++ sequence isa x g))
-        → GoesTo isa x0 (suc (g + n)) y (written ++ (sequence isa x g ++ on (after isa x g) [] (λ z. line_at isa z ∷ [])))
+        → GoesTo isa x0 (suc (g + n)) y (written ++ (sequence isa x g ++ on (after isa x g) [] (lines_at isa)))
     of None f e before = absurd (cc)
     of (Some z) f e before = (
       z,
@@ -53,5 +53,5 @@ goes_on isa x0 x y n (suc g) written goes e =
       before z f,
       goes_here isa z y e,
       record { hart = refl; output = refl },
-      rw f (sym (append_assoc written (sequence isa x g) (line_at isa z ∷ []))),
+      rw f (sym (append_assoc written (sequence isa x g) (lines_at isa z))),
     )

@@ -8,7 +8,7 @@ use Rattle.cf_bind.specs.declared.moves.Move.{Move}
 use Rattle.cf_semantics.specs.Bars.{bar}
 use Rattle.cf_semantics.specs.Instructions.{Goes, step_here}
 use Rattle.cf_semantics.specs.Layouts.{isa_of}
-use Rattle.cf_semantics.specs.Lines.{Line, line_at, retires}
+use Rattle.cf_semantics.specs.Lines.{Line, lines_at, retires}
 use Rattle.cf_semantics.specs.Moves.{next}
 use Rattle.cf_semantics.specs.Refines.{Refines, gained}
 use Rattle.cf_semantics.specs.State.{Moment}
@@ -31,7 +31,7 @@ GoesTo isa start zero x written = SameButInput start x × (written ≡ [])
 GoesTo isa start (suc n) x written =
     (before : Machine) × (next : Machine) × (earlier : List Line)
     × GoesTo isa start n before earlier × (step_here isa before ≡ Goes next) × SameButInput next x
-    × (written ≡ earlier ++ line_at isa before ∷ [])
+    × (written ≡ earlier ++ lines_at isa before)
 
 -- what is seen of the moment is what the sequential machine does: the count has not fallen; as many steps as have retired since the start lead to a machine, with these lines; and with some input left it is what that machine does next
 pub record RefinesAnew (plan : Plan) (start : Machine) (written : List Line) (m : Moment) : Type 0 where

@@ -1,0 +1,6 @@
+-- The law is a theorem.
+use Rattle.cf_confluence.proofs.TakenBack.{moment_back}
+use Rattle.cf_core.proofs.laws.moves_are_taken_back.Goals as goal
+
+pub returns : goal.returns
+returns c = moment_back
