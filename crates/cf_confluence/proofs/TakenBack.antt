@@ -1,5 +1,5 @@
 -- A move is taken back by putting back the old contents of what it wrote.
-use Rattle.std.proofs.Common.{◌≡◌, ◌≢◌, ℕ, zero, suc, ◌+◌, ◌-◌, ◌≤◌, List, [], ◌∷◌, ◌++◌, length, take, Option, Some, None, Bool, true, false, refl, sym, ap, ◌∙◌, arith, length-append}
+use Rattle.std.proofs.Common.{◌≡◌, ◌≢◌, ℕ, zero, suc, ◌+◌, ◌-◌, List, [], ◌∷◌, ◌++◌, length, take, Option, Some, None, Bool, true, false, refl, sym, ap, ◌∙◌, arith, length-append}
 use Rattle.std.specs.Prelude.{slice_get, slice_set, slice_index, if◌then◌else◌}
 use Rattle.std.proofs.Math.Seq.{take-append_seam}
 use Rattle.std.proofs.lemmas.List.{set-set, set-get_or}
@@ -7,11 +7,9 @@ use Rattle.cf_layout.specs.Layout.{Plan, siding_of}
 use Rattle.cf_bind.specs.declared.binding.Binding.{Binding}
 use Rattle.cf_bind.specs.declared.cell.Cell.{Cell}
 use Rattle.cf_bind.specs.declared.cell.Op.{Op}
-use Rattle.cf_bind.specs.declared.packet.Packet.TheVariants.{Value}
 use Rattle.cf_bind.specs.declared.passenger.Passenger.{Passenger}
 use Rattle.cf_bind.specs.declared.passenger.Guess.{Guess}
 use Rattle.cf_bind.specs.declared.passenger.End.{End}
-use Rattle.cf_bind.specs.declared.moves.Bar.{Bar}
 use Rattle.cf_bind.specs.declared.moves.Move.{Move}
 use Rattle.cf_bind.specs.declared.moves.Move.TheVariants.{Issue, Emit, Climb, Fall, Meet, Execute, Send, Launch, Slide, Access, Recover, Leave, Exit, Serve}
 use Rattle.cf_semantics.specs.Options.{on}
@@ -20,9 +18,9 @@ use Rattle.rv_inst.specs.Accesses.{access_made}
 use Rattle.cf_semantics.specs.State.{State, Moment, cell_at, put_cell, siding_at, with_cell, with_siding}
 use Rattle.cf_semantics.specs.Passengers.{kind, fresh, finish, trapped, reg_in, requests, value_in}
 use Rattle.cf_semantics.specs.Layouts.{isa_of, port}
-use Rattle.cf_semantics.specs.Bars.{at, bar, row_bar, emit_bar, issue_bar, last_op, running}
-use Rattle.cf_semantics.specs.Moves.{accessed, back_in, cell_met, climbed, emitted, exited, fallen, issued, launch_trap, left, moved, next, operation, sent, set_last, with_passenger, without_packet, without_passenger, written}
-use Rattle.cf_semantics.specs.Kept.{Kept, KeptCell, KeptOp, KeptLane, KeptRegister, Same, Taken, Added, bytes_back, cells_back, kept, kept_cell, kept_op, last_place, lane_back, ops_back, register_back, restored, siding_there, taken_back}
+use Rattle.cf_semantics.specs.Bars.{bar, row_bar, last_op, running}
+use Rattle.cf_semantics.specs.Moves.{back_in, cell_met, climbed, fallen, launch_trap, moved, next, operation, sent, set_last, with_passenger, without_packet, without_passenger, written}
+use Rattle.cf_semantics.specs.Kept.{Kept, KeptOp, Same, bytes_back, cells_back, kept, kept_cell, kept_op, last_place, lane_back, ops_back, register_back, restored, taken_back}
 use Rattle.cf_refinement.proofs.Kept.{bar_row}
 use Rattle.cf_confluence.proofs.BytesBack.{access_back}
 use Rattle.cf_confluence.proofs.Effects.{set_last_is}

@@ -1,8 +1,12 @@
 //! The laws of the processor: what holds of every run, whatever the order of its moves. Each is the contract of a function
 //! that does nothing; docs/PROMISES.md says each in plain words.
 
-ghost use Rattle.std.specs.Prelude.{◌≡◌, ◌≢◌, ◌≤◌, ◌*◌, ◌+◌, ◌⊎◌, ℕ, suc, List, ◌∷◌, Some, None, true, false, length};
+ghost use Rattle.std.specs.Prelude.{◌≡◌, ◌≢◌, ◌≤◌, ◌<◌, ◌^◌, ◌*◌, ◌+◌, ◌⊎◌, ℕ, suc, List, ◌∷◌, Some, None, true, false, length};
+ghost use Rattle.rv_inst.specs.declared.isa.Isa.{Isa};
 ghost use Rattle.rv_machine.specs.Machine.{Machine as Sequential};
+ghost use Rattle.rv_machine.specs.Outcome.{Next};
+ghost use Rattle.rv_machine.specs.Step.{step};
+ghost use Rattle.rv_machine.specs.declared.outcome.Retired.{Retired};
 ghost use Rattle.cf_layout.specs.Layout.{Plan};
 ghost use Rattle.cf_layout.specs.Accepted.{IsAccepted};
 ghost use Rattle.cf_bind.specs.declared.moves.Move.{Move};
@@ -10,10 +14,11 @@ ghost use Rattle.cf_bind.specs.declared.moves.Move.TheVariants.{Serve};
 ghost use Rattle.cf_semantics.specs.Bars.{bar};
 ghost use Rattle.cf_semantics.specs.Determined.{Drains, EndsAs, EndAlike, KeepsRegisters, Rests};
 ghost use Rattle.cf_semantics.specs.Drained.{is_drained, IsStuck};
+ghost use Rattle.cf_semantics.specs.Events.{Shows};
 ghost use Rattle.cf_semantics.specs.Heeds.{Heeds};
 ghost use Rattle.cf_semantics.specs.Kept.{kept, taken_back};
 ghost use Rattle.cf_semantics.specs.Laws.{ComputesAsFinished, AccessesAsLaunched, ServesAndPasses, ReadsAsIssued};
-ghost use Rattle.cf_semantics.specs.Lines.{lines};
+ghost use Rattle.cf_semantics.specs.Lines.{line_read, lines};
 ghost use Rattle.cf_semantics.specs.Moves.{next};
 ghost use Rattle.cf_semantics.specs.Refines.{IsPrefix, Refines};
 ghost use Rattle.cf_semantics.specs.Runs.{IsReached, IsRun, run, start};
@@ -143,4 +148,11 @@ pub fn stutters()
     ensures rank { (plan : Plan) (x : Sequential) (m : Moment) (mv : Move) → IsAccepted plan → length x.hart.regs ≡ 32 →
         IsReached plan x m → bar plan m.state mv ≡ None → is_issue mv ≡ false →
         suc (weight plan (next plan m mv).state) ≤ weight plan m.state }
+{}
+
+/// The line that a run is compared with, that of a step of the sequential machine, is shown by the very line that the step gives,
+/// and by no other.
+pub fn own_lines()
+    ensures { (isa : Isa) (x n : Sequential) (own shown : Retired) → step isa x ≡ Next n own → own.word < 2 ^ 32 →
+        Shows (line_read isa own) own × (Shows (line_read isa own) shown → shown ≡ own) }
 {}

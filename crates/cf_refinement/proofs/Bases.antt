@@ -1,5 +1,5 @@
 -- What a machine of RV32I does as long as it goes on, one of RV32IM does too.
-use Rattle.std.proofs.Common.{◌≡◌, ℕ, zero, suc, List, [], ◌∷◌, ◌++◌, Option, Some, None, refl, sym, ap, ◌∙◌}
+use Rattle.std.proofs.Common.{◌≡◌, ℕ, zero, suc, List, [], ◌++◌, Option, Some, None, refl, sym, ap, ◌∙◌}
 use Rattle.rv_inst.specs.declared.instruction.Instr.{Instr}
 use Rattle.rv_inst.specs.declared.isa.Isa.{Isa}
 use Rattle.rv_inst.specs.declared.isa.Isa.TheVariants.{Rv32i, Rv32im}
@@ -12,7 +12,7 @@ use Rattle.rv_machine.specs.Machine.{Machine}
 use Rattle.rv_machine.specs.Outcome as outcome
 use Rattle.rv_machine.specs.Step.{step}
 use Rattle.cf_semantics.specs.Options.{on}
-use Rattle.cf_semantics.specs.Instructions.{Fetched, Got, Bad, fetched, dst_of, Stepped, Goes, Stops, step_at, step_here, stepped, behind}
+use Rattle.cf_semantics.specs.Instructions.{Fetched, Got, Bad, fetched, Stepped, Goes, Stops, step_at, step_here, stepped}
 use Rattle.cf_semantics.specs.Lines.{Line, lines_at, lines_in, sequence}
 use Rattle.cf_refinement.proofs.OwnLines.{GivesOwn, own_step}
 use Rattle.cf_refinement.proofs.Steps.{IsFetched, fetched_is, bad_step, step_executes, step_is}

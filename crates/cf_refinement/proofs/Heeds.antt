@@ -6,18 +6,15 @@ use Rattle.cf_bind.specs.declared.packet.Packet.{Packet}
 use Rattle.cf_bind.specs.declared.passenger.Passenger.{Passenger}
 use Rattle.cf_layout.specs.Layout.{Plan, launch_stage}
 use Rattle.cf_refinement.proofs.Access.{Landed, walk_risky}
-use Rattle.cf_refinement.proofs.Accesses.{access_ready, between, first_out, out_is}
+use Rattle.cf_refinement.proofs.Accesses.{access_scene}
 use Rattle.cf_refinement.proofs.Ahead.{dead_past, docked_of, open_of, result_past, risk_past, still, still_low, sure_of, sure_past, sure_pc}
 use Rattle.cf_refinement.proofs.Change.{here, past_safe}
 use Rattle.cf_refinement.proofs.Column.{rider_first, top_cell}
-use Rattle.cf_refinement.proofs.Flown.{operations-last}
 use Rattle.cf_refinement.proofs.Fold.{fit_front}
 use Rattle.cf_refinement.proofs.Goes.{quiet_on}
 use Rattle.cf_refinement.proofs.Kept.{bar_row}
 use Rattle.cf_refinement.proofs.Lines.{gained_is}
-use Rattle.cf_refinement.proofs.Launch.{flies_out}
 use Rattle.cf_refinement.proofs.Leave.{Leaves, leave_ready, left_dead, next-leave}
-use Rattle.cf_refinement.proofs.Recovered.{docked_live, landed}
 use Rattle.cf_refinement.proofs.Runs.{going, holds_after}
 use Rattle.cf_refinement.proofs.Serve.{serve_ready}
 use Rattle.cf_refinement.proofs.Sorted.{Riders, Sorted, over, sorted}
@@ -25,18 +22,17 @@ use Rattle.cf_refinement.proofs.Stands.{each_front}
 use Rattle.cf_semantics.specs.Heeds.{Acted, Heeds, NoneFlies, OnWay, Unmoved, as_launched}
 use Rattle.cf_semantics.specs.Refines.{gained}
 use Rattle.cf_refinement.specs.Invariant.{HoldsAt, Sound}
-use Rattle.cf_refinement.specs.Operations.{operations}
 use Rattle.cf_refinement.specs.Stands.{Each}
 use Rattle.cf_refinement.specs.Suited.{Suits}
 use Rattle.cf_semantics.specs.Bars.{bar}
 use Rattle.cf_semantics.specs.Column.{Down, Item, Up, column, column_from, packet_in}
 use Rattle.cf_semantics.specs.Instructions.{Goes, behind, is_memory, step_at}
 use Rattle.cf_semantics.specs.Layouts.{isa_of, port}
-use Rattle.cf_semantics.specs.Moves.{moved, next, set_last, without_passenger}
+use Rattle.cf_semantics.specs.Moves.{moved, next, without_passenger}
 use Rattle.cf_semantics.specs.Passengers.{kind}
 use Rattle.cf_semantics.specs.Right.{begin}
 use Rattle.cf_semantics.specs.Runs.{IsRun, run, start}
-use Rattle.cf_semantics.specs.State.{Moment, State, siding_at, with_cell}
+use Rattle.cf_semantics.specs.State.{Moment, State, with_cell}
 use Rattle.cf_semantics.specs.Walks.{Everywhere, walk}
 use Rattle.rv_inst.specs.declared.isa.Isa.{Isa}
 use Rattle.rv_machine.specs.After.{after}
@@ -215,34 +211,24 @@ serve_acts {rest} {out} l s x e h =
 
 access_acts : {rest out : List ℕ} (l : Plan) (s : State) (x : Machine) → Suits l → bar l s Access ≡ None → Sound l s rest out x → Acted l s x Access
 access_acts {rest} {out} l s x acc e h =
-    let r = access_ready l s (bar_row l s Access e) in
-    let k = port l in
-    let q = siding_at s k in
-    let f = first_out l k (column s) (record r.what { answer = None }) (operations (set_last q None)) (sym (h.moored.flown k) ∙ operations-last q r.what r.lies) in
+    let c = access_scene l s x acc e h in
+    let f = c.first in
     let p = f.who in
     let i = f.stage in
     let was : column s ≡ f.above ++ ((Up i p ∷ []) ++ f.below) = f.was in
     let y = here l s x f.above (Up i p ∷ []) f.below was h in
-    let each = rw was at h.stands in
-    let o = out_is l p f.out in
-    let flies = flies_out l acc p f.out in
-    let m : is_memory (kind p) ≡ true = grind arith in
-    let known = docked_live (isa_of l) p i _ y.port_fit.0 o.0 m in
-    let range = between l i p acc m o.0 o.1 y.stands.0 in
-    let ea = each_front l f.above ((Up i p ∷ []) ++ f.below) each in
-    let out = out_above l i f.above acc range.0 (over f.above f.below i p (subst Sorted was (sorted 1 s.cells))) ea in
+    let ea = each_front l f.above ((Up i p ∷ []) ++ f.below) (rw was at h.stands) in
+    let out = out_above l i f.above acc c.range.0 (over f.above f.below i p (subst Sorted was (sorted 1 s.cells))) ea in
     let w = walk (dock.past (isa_of l)) f.above (dock.top l s x) in
-    let z = way_on l f.above (dock.top l s x) (begin s x) ea (fit_front _ (sure.Fits (isa_of l)) (trail.past (isa_of l)) f.above ((Up i p ∷ []) ++ f.below) _ (rw was at h.path_fit)) (fit_front _ (dock.Fits (isa_of l)) (dock.past (isa_of l)) f.above ((Up i p ∷ []) ++ f.below) _ (rw was at h.port_fit)) (λ b. absurd (cc)) refl refl refl out known.1 in
-    let b = open_of w y.safe known.1 in
-    let certain : sure.SureAt (isa_of l) p w.path = sure_of (isa_of l) i p w.path known.0 b (subst (λ (u : trail.Walk). sure.Fits (isa_of l) (Up i p) u) (sym y.same) y.path_fit.0) in
+    let z = way_on l f.above (dock.top l s x) (begin s x) ea (fit_front _ (sure.Fits (isa_of l)) (trail.past (isa_of l)) f.above ((Up i p ∷ []) ++ f.below) _ (rw was at h.path_fit)) (fit_front _ (dock.Fits (isa_of l)) (dock.past (isa_of l)) f.above ((Up i p ∷ []) ++ f.below) _ (rw was at h.port_fit)) (λ b. absurd (cc)) refl refl refl out c.calm in
     record {
       above = f.above;
       below = f.below;
       stage = i;
       who = p;
       was = f.was;
-      acts = (flies, none_flies f.above (landed l acc f.above f.none), ap as_launched r.lies ∙ ap Some (sym f.op));
-      way = record { sure = ap (λ (u : trail.Walk). trail.is_sure p u) z.2 ∙ both p.dead w.path.barred known.0 b; on = z.0; pc = sure_pc (isa_of l) p w.path w.path.machine.hart.pc z.1 certain ∙ ap (λ (u : trail.Walk). u.machine.hart.pc) (sym z.2) };
+      acts = (c.flies, none_flies f.above c.landed, ap as_launched c.ready.lies ∙ ap Some (sym f.op));
+      way = record { sure = ap (λ (u : trail.Walk). trail.is_sure p u) z.2 ∙ both p.dead w.path.barred c.live (open_of w y.safe c.calm); on = z.0; pc = sure_pc (isa_of l) p w.path w.path.machine.hart.pc z.1 c.certain ∙ ap (λ (u : trail.Walk). u.machine.hart.pc) (sym z.2) };
     }
   where
     none_flies : (xs : List Item) → Landed xs → NoneFlies xs

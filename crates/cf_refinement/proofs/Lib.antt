@@ -1,5 +1,6 @@
 pub mod Steps
 pub mod OwnLines
+pub mod OwnShown
 pub mod Fetches
 pub mod Homes
 pub mod Layouts

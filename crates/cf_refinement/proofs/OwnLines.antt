@@ -1,7 +1,7 @@
 -- The line that the sequential machine gives with a step: the address, the word that was fetched, and the destination with the value that it got.
 use Rattle.std.proofs.Common.{◌≡◌, ℕ, ◌%◌, ◌<◌, List, [], ◌∷◌, Option, Some, None, Bool, true, false, Result, Ok, Err, refl, sym, ap, ◌∙◌, arith, length}
 use Rattle.std.proofs.lemmas.List.{get_or-set_same}
-use Rattle.std.specs.Prelude.{◌==◌, slice_index, slice_set, if◌then◌else◌}
+use Rattle.std.specs.Prelude.{◌==◌, slice_index, if◌then◌else◌}
 use Rattle.std.proofs.lemmas.Bool.Decides.{nat_tests}
 use Rattle.mem_regions.specs.Memory.{Memory}
 use Rattle.mem_regions.specs.Access.{bounds_of, permits_at}
@@ -14,24 +14,21 @@ use Rattle.rv_inst.specs.declared.accesses.Access.{Access}
 use Rattle.rv_inst.specs.declared.classes.Class.{Class}
 use Rattle.rv_inst.specs.declared.classes.Class.TheVariants.{Add, Logic, Shift, Compare, Branch, Jump, Memory as MemoryClass, Serial, Free, Mul, Div}
 use Rattle.rv_inst.specs.declared.instruction.Instr.{Instr}
-use Rattle.rv_inst.specs.declared.instruction.Instr.TheVariants.{Ebreak}
 use Rattle.rv_inst.specs.declared.isa.Isa.{Isa}
 use Rattle.rv_inst.specs.Decoding.{decoded_as}
 use Rattle.rv_inst.specs.Words.{word_sum}
-use Rattle.rv_inst.specs.Operands.{sources_of, dest_of}
+use Rattle.rv_inst.specs.Operands.{dest_of}
 use Rattle.rv_inst.specs.Arithmetic.{next_pc}
 use Rattle.rv_inst.specs.Accesses.{access_made, extended}
 use Rattle.rv_mul.specs.Values.{value_of}
 use Rattle.rv_machine.specs.declared.outcome.Retired.{Retired}
-use Rattle.rv_machine.specs.Hart.{Hart}
 use Rattle.rv_machine.specs.Machine.{Machine}
 use Rattle.rv_machine.specs.Outcome as outcome
 use Rattle.rv_machine.specs.Call.{Called, call}
 use Rattle.rv_machine.specs.Call as called
 use Rattle.rv_machine.specs.Step as machine
 use Rattle.cf_bind.specs.declared.binding.Binding.{Binding}
-use Rattle.cf_semantics.specs.Options.{on}
-use Rattle.cf_semantics.specs.Instructions.{kind_of, Got, fetched, register, dst_of, Goes, stepped, step_at, step_here, behind}
+use Rattle.cf_semantics.specs.Instructions.{kind_of, Got, fetched, register, dst_of, Goes, stepped, step_at, step_here}
 use Rattle.cf_semantics.specs.Lines.{Line, row, named, line_read, lines_in, lines_at}
 use Rattle.cf_refinement.proofs.Steps.{IsFetched, fetched_is, step_executes, dst_below}
 

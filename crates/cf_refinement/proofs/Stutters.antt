@@ -1,24 +1,23 @@
 -- Move by move: seen from outside, a move is no step of the sequential machine, or exactly its next one.
-use Rattle.std.proofs.Common.{◌≡◌, ℕ, suc, ◌+◌, ◌≤◌, List, [], ◌∷◌, ◌++◌, Some, None, Bool, true, false, refl, sym, ap, subst, ◌∙◌, arith, ◌⊎◌, inl, inr}
+use Rattle.std.proofs.Common.{◌≡◌, ℕ, suc, ◌+◌, List, [], ◌∷◌, ◌++◌, Some, None, Bool, true, false, refl, sym, ap, subst, ◌∙◌, arith, ◌⊎◌, inl, inr}
 use Rattle.rv_machine.specs.After.{after}
 use Rattle.rv_machine.specs.Call.{Called}
 use Rattle.rv_machine.specs.Call as called
 use Rattle.rv_machine.specs.Machine.{Machine}
-use Rattle.cf_layout.specs.Layout.{Plan, launch_stage}
+use Rattle.cf_layout.specs.Layout.{Plan}
 use Rattle.cf_bind.specs.declared.moves.Move.{Move}
 use Rattle.cf_bind.specs.declared.moves.Move.TheVariants.{Access, Climb, Emit, Execute, Exit, Fall, Issue, Launch, Leave, Meet, Recover, Send, Serve, Slide}
 use Rattle.cf_bind.specs.declared.passenger.End.{End}
-use Rattle.cf_bind.specs.declared.passenger.Passenger.{Passenger}
 use Rattle.cf_semantics.specs.Bars.{bar}
 use Rattle.cf_semantics.specs.Column.{Down, Item, Up, column}
-use Rattle.cf_semantics.specs.Instructions.{Goes, Stops, behind, serve_of, step_at, step_here}
-use Rattle.cf_semantics.specs.Layouts.{isa_of, port}
+use Rattle.cf_semantics.specs.Instructions.{Goes, behind, serve_of, step_at, step_here}
+use Rattle.cf_semantics.specs.Layouts.{isa_of}
 use Rattle.cf_semantics.specs.Lines.{lines_at, retires}
-use Rattle.cf_semantics.specs.Moves.{accessed, moved, next, served}
+use Rattle.cf_semantics.specs.Moves.{moved, next, served}
 use Rattle.cf_semantics.specs.Passengers.{instruction}
 use Rattle.cf_semantics.specs.Refines.{gained}
 use Rattle.cf_semantics.specs.State.{Moment, State}
-use Rattle.cf_semantics.specs.Stutters.{NothingRetires, NothingSpoken, OneStored, StepsRetired, StepsSpoken, StepsStored, Stutters}
+use Rattle.cf_semantics.specs.Stutters.{NothingRetires, OneStored, StepsRetired, StepsSpoken, StepsStored, Stutters}
 use Rattle.cf_semantics.specs.Walks.{Everywhere, walk}
 use Rattle.cf_semantics.specs.Ahead as ahead
 use Rattle.cf_semantics.specs.Path as trail
@@ -28,7 +27,7 @@ use Rattle.cf_refinement.specs.Suited.{Suits}
 use Rattle.cf_refinement.specs.Port as dock
 use Rattle.cf_refinement.specs.Sure as sure
 use Rattle.cf_refinement.proofs.Access.{walk_risky}
-use Rattle.cf_refinement.proofs.Accesses.{Scene, access_scene, next-access}
+use Rattle.cf_refinement.proofs.Accesses.{access_scene, next-access}
 use Rattle.cf_refinement.proofs.Ahead.{OnPath, dead_on, live_on, result_past, sure_pc}
 use Rattle.cf_refinement.proofs.Change.{past_safe}
 use Rattle.cf_refinement.proofs.Fold.{fit_front}

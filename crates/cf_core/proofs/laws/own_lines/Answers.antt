@@ -1,0 +1,6 @@
+-- The law is a theorem.
+use Rattle.cf_refinement.proofs.OwnShown.{own_alone}
+use Rattle.cf_core.proofs.laws.own_lines.Goals as goal
+
+pub returns : goal.returns
+returns c = own_alone
