@@ -33,9 +33,9 @@ use Rattle.cf_refinement.proofs.Fold.{walk-append, walk_follows}
 use Rattle.cf_refinement.proofs.Fresh.{fresh_is}
 use Rattle.cf_refinement.proofs.Issue.{Issues, issue_ready, next-issue}
 use Rattle.cf_refinement.proofs.Kept.{bar_row}
+use Rattle.cf_refinement.proofs.Level.{empty_column}
 use Rattle.cf_refinement.proofs.Runs as runs
 use Rattle.cf_confluence.proofs.Bound.{costs, sound_at}
-use Rattle.cf_confluence.proofs.Confluent.{empty_column}
 use Rattle.cf_confluence.proofs.Determined.{EndsSo, GoesSo, Total, one_machine, so_kept}
 use Rattle.cf_confluence.proofs.Right.{Fits, Follows, way_walk}
 use Rattle.cf_confluence.proofs.Ways.{fits_way}
@@ -82,12 +82,12 @@ grown {rest} {out} l s x g r h =
     rw (next-issue l s g r.here r.others r.pc p r.cells r.runs refl) (record { above = walk (past (isa_of l)) (column s) (begin t x); count = q.count; stop = q.stop; is = w; first = λ e. ap (λ (z : List Item). walk (past (isa_of l)) z (begin t x)) e })
 
 -- a passenger more takes nothing from the way
-past_grows : (isa : Isa) (i : ℕ) (p : Passenger) (w : Way) → (w.count ≤ (past isa (Up i p) w).count) × (w.stop ≡ true → (past isa (Up i p) w).stop ≡ true)
+pub past_grows : (isa : Isa) (i : ℕ) (p : Passenger) (w : Way) → (w.count ≤ (past isa (Up i p) w).count) × (w.stop ≡ true → (past isa (Up i p) w).stop ≡ true)
 unfolding past
 past_grows isa i p w = (grind arith, λ e. grind (arith, e))
 
 -- one that stands where the machine is adds to it, or ends it
-past_first : (isa : Isa) (i : ℕ) (p : Passenger) (s : State) (x : Machine) → p.dead ≡ false → p.pc ≡ x.hart.pc → (1 ≤ (past isa (Up i p) (begin s x)).count) ⊎ ((past isa (Up i p) (begin s x)).stop ≡ true)
+pub past_first : (isa : Isa) (i : ℕ) (p : Passenger) (s : State) (x : Machine) → p.dead ≡ false → p.pc ≡ x.hart.pc → (1 ≤ (past isa (Up i p) (begin s x)).count) ⊎ ((past isa (Up i p) (begin s x)).stop ≡ true)
 unfolding past follows stops
 past_first isa i p s x d c = go (goes (step_at isa x p.pc)) refl
   where

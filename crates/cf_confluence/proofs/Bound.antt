@@ -137,7 +137,7 @@ no_sidings : (q : List SidingPlan) → sidings_weight (map empty_siding q) ≡ 0
 no_sidings [] = refl
 no_sidings (n ∷ q) = let a = no_ops (length (empty_siding n)) 0 n.cells in let b = no_sidings q in omega (arith, a, b)
 
-opened_weight : (l : Plan) (x : Machine) → weight l (opened l x) ≡ 0
+pub opened_weight : (l : Plan) (x : Machine) → weight l (opened l x) ≡ 0
 unfolding weight opened
 opened_weight l x =
     let a = no_cells l.stages (most_cells l.sidings) 1 l.stages in

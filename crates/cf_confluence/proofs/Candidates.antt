@@ -239,7 +239,7 @@ pub is_candidate : (l : Plan) (s : State) (mv : Move) → HasShape l s → is_is
 is_candidate l s mv h i e = candidate l s mv e (all_has l s mv h i e)
 
 -- what was kept passes the test, and was there before
-kept_passes : {A : Type 0} → (p : A → Bool) (xs : List A) (k : ℕ) (x : A) → slice_get (filter p xs) k ≡ Some x → (p x ≡ true) × Has xs x
+pub kept_passes : {A : Type 0} → (p : A → Bool) (xs : List A) (k : ℕ) (x : A) → slice_get (filter p xs) k ≡ Some x → (p x ≡ true) × Has xs x
 kept_passes p [] k x e = absurd (cc)
 kept_passes p (y ∷ xs) k x e = go (p y) refl k e (λ j f. kept_passes p xs j x f)
   where

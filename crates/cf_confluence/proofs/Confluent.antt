@@ -1,29 +1,27 @@
 -- Two runs without Issue from one moment that cannot be extended end alike; and what is kept at the bottom of a drained state is the registers'.
-use Rattle.std.proofs.Common.{◌≡◌, ℕ, suc, ◌+◌, List, [], ◌∷◌, Some, None, Bool, true, false, ◌&&◌, ◌||◌, not, refl, sym, ap, subst, ◌∙◌, arith}
+use Rattle.std.proofs.Common.{◌≡◌, ℕ, ◌+◌, List, [], ◌∷◌, Some, None, Bool, true, false, refl, sym, ap, subst, ◌∙◌}
 use Rattle.std.specs.Prelude.{slice_index}
-use Rattle.std.specs.List.{list_any}
 use Rattle.rv_inst.specs.declared.isa.Isa.{Isa}
 use Rattle.rv_machine.specs.Machine.{Machine}
 use Rattle.rv_machine.specs.After.{after}
 use Rattle.cf_layout.specs.Layout.{Plan}
-use Rattle.cf_bind.specs.declared.cell.Cell.{Cell}
 use Rattle.cf_bind.specs.declared.moves.Move.{Move}
 use Rattle.cf_bind.specs.declared.passenger.End.{End}
-use Rattle.cf_semantics.specs.Options.{is_some}
 use Rattle.cf_semantics.specs.Instructions.{Stops, step_here}
 use Rattle.cf_semantics.specs.State.{State, Moment}
-use Rattle.cf_semantics.specs.Column.{Item, column, column_from, items}
+use Rattle.cf_semantics.specs.Column.{Item}
 use Rattle.cf_semantics.specs.Layouts.{isa_of}
 use Rattle.cf_semantics.specs.Passengers.{cached}
 use Rattle.cf_semantics.specs.Refines.{gained}
 use Rattle.cf_semantics.specs.Right.{right, way}
 use Rattle.cf_semantics.specs.Runs.{IsRun, run, opened}
 use Rattle.cf_semantics.specs.Walks.{walk}
-use Rattle.cf_semantics.specs.Drained.{is_drained, is_empty, is_occupied}
+use Rattle.cf_semantics.specs.Drained.{is_drained}
 use Rattle.cf_semantics.specs.Determined.{Drains, EndAlike, EndsAs, EndsAt, IsDrainedAt, IsEndedAt, IsSame}
 use Rattle.cf_semantics.specs.Path as trail
 use Rattle.cf_refinement.specs.Invariant.{HoldsAfter, HoldsAt, Sound}
 use Rattle.cf_refinement.specs.Sure as sure
+use Rattle.cf_refinement.proofs.Level.{empty_column}
 use Rattle.cf_refinement.proofs.Runs.{going}
 use Rattle.cf_confluence.proofs.Determined.{some_same}
 
@@ -93,28 +91,7 @@ halted_alike l m t u e f a b =
     let q : m ≡ u = halted l m b.moves e f b.allowed ∙ sym b.is in
     subst (λ (v : Moment). EndAlike v u) p (subst (λ (v : Moment). EndAlike m v) q (alike_self m e f))
 
--- nothing stands in the pipes
-either : (a b : Bool) → (a || b) ≡ false → (a ≡ false) × (b ≡ false)
-either false b e = (refl, e)
-either true b e = absurd (cc)
-
-vacant : (i : ℕ) (c : Cell) → is_occupied c ≡ false → items i c ≡ []
-vacant i c e = grind arith
-
-vacant_column : (i : ℕ) (cells : List Cell) → list_any is_occupied cells ≡ false → column_from i cells ≡ []
-vacant_column i [] e = refl
-vacant_column i (c ∷ cells) e =
-    let z = either (is_occupied c) (list_any is_occupied cells) e in
-    rw (vacant_column (suc i) cells z.1) (vacant i c z.0)
-
-pub empty_column : (s : State) → is_drained s ≡ true → column s ≡ []
-unfolding is_drained
-empty_column s d = vacant_column 1 s.cells (first (list_any is_occupied s.cells) (is_empty s.lane) (not (list_any (list_any is_some) s.sidings)) d)
-  where
-    first : (a b c : Bool) → (not a && b && c) ≡ true → a ≡ false
-    first false b c e = refl
-    first true b c e = absurd (cc)
-
+-- in a drained state that has not ended, each value that is kept at the bottom is its register's
 pub kept_true : (l : Plan) (x0 : Machine) (m : Moment) → HoldsAfter l x0 m → m.state.ending ≡ None → is_drained m.state ≡ true → (r v : ℕ) → cached m.state.cache r ≡ Some v → v ≡ slice_index m.state.regs r
 kept_true l x0 m h e d r v c =
     let sound : Sound l m.state m.rest m.output h.machine = subst (HoldsAt l m.state m.rest m.output h.machine) e h.stage in

@@ -25,9 +25,6 @@ use Rattle.cf_confluence.proofs.Candidates.{HasShape, has_some, held_stuck as ca
 use Rattle.cf_confluence.proofs.Confluent.{agree, halted_alike, kept_true}
 use Rattle.cf_confluence.proofs.Determined.{ends_as}
 use Rattle.cf_confluence.proofs.Independent.{bar_after, same_moment, turned_round}
-use Rattle.cf_semantics.specs.Paced.{IsPaced}
-use Rattle.cf_semantics.specs.Refines.{gained}
-use Rattle.cf_confluence.proofs.Paced.{paced_bounded}
 use Rattle.cf_confluence.proofs.Rested.{after_gained, drained_is, rested}
 use Rattle.cf_confluence.proofs.Sites.{local}
 use Rattle.cf_confluence.proofs.Tidy.{IsTidy, tidy_opened, tidy_run}
@@ -78,10 +75,6 @@ drained_apart plan x m mv moves acc wide reached drained allowed going rests =
     let suits = accepted_suits plan acc in
     let first = first_move plan x m mv suits allowed.0 (reached_holds plan x m acc wide reached) drained in
     all_retired plan x (run plan (next plan m mv) moves) (suc m.state.retired) (run_keeps plan x (next plan m mv) moves (suc m.state.retired) suits allowed.1 first) going rests
-
--- under the hold rule a run from the beginning has at most 4 N K (r + 1) moves, where r instructions have retired
-pub paced_run_bounded : (plan : Plan) (x : Machine) (moves : List Move) → IsAccepted plan → length x.hart.regs ≡ 32 → IsPaced plan 0 (start plan x) moves → length moves ≤ 4 * plan.stages * moves_per_issue plan * (gained x (run plan (start plan x) moves).state + 1)
-paced_run_bounded plan x moves acc wide allowed = paced_bounded plan x moves (accepted_suits plan acc) wide allowed
 
 reached_shape : (plan : Plan) (x : Machine) (m : Moment) → IsAccepted plan → length x.hart.regs ≡ 32 → IsReached plan x m → m.state.ending ≡ None → HasShape plan m.state
 reached_shape plan x m acc wide reached going =

@@ -20,5 +20,5 @@ pub mod Locals
 pub mod Independent
 pub mod Sites
 pub mod Apart
-pub mod Paced
+pub mod Retiring
 pub mod Candidates

@@ -51,7 +51,8 @@ pub fn t4_1()
 {}
 
 /// What is seen of a run is what the sequential machine does: retired instructions, registers and ending at each moment;
-/// the output, at most one call ahead; and the memory, ahead by the accesses that have passed the port.
+/// the output, at most one call ahead; and the memory, ahead by the accesses that have passed the port. Neither is ahead
+/// where the program has ended or nothing stands in the processor.
 pub fn t4_2()
     ensures { (plan : Plan) (x : Sequential) (moves : List Move) → IsAccepted plan → length x.hart.regs ≡ 32 →
         IsRun plan (start plan x) moves →

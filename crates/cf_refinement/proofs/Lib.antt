@@ -51,6 +51,7 @@ pub mod Goes
 pub mod Lines
 pub mod Ahead
 pub mod Output
+pub mod Level
 pub mod Bases
 pub mod Refines
 pub mod Heeds

@@ -17,6 +17,7 @@ use Rattle.cf_refinement.specs.Invariant.{HoldsAt}
 use Rattle.cf_refinement.specs.Suited.{Suits}
 use Rattle.cf_refinement.proofs.Ahead.{memory_ahead}
 use Rattle.cf_refinement.proofs.Bases.{one_sequence}
+use Rattle.cf_refinement.proofs.Level.{drained_level}
 use Rattle.cf_refinement.proofs.Lines.{gained_is, lines_hold, prefix}
 use Rattle.cf_refinement.proofs.Output.{output_ahead}
 use Rattle.cf_refinement.proofs.Runs.{holds_after}
@@ -25,11 +26,12 @@ plus : (isa : Isa) (m : Machine) (n c : ℕ) (x : Machine) → c ≡ 0 → after
 plus isa m n c x e a = let q : n + c ≡ n = omega arith in ap (after isa m) q ∙ a
 
 -- where the invariant holds at a moment, what is seen there is what the machine does
-pub refined : (l : Plan) (x0 : Machine) (w : List Line) (m : Moment) (x : Machine) → Suits l → w ≡ sequence (isa_of l) x0 (gained x0 m.state) → after (isa_of l) x0 (gained x0 m.state) ≡ Some x → (o : Option End) → m.state.ending ≡ o → HoldsAt l m.state m.rest m.output x o → Refines l x0 w m
-refined l x0 w m x acc n a None e h =
+pub refined : (l : Plan) (x0 : Machine) (w : List Line) (m : Moment) (x : Machine) → Suits l → x0.hart.retired ≤ m.state.retired → w ≡ sequence (isa_of l) x0 (gained x0 m.state) → after (isa_of l) x0 (gained x0 m.state) ≡ Some x → (o : Option End) → m.state.ending ≡ o → HoldsAt l m.state m.rest m.output x o → Refines l x0 w m
+refined l x0 w m x acc r n a None e h =
     let z = memory_ahead l x0 m.state x acc a h in
     record {
       at = x;
+      rises = r;
       count = a;
       lines = n;
       regs = h.regs;
@@ -37,9 +39,11 @@ refined l x0 w m x acc n a None e h =
       spoke = output_ahead l x0 m.state x a h;
       stored = record { at = z.0; count = z.1; mem = z.2 };
       level = λ b f. absurd (let q = sym e ∙ f in cc);
+      level_drained = drained_level l m.state;
     }
-refined l x0 w m x acc n a (Some b) e h = record {
+refined l x0 w m x acc r n a (Some b) e h = record {
   at = x;
+  rises = r;
   count = a;
   lines = n;
   regs = h.regs;
@@ -47,6 +51,7 @@ refined l x0 w m x acc n a (Some b) e h = record {
   spoke = record { at = x; count = plus (isa_of l) x0 (gained x0 m.state) (served_count l m.state) x h.unserved a; rest = h.input; output = h.output };
   stored = record { at = x; count = plus (isa_of l) x0 (gained x0 m.state) (ported_count l m.state) x h.unported a; mem = h.mem };
   level = λ c f. (h.unserved, h.unported);
+  level_drained = drained_level l m.state;
 }
   where
     same : (a b : End) → Some a ≡ Some b → a ≡ b
@@ -57,7 +62,7 @@ pub run_refines : (l : Plan) (x0 : Machine) (moves : List Move) → Suits l → 
 run_refines l x0 moves acc w r =
     let m = run l (start l x0) moves in
     let h = holds_after l x0 moves acc w r in
-    refined l x0 (lines l (start l x0) moves) m h.machine acc (lines_hold l x0 moves acc w r) (ap (after (isa_of l) x0) (gained_is l x0 m h) ∙ h.after) m.state.ending refl h.stage
+    refined l x0 (lines l (start l x0) moves) m h.machine acc (let c = h.count in omega (arith, c)) (lines_hold l x0 moves acc w r) (ap (after (isa_of l) x0) (gained_is l x0 m h) ∙ h.after) m.state.ending refl h.stage
 
 -- the longer of two
 one_way : (isa : Isa) (x0 : Machine) (a b : ℕ) (u v : List Line) → u ≡ sequence isa x0 a → v ≡ sequence isa x0 b → a ≤ b → IsPrefix u v

@@ -1,5 +1,5 @@
 -- What is seen of a run is what the sequential machine does.
-use Rattle.std.specs.Prelude.{◌≡◌, ℕ, ◌+◌, ◌-◌, List, ◌++◌, Some}
+use Rattle.std.specs.Prelude.{◌≡◌, ℕ, ◌+◌, ◌-◌, ◌≤◌, List, ◌++◌, Some, true}
 use Rattle.rv_inst.specs.declared.isa.Isa.{Isa}
 use Rattle.rv_machine.specs.Machine.{Machine}
 use Rattle.rv_machine.specs.After.{after}
@@ -8,6 +8,7 @@ use Rattle.cf_bind.specs.declared.passenger.End.{End}
 use Rattle.cf_semantics.specs.Instructions.{Stops, step_here}
 use Rattle.cf_semantics.specs.State.{State, Moment}
 use Rattle.cf_semantics.specs.Layouts.{isa_of}
+use Rattle.cf_semantics.specs.Drained.{is_drained}
 use Rattle.cf_semantics.specs.Ahead.{served_count, ported_count}
 use Rattle.cf_semantics.specs.Lines.{Line, sequence}
 
@@ -28,9 +29,10 @@ pub record Stored (isa : Isa) (start : Machine) (n : ℕ) (s : State) : Type 0 w
   pub count : after isa start n ≡ Some at
   pub mem : s.mem ≡ at.hart.mem
 
--- with n instructions gained: the machine has n steps; the lines are its n lines; the registers are its registers; an ending is that of its next step; the output is that after the instructions that were served, the memory that after those that have passed the port; and where the program has ended, neither is ahead
+-- with n instructions gained since the start, below whose count the count has not fallen: the machine has n steps; the lines are its n lines; the registers are its registers; an ending is that of its next step; the output is that after the instructions that were served, the memory that after those that have passed the port; and where the program has ended, or nothing stands in the processor, neither is ahead
 pub record Refines (plan : Plan) (start : Machine) (written : List Line) (m : Moment) : Type 0 where
   pub at : Machine
+  pub rises : start.hart.retired ≤ m.state.retired
   pub count : after (isa_of plan) start (gained start m.state) ≡ Some at
   pub lines : written ≡ sequence (isa_of plan) start (gained start m.state)
   pub regs : m.state.regs ≡ at.hart.regs
@@ -38,6 +40,7 @@ pub record Refines (plan : Plan) (start : Machine) (written : List Line) (m : Mo
   pub spoke : Spoke (isa_of plan) start (gained start m.state + served_count plan m.state) m
   pub stored : Stored (isa_of plan) start (gained start m.state + ported_count plan m.state) m.state
   pub level : (e : End) → m.state.ending ≡ Some e → (served_count plan m.state ≡ 0) × (ported_count plan m.state ≡ 0)
+  pub level_drained : is_drained m.state ≡ true → (served_count plan m.state ≡ 0) × (ported_count plan m.state ≡ 0)
 
 -- the second list goes on where the first ends
 abbrev pub IsPrefix : List Line → List Line → Type 0

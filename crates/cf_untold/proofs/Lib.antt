@@ -5,5 +5,9 @@ pub mod ClearSend
 pub mod ClearMoves
 pub mod Rechosen
 pub mod Goes
+pub mod Found
 pub mod Theorems
 pub mod Bounded
+pub mod Nearing
+pub mod Offered
+pub mod Pacing

@@ -1,12 +1,12 @@
 -- The theorems: over an input that does not tell what it has left, too, every run does what the sequential machine does.
-use Rattle.std.proofs.Common.{◌≡◌, ℕ, ◌+◌, List, [], ◌∷◌, ◌++◌, Some, None, refl, sym, ap, subst, ◌∙◌, arith, length, append_assoc, append-nil}
+use Rattle.std.proofs.Common.{◌≡◌, ℕ, ◌+◌, List, [], ◌∷◌, ◌++◌, Some, None, refl, sym, ap, subst, ◌∙◌, arith, length, append_assoc, append-nil, ◌⊎◌, inl, inr}
 use Rattle.rv_inst.specs.declared.isa.Isa.{Isa}
 use Rattle.rv_machine.specs.After.{SameButInput, after}
 use Rattle.rv_machine.specs.Machine.{Machine}
 use Rattle.cf_layout.specs.Accepted.{IsAccepted}
 use Rattle.cf_layout.specs.Layout.{Plan}
 use Rattle.cf_bind.specs.declared.moves.Move.{Move}
-use Rattle.cf_bind.specs.declared.moves.Move.TheVariants.{Access, Climb, Emit, Execute, Exit, Fall, Issue, Launch, Leave, Meet, Recover, Send, Serve, Slide}
+use Rattle.cf_bind.specs.declared.moves.Move.TheVariants.{Serve}
 use Rattle.cf_semantics.specs.Bars.{bar}
 use Rattle.cf_semantics.specs.Layouts.{isa_of}
 use Rattle.cf_semantics.specs.Lines.{Line, lines, retires, sequence}
@@ -27,16 +27,18 @@ use Rattle.cf_untold.specs.Clear.{IsClear}
 use Rattle.cf_untold.specs.Invariant.{HoldsAnew}
 use Rattle.cf_untold.proofs.ClearEnds.{clear_opened}
 use Rattle.cf_untold.proofs.ClearMoves.{clear_kept}
+use Rattle.cf_untold.proofs.Found.{found}
 use Rattle.cf_untold.proofs.Goes.{goes_nowhere, goes_on, goes_same}
 use Rattle.cf_untold.proofs.Rechosen.{over, rechosen}
 
 -- a moment that holds after the machine's own steps holds after the machine to which they lead
-pub rebased : (plan : Plan) (x : Machine) (m : Moment) → (h : HoldsAfter plan x m) → HoldsAfter plan h.machine m
+unfoldable pub rebased : (plan : Plan) (x : Machine) (m : Moment) → (h : HoldsAfter plan x m) → HoldsAfter plan h.machine m
+unfolding after
 rebased plan x m h = record {
   gained = 0;
   machine = h.machine;
   count = retired_is plan x m h ∙ omega arith;
-  after = unfold after in refl;
+  after = refl;
   stage = h.stage;
 }
 
@@ -57,7 +59,7 @@ sound_here plan x m level h unended =
 pub refines_held : (plan : Plan) (x : Machine) (m : Moment) → IsAccepted plan → HoldsAfter plan x m → m.state.retired ≡ x.hart.retired → Refines plan x [] m
 refines_held plan x m accepted h level =
     let none : gained x m.state ≡ 0 = omega (arith, level) in
-    refined plan x [] m h.machine (accepted_suits plan accepted) (sym (ap (sequence (isa_of plan) x) none ∙ unfold sequence in refl)) (after_gained plan x m h) m.state.ending refl h.stage
+    refined plan x [] m h.machine (accepted_suits plan accepted) (omega (arith, level)) (sym (ap (sequence (isa_of plan) x) none ∙ unfold sequence in refl)) (after_gained plan x m h) m.state.ending refl h.stage
 
 -- the lines of a move that is made where nothing has retired since
 one_move : (plan : Plan) (x : Machine) (m : Moment) (mv : Move) → Suits plan → bar plan m.state mv ≡ None → m.state.retired ≡ x.hart.retired → HoldsAfter plan x m → (k : HoldsAfter plan x (next plan m mv)) → sequence (isa_of plan) x k.gained ≡ retires plan m.state mv
@@ -130,30 +132,11 @@ call_kept plan start m rest written acc free h =
 
 -- every move keeps it, whatever it finds of the input
 pub anew_kept : (plan : Plan) (start : Machine) (m : Moment) (mv : Move) (rest : List ℕ) (written : List Line) → Suits plan → bar plan m.state mv ≡ None → HoldsAnew plan start written m → HoldsAnew plan start (written ++ retires plan m.state mv) (next plan (finding rest m) mv)
-unfolding next
-anew_kept plan start m mv rest written acc free h = go mv free (kept_by plan start h.at (finding h.rest m) mv written acc free h.count h.level h.goes h.held h.clear h.tidy)
+anew_kept plan start m mv rest written acc free h = go mv free (found plan m mv h.rest rest)
   where
-    Kept : Move → List ℕ → Type 0
-    Kept mv r = HoldsAnew plan start (written ++ retires plan m.state mv) (next plan (finding r m) mv)
-
-    open_at : (mv : Move) → Kept mv h.rest → HoldsAnew plan start (written ++ retires plan m.state mv) (finding rest (next plan (finding h.rest m) mv))
-    open_at mv k = left_open plan start (written ++ retires plan m.state mv) (next plan (finding h.rest m) mv) rest k
-
-    go : (mv : Move) → bar plan m.state mv ≡ None → Kept mv h.rest → Kept mv rest
-    go (Issue g) free k = open_at (Issue g) k
-    go Emit free k = open_at Emit k
-    go (Climb i) free k = open_at (Climb i) k
-    go (Fall i) free k = open_at (Fall i) k
-    go (Meet i) free k = open_at (Meet i) k
-    go (Execute i) free k = open_at (Execute i) k
-    go (Send i) free k = open_at (Send i) k
-    go (Launch i) free k = open_at (Launch i) k
-    go (Slide j c) free k = open_at (Slide j c) k
-    go Access free k = open_at Access k
-    go (Recover i) free k = open_at (Recover i) k
-    go Leave free k = open_at Leave k
-    go Exit free k = open_at Exit k
-    go Serve free k = call_kept plan start m rest written acc free h
+    go : (mv : Move) → bar plan m.state mv ≡ None → (mv ≡ Serve) ⊎ (next plan (finding rest m) mv ≡ finding rest (next plan (finding h.rest m) mv)) → HoldsAnew plan start (written ++ retires plan m.state mv) (next plan (finding rest m) mv)
+    go mv free (inl is) = subst (λ (v : Move). HoldsAnew plan start (written ++ retires plan m.state v) (next plan (finding rest m) v)) (sym is) (call_kept plan start m rest written acc (sym (ap (bar plan m.state) is) ∙ free) h)
+    go mv free (inr is) = rw is (left_open plan start (written ++ retires plan m.state mv) (next plan (finding h.rest m) mv) rest (kept_by plan start h.at (finding h.rest m) mv written acc free h.count h.level h.goes h.held h.clear h.tidy))
 
 -- the beginning
 pub anew_started : (plan : Plan) (x : Machine) → length x.hart.regs ≡ 32 → HoldsAnew plan x [] (start plan x)
@@ -189,4 +172,4 @@ holds_anew plan x moves m written accepted wide leads = anew_after plan x (start
 pub refines_anew : (plan : Plan) (x : Machine) (moves : List Move) (m : Moment) (written : List Line) → IsAccepted plan → length x.hart.regs ≡ 32 → LeadsTo plan (start plan x) moves m written → RefinesAnew plan x written m
 refines_anew plan x moves m written accepted wide leads =
     let h : HoldsAnew plan x written m = holds_anew plan x moves m written accepted wide leads in
-    record { at = h.at; goes = h.goes; rest = h.rest; refines = refines_held plan h.at (finding h.rest m) accepted h.held h.level }
+    record { at = h.at; rises = (let c = h.count in omega (arith, c)); goes = h.goes; rest = h.rest; refines = refines_held plan h.at (finding h.rest m) accepted h.held h.level }
