@@ -1,6 +1,6 @@
 -- What holds of every processor is kept by Serve, be it made or failed.
 use Rattle.std.proofs.Common.{◌≡◌, ℕ, List, [], Option, Some, None, Bool, true, false, refl, sym, ap, subst, ◌∙◌, arith}
-use Rattle.std.specs.Prelude.{if◌then◌else◌, ◌==◌, not}
+use Rattle.std.specs.Prelude.{Result, Ok, Err, if◌then◌else◌, ◌==◌, not}
 use Rattle.mem_regions.specs.Memory.{Memory}
 use Rattle.mem_regions.specs.Access.{bounds_of}
 use Rattle.mem_regions.specs.Fetching.{synced}
@@ -27,9 +27,10 @@ use Rattle.cf_semantics.specs.State.{State, Moment, cell_at, with_cell}
 use Rattle.cf_passengers.specs.Facts.{IsPassenger}
 use Rattle.cf_passengers.proofs.Kept.{answered-passenger, quitting-passenger}
 use Rattle.cf_core.specs.Processors.{Processor, IsProcessor, IsStage, in_state}
-use Rattle.cf_core.specs.Stepping.{Makes, FailsToRead, FailsToWrite, Steps}
-use Rattle.cf_core.specs.declared.step.Step.{Step}
-use Rattle.cf_core.specs.declared.step.Step.TheVariants as step
+use Rattle.cf_core.specs.Stepping.{Makes, FailsToRead, FailsToWrite, MakesOrFails}
+use Rattle.cf_core.specs.declared.fault.Fault.{Fault}
+use Rattle.cf_core.specs.declared.fault.Fault.TheVariants as fault
+use Rattle.cf_semantics.specs.declared.event.Event.{Event}
 use Rattle.cf_core.proofs.KeptMoves.{kept_moved}
 use Rattle.cf_core.proofs.KeptParts.{cell-kept, kept_bounds, stage-at}
 use Rattle.cf_core.proofs.KeptStages.{passenger-changed, passenger-in}
@@ -126,11 +127,10 @@ unbarred : (plan : Plan) (s : State) (mv : Move) → bar plan s mv ≡ None → 
 unfolding bar
 unbarred plan s mv e = grind arith
 
-pub steps-kept : (old new : Processor) (mv : Move) (before after : Streams) (r : Step) → Steps old new mv before after r → IsProcessor old.plan old.state → IsProcessor new.plan new.state
-unfolding Steps
-steps-kept old new mv before after (step.Moved e) h k = makes_kept old new mv before after (unbarred old.plan old.state mv h.0) h.1 k
-steps-kept old new mv before after (step.Barred b) h k = subst (λ (p : Processor). IsProcessor p.plan p.state) (sym h.1) k
-steps-kept old new mv before after step.ReadFault h k = read_kept old new before after h.2 k
-steps-kept old new mv before after step.WriteFault h k = write_kept old new before after h.2 k
+pub made-kept : (old new : Processor) (mv : Move) (before after : Streams) (r : Result Event Fault) → bar old.plan old.state mv ≡ None → MakesOrFails old new mv before after r → IsProcessor old.plan old.state → IsProcessor new.plan new.state
+unfolding MakesOrFails
+made-kept old new mv before after (Ok e) free h k = makes_kept old new mv before after (unbarred old.plan old.state mv free) h.0 k
+made-kept old new mv before after (Err fault.Read) free h k = read_kept old new before after h.1 k
+made-kept old new mv before after (Err fault.Write) free h k = write_kept old new before after h.1 k
 
-pub ruleset keeping = (steps-kept)
+pub ruleset making = (made-kept)

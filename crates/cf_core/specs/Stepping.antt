@@ -13,6 +13,7 @@ use Rattle.cf_bind.specs.declared.moves.Move.TheVariants.{Serve}
 use Rattle.cf_bind.specs.declared.passenger.End.TheVariants as ending
 use Rattle.cf_bind.specs.declared.passenger.Passenger.{Passenger}
 use Rattle.cf_semantics.specs.Options.{Where}
+use Rattle.cf_semantics.specs.declared.event.Event.{Event}
 use Rattle.cf_semantics.specs.State.{State}
 use Rattle.cf_semantics.specs.Bars.{bar}
 use Rattle.cf_semantics.specs.Events.{IsEvent}
@@ -80,6 +81,12 @@ told_of (served.Exit status) = Ok tt
 told_of served.ReadFault = Err fault.Read
 told_of served.WriteFault = Err fault.Write
 
+-- an allowed move was made, with its event; or the input or the output failed it, which only Serve asks
+unfoldable pub MakesOrFails : Processor → Processor → Move → Streams → Streams → Result Event Fault → Type 0
+MakesOrFails old new mv before after (Ok e) = Makes old new mv before after × IsEvent old.plan old.state mv e
+MakesOrFails old new mv before after (Err fault.Read) = (mv ≡ Serve) × FailsToRead old new before after
+MakesOrFails old new mv before after (Err fault.Write) = (mv ≡ Serve) × FailsToWrite old new before after
+
 -- the move was made, with its event; or it was barred by the first bar of its row, and nothing changed; or the input or the output failed it, which only Serve asks
 unfoldable pub Steps : Processor → Processor → Move → Streams → Streams → Step → Type 0
 Steps old new mv before after (Moved e) = (bar old.plan old.state mv ≡ None) × Makes old new mv before after × IsEvent old.plan old.state mv e
@@ -111,3 +118,14 @@ abbrev pub output_served : Result (Unit {0}) Fault → Result (Unit {0}) (Unit {
 output_served (Ok done) = Ok tt
 output_served (Err fault.Read) = Ok tt
 output_served (Err fault.Write) = Err tt
+
+-- and of a move that is made
+abbrev pub input_made : Result Event Fault → Result (Unit {0}) (Unit {0})
+input_made (Ok e) = Ok tt
+input_made (Err fault.Read) = Err tt
+input_made (Err fault.Write) = Ok tt
+
+abbrev pub output_made : Result Event Fault → Result (Unit {0}) (Unit {0})
+output_made (Ok e) = Ok tt
+output_made (Err fault.Read) = Ok tt
+output_made (Err fault.Write) = Err tt

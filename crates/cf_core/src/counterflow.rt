@@ -1,6 +1,6 @@
 //! The processor, and what can be seen of it.
 
-ghost use Rattle.std.specs.Prelude.{◌≡◌, ◌+◌, ◌<◌, ◌≤◌, ◌^◌, IfOk, IfSome, Some, length, slice_get, slice_index};
+ghost use Rattle.std.specs.Prelude.{◌≡◌, ◌+◌, ◌<◌, ◌≤◌, ◌^◌, IfOk, IfSome, None, Some, length, slice_get, slice_index};
 ghost use Rattle.cf_io.specs.Causes.{HasCause};
 ghost use Rattle.rv_machine.specs.Streams.{streams_of};
 ghost use Rattle.cf_semantics.specs.Bars.{bar as first_bar};
@@ -11,14 +11,16 @@ ghost use Rattle.cf_semantics.specs.Layouts.{isa_of};
 ghost use Rattle.cf_semantics.specs.Passengers.{cached as kept_value};
 ghost use Rattle.cf_core.specs.Asking.{AsksInput, AsksOutput};
 ghost use Rattle.cf_core.specs.Processors.{opened, IsOp, IsProcessor, IsStage};
-ghost use Rattle.cf_core.specs.Stepping.{Steps, input_stepped, output_stepped};
+ghost use Rattle.cf_core.specs.Stepping.{MakesOrFails, Steps, input_made, input_stepped, output_made, output_stepped};
 
+use crate::fault::Fault;
 use crate::processor::Processor;
 use crate::step::Step;
 use cf_bind::{Bar, Cell, End, Fetch, Move, Op};
 use cf_ends::Ends;
 use cf_io::{Sink, Source};
 use cf_layout::Layout;
+use cf_semantics::Event;
 use cf_sidings::Sidings;
 use cf_stages::Stages;
 use mem_regions::Regions;
@@ -27,7 +29,8 @@ use std::alloc::{AllocError, Global};
 use std::marker::Model;
 
 /// A counterflow pipeline processor (Sproull, Sutherland and Molnar, "Counterflow Pipeline Processor Architecture", 1994),
-/// seen as its layout and its state. It changes by `step` alone, one local move at a time; no call but `new` takes memory.
+/// seen as its layout and its state. It changes by `make` and `step` alone, one local move at a time; no call but `new`
+/// takes memory.
 ///
 /// Of every processor it holds that each instruction in the pipes is one of its instruction set, that one without an
 /// instruction has ended the program, that each operation in a siding is of a class of the siding, and that memory permits
@@ -202,6 +205,35 @@ impl Core {
         self.processor.failed
     }
 
+    /// Makes an allowed move, without testing its bars again, and tells what is seen of it from outside.
+    ///
+    /// An error comes only of Serve with ECALL in the highest stage, where the input or the output failed the call of the
+    /// environment: the processor bars every move from then on, the guest's buffer is as [`rv_machine::serve`] leaves it, and
+    /// all else is as before.
+    ///
+    /// The input is asked only by Serve where the instruction in the highest stage is an ECALL whose call asks the input; the
+    /// output likewise. Every other move leaves it as it is, whatever it tells of itself.
+    #[inline(always)]
+    #[tactic(auto, using(crate::proofs::KeptServe::making))]
+    pub fn make<S: Source, K: Sink>(
+        &mut self,
+        m: Move,
+        input: &mut S,
+        output: &mut K,
+    ) -> Result<Event, Fault>
+        requires allowed { first_bar self.old.plan self.old.state m ≡ None }
+        requires count { self.old.state.retired + 1 < 2 ^ 64 }
+        ensures makes { MakesOrFails self.old self.new m
+            (streams_of (S.left input.old) (K.written output.old))
+            (streams_of (S.left input.new) (K.written output.new)) result }
+        ensures input { HasCause (S.faults input.old) (S.faults input.new) (input_made result) }
+        ensures output { HasCause (K.faults output.old) (K.faults output.new) (output_made result) }
+        ensures input_asked { (AsksInput self.old m → ⊥) → input.new ≡ input.old }
+        ensures output_asked { (AsksOutput self.old m → ⊥) → output.new ≡ output.old }
+    {
+        self.processor.make(m, input, output)
+    }
+
     /// Makes a move, if nothing bars it.
     ///
     /// `Barred` tells the first bar of the move's row in the table of moves; nothing has changed then. `Moved` tells what is
@@ -212,7 +244,7 @@ impl Core {
     /// The input is asked only by Serve, where nothing bars it and the instruction in the highest stage is an ECALL whose call
     /// asks the input; the output likewise. Every other move leaves it as it is, whatever it tells of itself.
     #[inline(always)]
-    #[tactic(auto, using(crate::proofs::KeptServe::keeping))]
+    #[tactic(auto, unfolding(crate::specs::Stepping::Steps, crate::specs::Stepping::MakesOrFails))]
     pub fn step<S: Source, K: Sink>(&mut self, m: Move, input: &mut S, output: &mut K) -> Step
         requires { self.old.state.retired + 1 < 2 ^ 64 }
         ensures steps { Steps self.old self.new m
@@ -223,7 +255,14 @@ impl Core {
         ensures input_asked { (AsksInput self.old m → ⊥) → input.new ≡ input.old }
         ensures output_asked { (AsksOutput self.old m → ⊥) → output.new ≡ output.old }
     {
-        self.processor.step(m, input, output)
+        if let Some(bar) = self.allowed(m) {
+            return Step::Barred(bar);
+        }
+        match self.make(m, input, output) {
+            Ok(event) => Step::Moved(event),
+            Err(Fault::Read) => Step::ReadFault,
+            Err(Fault::Write) => Step::WriteFault,
+        }
     }
 
     /// The first bar of the move's row in the table of moves; `None` where it can be made.

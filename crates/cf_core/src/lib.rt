@@ -21,6 +21,7 @@ mod weighing;
 pub use cf_bind::{Cell, Op};
 pub use cf_semantics::Event;
 pub use counterflow::Core;
+pub use fault::Fault;
 pub use step::Step;
 
 #[cfg(test)]

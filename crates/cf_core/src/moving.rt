@@ -8,11 +8,10 @@ ghost use Rattle.cf_semantics.specs.Bars.{bar as first_bar, row_bar as bar_of_ro
 ghost use Rattle.cf_semantics.specs.Events.{IsEvent};
 ghost use Rattle.cf_core.specs.Asking.{AsksInput, AsksOutput};
 ghost use Rattle.cf_core.specs.Processors.{after_move, IsProcessor};
-ghost use Rattle.cf_core.specs.Stepping.{Steps, input_stepped, output_stepped};
+ghost use Rattle.cf_core.specs.Stepping.{MakesOrFails, input_made, output_made};
 
 use crate::fault::Fault;
 use crate::processor::Processor;
-use crate::step::Step;
 use cf_bind::{Bar, Move};
 use cf_io::{Sink, Source};
 use cf_semantics::Event;
@@ -60,7 +59,7 @@ impl Processor {
 
     /// Makes an allowed move, which is not Serve, and tells what is seen of it.
     #[inline(always)]
-    fn make(&mut self, m: Move) -> Event
+    fn make_inside(&mut self, m: Move) -> Event
         requires facts { IsProcessor self.old.plan self.old.state }
         requires allowed { bar_of_row self.old.plan self.old.state m ≡ None }
         requires count { self.old.state.retired + 1 < 2 ^ 64 }
@@ -87,35 +86,32 @@ impl Processor {
         Event::Plain
     }
 
-    /// Makes the move, where nothing bars it.
+    /// Makes an allowed move, and tells what is seen of it, or that the input or the output failed it.
     #[inline(always)]
-    #[tactic(auto, using(crate::proofs::Steps::stepping), unfolding(cf_semantics::specs::Bars::bar, crate::specs::Stepping::Steps))]
-    pub(crate) fn step<S: Source, K: Sink>(
+    #[tactic(auto, using(crate::proofs::Steps::stepping), unfolding(cf_semantics::specs::Bars::bar, crate::specs::Stepping::MakesOrFails))]
+    pub(crate) fn make<S: Source, K: Sink>(
         &mut self,
         m: Move,
         input: &mut S,
         output: &mut K,
-    ) -> Step
+    ) -> Result<Event, Fault>
         requires facts { IsProcessor self.old.plan self.old.state }
+        requires allowed { first_bar self.old.plan self.old.state m ≡ None }
         requires count { self.old.state.retired + 1 < 2 ^ 64 }
-        ensures steps { Steps self.old self.new m
+        ensures makes { MakesOrFails self.old self.new m
             (streams_of (S.left input.old) (K.written output.old))
             (streams_of (S.left input.new) (K.written output.new)) result }
-        ensures input { HasCause (S.faults input.old) (S.faults input.new) (input_stepped result) }
-        ensures output { HasCause (K.faults output.old) (K.faults output.new) (output_stepped result) }
+        ensures input { HasCause (S.faults input.old) (S.faults input.new) (input_made result) }
+        ensures output { HasCause (K.faults output.old) (K.faults output.new) (output_made result) }
         ensures input_asked { (AsksInput self.old m → ⊥) → input.new ≡ input.old }
         ensures output_asked { (AsksOutput self.old m → ⊥) → output.new ≡ output.old }
     {
-        if let Some(bar) = self.bar(m) {
-            return Step::Barred(bar);
-        }
         match m {
             Move::Serve => match self.serve(input, output) {
-                Ok(()) => Step::Moved(Event::Plain),
-                Err(Fault::Read) => Step::ReadFault,
-                Err(Fault::Write) => Step::WriteFault,
+                Ok(()) => Ok(Event::Plain),
+                Err(fault) => Err(fault),
             },
-            _ => Step::Moved(self.make(m)),
+            _ => Ok(self.make_inside(m)),
         }
     }
 }
