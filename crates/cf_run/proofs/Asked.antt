@@ -10,9 +10,9 @@ use Rattle.cf_scripts.specs.Scripts.{next_of}
 use Rattle.cf_run.specs.declared.show.Show.{Show}
 use Rattle.cf_run.specs.Made.{Made}
 use Rattle.cf_run.specs.Going.{moment_of, Leads}
-use Rattle.cf_run.specs.Scripts.{Stand, Reaches, Tries}
+use Rattle.cf_run.specs.Scripts.{Stand, Follows, Tries}
 use Rattle.cf_run.specs.Asking.{SomeAsks, NextAsks}
-use Rattle.cf_run.proofs.Runs.{reached-more, reached-trace}
+use Rattle.cf_run.proofs.Runs.{followed-more, followed-trace}
 
 -- the moves of a longer list, where one of the first asks
 some-first : (asks : Processor → Move → Type 0) (plan : Plan) (s : State) (trace others : List Made) → SomeAsks asks plan s trace → SomeAsks asks plan s (trace ++ others)
@@ -35,22 +35,22 @@ same_next answer line other mv last e f =
     ap (λ (next : ℕ × Move). next.1) same
 
 -- what the moves that were made ask, or the next one, the moves with that one ask
-one-more : (asks : Processor → Move → Type 0) (limit : ℕ) (show : Show) (start now : Stand) (h : Reaches limit show start now) (line : ℕ) (mv : Move) (made : Made) → next_of now.script ≡ Ok (Some (line, mv)) → made.move ≡ mv → SomeAsks asks start.place.core.plan start.place.core.state h.trace ⊎ NextAsks asks limit now.place.core now.script
-    → SomeAsks asks start.place.core.plan start.place.core.state (h.trace ++ made ∷ [])
-one-more asks limit show start now h line mv made e same (inl some) = some-first asks start.place.core.plan start.place.core.state h.trace (made ∷ []) some
-one-more asks limit show start now h line mv made e same (inr next) =
+one-more : (asks : Processor → Move → Type 0) (limit : ℕ) (show : Show) (start now : Stand) (f : Follows limit show start now) (line : ℕ) (mv : Move) (made : Made) → next_of now.script ≡ Ok (Some (line, mv)) → made.move ≡ mv → SomeAsks asks start.place.core.plan start.place.core.state f.reaches.trace ⊎ NextAsks asks limit now.place.core now.script
+    → SomeAsks asks start.place.core.plan start.place.core.state (f.reaches.trace ++ made ∷ [])
+one-more asks limit show start now f line mv made e same (inl some) = some-first asks start.place.core.plan start.place.core.state f.reaches.trace (made ∷ []) some
+one-more asks limit show start now f line mv made e same (inr next) =
     let last : asks now.place.core made.move = subst (asks now.place.core) (same_next (next_of now.script) next.line line next.move mv next.next e ∙ sym same) next.asked in
-    some-last asks start.place.core.plan limit start.place.streams.input (moment_of start.place.core h.rest) h.trace h.last made h.leads (subst (λ (p : Processor). asks p made.move) h.core last)
+    some-last asks start.place.core.plan limit start.place.streams.input (moment_of start.place.core f.reaches.rest) f.reaches.trace f.reaches.last made f.reaches.leads (subst (λ (p : Processor). asks p made.move) f.reaches.core last)
 
 -- the same of a run with one move more
-asked-more : (asks : Processor → Move → Type 0) (limit : ℕ) (show : Show) (start now new : Stand) (h : Reaches limit show start now) (t : Tries limit show now new None) → SomeAsks asks start.place.core.plan start.place.core.state h.trace ⊎ NextAsks asks limit now.place.core now.script
-    → SomeAsks asks start.place.core.plan start.place.core.state (reached-more limit show start now new h t).trace
-asked-more asks limit show start now new h t asked =
-    let made = reached-trace limit show start now new h t in
-    subst (SomeAsks asks start.place.core.plan start.place.core.state) (sym made.2) (one-more asks limit show start now h t.line t.move made.0 t.next made.1 asked)
+asked-more : (asks : Processor → Move → Type 0) (limit : ℕ) (show : Show) (start now new : Stand) (f : Follows limit show start now) (t : Tries limit show now new None) → SomeAsks asks start.place.core.plan start.place.core.state f.reaches.trace ⊎ NextAsks asks limit now.place.core now.script
+    → SomeAsks asks start.place.core.plan start.place.core.state (followed-more limit show start now new f t).reaches.trace
+asked-more asks limit show start now new f t asked =
+    let made = followed-trace limit show start now new f t in
+    subst (SomeAsks asks start.place.core.plan start.place.core.state) (sym made.2) (one-more asks limit show start now f t.line t.move made.0 t.next made.1 asked)
 
 -- what no move asked has stayed as it was, with one move more
-pub unasked-more : {T : Type 0} (asks : Processor → Move → Type 0) (limit : ℕ) (show : Show) (start now new : Stand) (h : Reaches limit show start now) (t : Tries limit show now new None) (first between last : T) → ((SomeAsks asks start.place.core.plan start.place.core.state h.trace → ⊥) → between ≡ first) → ((NextAsks asks limit now.place.core now.script → ⊥) → last ≡ between)
-    → (SomeAsks asks start.place.core.plan start.place.core.state (reached-more limit show start now new h t).trace → ⊥) → last ≡ first
-unasked-more asks limit show start now new h t first between last before one unasked =
-    one (λ next. unasked (asked-more asks limit show start now new h t (inr next))) ∙ before (λ some. unasked (asked-more asks limit show start now new h t (inl some)))
+pub unasked-more : {T : Type 0} (asks : Processor → Move → Type 0) (limit : ℕ) (show : Show) (start now new : Stand) (f : Follows limit show start now) (t : Tries limit show now new None) (first between last : T) → ((SomeAsks asks start.place.core.plan start.place.core.state f.reaches.trace → ⊥) → between ≡ first) → ((NextAsks asks limit now.place.core now.script → ⊥) → last ≡ between)
+    → (SomeAsks asks start.place.core.plan start.place.core.state (followed-more limit show start now new f t).reaches.trace → ⊥) → last ≡ first
+unasked-more asks limit show start now new f t first between last before one unasked =
+    one (λ next. unasked (asked-more asks limit show start now new f t (inr next))) ∙ before (λ some. unasked (asked-more asks limit show start now new f t (inl some)))

@@ -8,4 +8,5 @@ pub mod Settling
 pub mod Arrived
 pub mod Untold
 pub mod Stopping
+pub mod ByScript
 pub mod Headline

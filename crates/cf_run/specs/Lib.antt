@@ -1,6 +1,7 @@
 pub mod Made
 pub mod Going
 pub mod Moving
+pub mod Reaching
 pub mod Scripts
 pub mod Asking
 pub mod Headline

@@ -3,7 +3,9 @@
 
 mod answer;
 mod counting;
+mod known;
 mod moving;
+mod over;
 mod script;
 mod show;
 mod showing;
