@@ -9,4 +9,7 @@ pub mod Arrived
 pub mod Untold
 pub mod Stopping
 pub mod ByScript
+pub mod Picking
+pub mod Bounds
+pub mod ByPolicy
 pub mod Headline

@@ -5,3 +5,4 @@ pub mod Reaching
 pub mod Scripts
 pub mod Asking
 pub mod Headline
+pub mod Policies
