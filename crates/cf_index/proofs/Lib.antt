@@ -1,0 +1,6 @@
+pub mod Counted
+pub mod Places
+pub mod Parts
+pub mod Held
+pub mod Setting
+pub mod Filled

@@ -1,0 +1,11 @@
+use Rattle.std.proofs.Common.{◌≡◌, ℕ, ◌-◌, ◌/◌, ◌%◌, nat_lt}
+use Rattle.std.specs.Prelude.{◌&&◌}
+use Rattle.cf_layout.specs.Layout.{cells_of}
+use Rattle.cf_layout.specs.Words.{has_bit}
+use Rattle.cf_index.specs.Listed.{slide_at}
+use Rattle.cf_index.specs.Allowed.{is_allowed}
+use Rattle.cf_index.proofs.fill.slides.Given as goal
+
+-- the word has the cells of the sidings that were gone over
+abbrev pub invariant-loop-k : goal.invariant-loop-k
+invariant-loop-k l = (j : ℕ) → has_bit l.word j ≡ (nat_lt (j / 8) l.k && (nat_lt (j % 8) (cells_of l.core.plan (j / 8) - 1) && is_allowed l.core.plan l.core.state (slide_at j)))

@@ -1,0 +1,43 @@
+-- Which moves are allowed, by the parts of the list of all moves.
+use Rattle.std.specs.Prelude.{◌≡◌, ℕ, ◌+◌, List, [], ◌∷◌, ◌++◌, Bool, ◌&&◌, not, nat_lt}
+use Rattle.cf_layout.specs.Layout.{Plan}
+use Rattle.cf_layout.specs.Words.{has_bit}
+use Rattle.cf_bind.specs.declared.passenger.Guess.TheVariants as guess
+use Rattle.cf_bind.specs.declared.moves.Move.{Move}
+use Rattle.cf_bind.specs.declared.moves.Move.TheVariants.{Issue, Emit, Climb, Fall, Meet, Execute, Send, Launch, Access, Recover, Leave, Exit, Serve}
+use Rattle.cf_semantics.specs.Options.{is_some}
+use Rattle.cf_semantics.specs.State.{State}
+use Rattle.cf_semantics.specs.Bars.{bar}
+use Rattle.cf_semantics.specs.Candidates.{at_stages}
+use Rattle.cf_index.specs.declared.kind.Kind.{Kind}
+use Rattle.cf_index.specs.declared.kind.Kind.TheVariants as over
+
+-- nothing bars the move
+abbrev pub is_allowed : Plan → State → Move → Bool
+is_allowed plan s mv = not (is_some (bar plan s mv))
+
+-- the move of a kind at a stage
+abbrev pub kind_at : Kind → ℕ → Move
+kind_at over.Climb i = Climb i
+kind_at over.Fall i = Fall i
+kind_at over.Meet i = Meet i
+kind_at over.Execute i = Execute i
+kind_at over.Send i = Send i
+kind_at over.Launch i = Launch i
+kind_at over.Recover i = Recover i
+
+-- the word has bit i - 1 exactly where the move of this kind is allowed at stage i of the layout
+abbrev pub HasStages : Plan → State → (ℕ → Move) → ℕ → Type 0
+HasStages plan s kind w = (k : ℕ) → has_bit w k ≡ (nat_lt k plan.stages && is_allowed plan s (kind (k + 1)))
+
+-- the parts of the list of all moves
+abbrev pub all_entering : List Move
+all_entering = Issue guess.Next ∷ Issue guess.Taken ∷ Issue guess.Wait ∷ Emit ∷ []
+
+abbrev pub all_passing : Plan → List Move
+all_passing plan =
+    at_stages plan Climb ++ (at_stages plan Fall ++ (at_stages plan Meet
+    ++ (at_stages plan Execute ++ (at_stages plan Send ++ at_stages plan Launch))))
+
+abbrev pub all_leaving : Plan → List Move
+all_leaving plan = Access ∷ (at_stages plan Recover ++ Leave ∷ Exit ∷ Serve ∷ [])

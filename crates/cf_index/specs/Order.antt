@@ -1,0 +1,66 @@
+-- The order of all moves: by their kind, and within a kind by stage, or by siding and then cell.
+use Rattle.std.specs.Prelude.{ℕ, List, Option, Some, None, Bool, true, ◌&&◌, ◌||◌, position, nat_eq, nat_lt}
+use Rattle.cf_bind.specs.declared.passenger.Guess.{Guess}
+use Rattle.cf_bind.specs.declared.passenger.Guess.TheVariants.{Next, Taken, Wait, To}
+use Rattle.cf_bind.specs.declared.moves.Move.{Move}
+use Rattle.cf_bind.specs.declared.moves.Move.TheVariants.{Issue, Emit, Climb, Fall, Meet, Execute, Send, Launch, Slide, Access, Recover, Leave, Exit, Serve}
+use Rattle.cf_semantics.specs.Options.{on}
+
+-- the place of its kind among the kinds
+abbrev pub kind_place : Move → ℕ
+kind_place (Issue g) = 0
+kind_place Emit = 1
+kind_place (Climb i) = 2
+kind_place (Fall i) = 3
+kind_place (Meet i) = 4
+kind_place (Execute i) = 5
+kind_place (Send i) = 6
+kind_place (Launch i) = 7
+kind_place (Slide k c) = 8
+kind_place Access = 9
+kind_place (Recover i) = 10
+kind_place Leave = 11
+kind_place Exit = 12
+kind_place Serve = 13
+
+-- the place of a guess among the guesses
+abbrev pub guess_place : Guess → ℕ
+guess_place Next = 0
+guess_place Taken = 1
+guess_place Wait = 2
+guess_place (To t) = 3
+
+-- its place within its kind: that of its guess, its stage or its siding
+abbrev pub place : Move → ℕ
+place (Issue g) = guess_place g
+place (Climb i) = i
+place (Fall i) = i
+place (Meet i) = i
+place (Execute i) = i
+place (Send i) = i
+place (Launch i) = i
+place (Slide k c) = k
+place (Recover i) = i
+place _ = 0
+
+-- its place within its siding
+abbrev pub cell_place : Move → ℕ
+cell_place (Slide k c) = c
+cell_place _ = 0
+
+-- a is below b, or they are one and the rest decides
+abbrev pub below_or : ℕ → ℕ → Bool → Bool
+below_or a b rest = nat_lt a b || (nat_eq a b && rest)
+
+-- the second move stands behind the first
+abbrev pub stands_behind : Move → Move → Bool
+stands_behind a b = below_or (kind_place a) (kind_place b) (below_or (place a) (place b) (nat_lt (cell_place a) (cell_place b)))
+
+-- the move stands behind the last one, if there was one
+abbrev pub is_behind : Option Move → Move → Bool
+is_behind None mv = true
+is_behind (Some last) mv = stands_behind last mv
+
+-- the place in the list of the first move behind the last one, and the first of all where none stands there
+unfoldable pub first_behind : Option Move → List Move → ℕ
+first_behind last moves = on (position (is_behind last) moves) 0 (λ i. i)

@@ -1,0 +1,8 @@
+-- Words as sets of small numbers: bit k for number k.
+use Rattle.std.specs.Prelude.{ℕ, List, filter}
+use Rattle.cf_layout.specs.Words.{has_bit}
+use Rattle.cf_semantics.specs.Candidates.{counted_from}
+
+-- the numbers below n whose bit the word has, ascending
+unfoldable pub places : ℕ → ℕ → List ℕ
+places n w = filter (has_bit w) (counted_from 0 n)

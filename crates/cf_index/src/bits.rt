@@ -1,0 +1,64 @@
+//! Words as sets of small numbers: bit k for number k.
+
+ghost use Rattle.std.specs.Prelude.{◌≡◌, ℕ, ◌<◌, ◌≤◌, ◌&&◌, ◌||◌, nat_eq, Some, filter, length, nat_lt, slice_get};
+ghost use Rattle.cf_layout.specs.Words.{has_bit};
+ghost use Rattle.cf_index.specs.Places.{places};
+
+/// How many numbers the word has.
+#[inline(always)]
+#[tactic(auto, using(crate::proofs::Places::count_places, crate::proofs::Places::most_places))]
+pub(crate) fn count(word: u64) -> usize
+    ensures numbers { result ≡ length (places 64 word) }
+    ensures most { result ≤ 64 }
+{
+    word.count_ones() as usize
+}
+
+/// How many of its numbers are below k.
+#[inline(always)]
+#[tactic(auto, using(crate::proofs::Places::mask_some, crate::proofs::Places::counts_below, crate::proofs::Places::counts_all_below, crate::proofs::Places::most_below))]
+pub(crate) fn count_below(word: u64, k: u32) -> usize
+    ensures numbers { result ≡ length (filter (λ j. nat_lt j k) (places 64 word)) }
+    ensures most { result ≤ 64 }
+{
+    if k < 64 {
+        (word & ((1 << k) - 1)).count_ones() as usize
+    } else {
+        word.count_ones() as usize
+    }
+}
+
+/// The i-th of its numbers, counted from 0.
+#[inline(always)]
+#[tactic(auto, using(crate::proofs::Places::some_left, crate::proofs::Places::one_passed, crate::proofs::Places::next_place, crate::proofs::Places::next_within))]
+pub(crate) fn nth(word: u64, i: usize) -> u32
+    requires { i < length (places 64 word) }
+    ensures number { Some result ≡ slice_get (places 64 word) i }
+    ensures within { result < 64 }
+{
+    let mut rest = word;
+    for _passed in 0..i {
+        rest &= rest - 1;
+    }
+    rest.trailing_zeros()
+}
+
+/// The word of 32 bits with the number k, where it is set.
+#[inline(always)]
+#[tactic(auto, using(crate::proofs::Setting::with_bit_32))]
+pub(crate) fn with_stage(word: u32, k: u32, set: bool) -> u32
+    requires { k < 32 }
+    ensures { (i : ℕ) → has_bit result i ≡ ((nat_eq i k && set) || has_bit word i) }
+{
+    word | (set as u32) << k
+}
+
+/// The word of 64 bits with the number k, where it is set.
+#[inline(always)]
+#[tactic(auto, using(crate::proofs::Setting::with_bit_64))]
+pub(crate) fn with_slide(word: u64, k: u32, set: bool) -> u64
+    requires { k < 64 }
+    ensures { (i : ℕ) → has_bit result i ≡ ((nat_eq i k && set) || has_bit word i) }
+{
+    word | (set as u64) << k
+}

@@ -1,0 +1,63 @@
+//! The candidates that let something into the two pipes.
+
+ghost use Rattle.std.specs.Prelude.{◌≡◌, ◌<◌, ◌≤◌, Some, length, slice_get};
+ghost use Rattle.cf_semantics.specs.Candidates.{other_moves};
+ghost use Rattle.cf_index.specs.Listed.{entering_moves};
+
+use cf_bind::{Guess, Move};
+
+/// Issue by each guess but one with an address, and Emit.
+#[derive(Clone, Copy)]
+pub(crate) struct Entering {
+    pub(crate) next: bool,
+    pub(crate) taken: bool,
+    pub(crate) wait: bool,
+    pub(crate) emit: bool,
+}
+
+impl Entering {
+    /// How many there are.
+    #[inline(always)]
+    #[tactic(auto, unfolding(crate::specs::Listed::entering_moves))]
+    pub(crate) fn len(&self) -> usize
+        ensures count { result ≡ length (entering_moves self.now) }
+        ensures most { result ≤ 4 }
+    {
+        self.next as usize + self.taken as usize + self.wait as usize + self.emit as usize
+    }
+
+    /// The one of this place among them, counted from 0.
+    #[inline(always)]
+    #[tactic(auto, unfolding(crate::specs::Listed::entering_moves))]
+    pub(crate) fn get(&self, i: usize) -> Move
+        requires { i < length (entering_moves self.now) }
+        ensures { Some result ≡ slice_get (entering_moves self.now) i }
+    {
+        let taken = self.next as usize;
+        let wait = taken + self.taken as usize;
+        let emit = wait + self.wait as usize;
+        if i < taken {
+            Move::Issue(Guess::Next)
+        } else if i < wait {
+            Move::Issue(Guess::Taken)
+        } else if i < emit {
+            Move::Issue(Guess::Wait)
+        } else {
+            Move::Emit
+        }
+    }
+
+    /// Those that are no Issue.
+    #[inline(always)]
+    #[tactic(auto, unfolding(crate::specs::Listed::entering_moves))]
+    pub(crate) fn others(&self) -> Entering
+        ensures { entering_moves result ≡ other_moves (entering_moves self.now) }
+    {
+        Entering {
+            next: false,
+            taken: false,
+            wait: false,
+            emit: self.emit,
+        }
+    }
+}

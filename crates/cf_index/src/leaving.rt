@@ -1,0 +1,61 @@
+//! The candidates that take something out of the sidings and of the two pipes.
+
+ghost use Rattle.std.specs.Prelude.{◌≡◌, ◌<◌, ◌≤◌, Some, length, slice_get};
+ghost use Rattle.cf_index.specs.Listed.{leaving_moves};
+
+use crate::bits::{count, nth};
+use cf_bind::Move;
+
+/// Access, the stages where Recover can be made, with bit i - 1 for stage i, and Leave, Exit and Serve.
+#[derive(Clone, Copy)]
+pub(crate) struct Leaving {
+    pub(crate) access: bool,
+    pub(crate) recover: u32,
+    pub(crate) leave: bool,
+    pub(crate) exit: bool,
+    pub(crate) serve: bool,
+}
+
+impl Leaving {
+    /// How many there are.
+    #[inline(always)]
+    #[tactic(auto, using(crate::proofs::Parts::lengths), unfolding(crate::specs::Listed::leaving_moves))]
+    pub(crate) fn len(&self) -> usize
+        ensures count { result ≡ length (leaving_moves self.now) }
+        ensures most { result ≤ 68 }
+    {
+        self.access as usize
+            + count(self.recover as u64)
+            + self.leave as usize
+            + self.exit as usize
+            + self.serve as usize
+    }
+
+    /// The one of this place among them, counted from 0.
+    #[inline(always)]
+    #[tactic(auto, using(crate::proofs::Parts::lengths), unfolding(crate::specs::Listed::leaving_moves))]
+    pub(crate) fn get(&self, i: usize) -> Move
+        requires { i < length (leaving_moves self.now) }
+        ensures { Some result ≡ slice_get (leaving_moves self.now) i }
+    {
+        let accesses = self.access as usize;
+        if i < accesses {
+            return Move::Access;
+        }
+        let i = i - accesses;
+        let recovers = count(self.recover as u64);
+        if i < recovers {
+            return Move::Recover(nth(self.recover as u64, i) + 1);
+        }
+        let i = i - recovers;
+        let leaves = self.leave as usize;
+        if i < leaves {
+            return Move::Leave;
+        }
+        if i - leaves < self.exit as usize {
+            Move::Exit
+        } else {
+            Move::Serve
+        }
+    }
+}

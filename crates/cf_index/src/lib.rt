@@ -1,0 +1,12 @@
+//! The moves that are allowed, counted and picked by their place.
+#![tactic(auto)]
+
+mod bits;
+mod candidates;
+mod entering;
+mod fill;
+mod kind;
+mod leaving;
+mod passing;
+
+pub use candidates::Candidates;

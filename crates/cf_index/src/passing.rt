@@ -1,0 +1,69 @@
+//! The candidates in the stages of the two pipes.
+
+ghost use Rattle.std.specs.Prelude.{◌≡◌, ◌<◌, ◌≤◌, Some, length, slice_get};
+ghost use Rattle.cf_index.specs.Listed.{passing_moves};
+
+use crate::bits::{count, nth};
+use cf_bind::Move;
+
+/// For each kind of move from Climb to Launch the stages where it can be made: bit i - 1 for stage i.
+#[derive(Clone, Copy)]
+pub(crate) struct Passing {
+    pub(crate) climb: u32,
+    pub(crate) fall: u32,
+    pub(crate) meet: u32,
+    pub(crate) execute: u32,
+    pub(crate) send: u32,
+    pub(crate) launch: u32,
+}
+
+impl Passing {
+    /// How many there are.
+    #[inline(always)]
+    #[tactic(auto, using(crate::proofs::Parts::lengths), unfolding(crate::specs::Listed::passing_moves))]
+    pub(crate) fn len(&self) -> usize
+        ensures count { result ≡ length (passing_moves self.now) }
+        ensures most { result ≤ 384 }
+    {
+        count(self.climb as u64)
+            + count(self.fall as u64)
+            + count(self.meet as u64)
+            + count(self.execute as u64)
+            + count(self.send as u64)
+            + count(self.launch as u64)
+    }
+
+    /// The one of this place among them, counted from 0.
+    #[inline(always)]
+    #[tactic(auto, using(crate::proofs::Parts::lengths), unfolding(crate::specs::Listed::passing_moves))]
+    pub(crate) fn get(&self, i: usize) -> Move
+        requires { i < length (passing_moves self.now) }
+        ensures { Some result ≡ slice_get (passing_moves self.now) i }
+    {
+        let climbs = count(self.climb as u64);
+        if i < climbs {
+            return Move::Climb(nth(self.climb as u64, i) + 1);
+        }
+        let i = i - climbs;
+        let falls = count(self.fall as u64);
+        if i < falls {
+            return Move::Fall(nth(self.fall as u64, i) + 1);
+        }
+        let i = i - falls;
+        let meets = count(self.meet as u64);
+        if i < meets {
+            return Move::Meet(nth(self.meet as u64, i) + 1);
+        }
+        let i = i - meets;
+        let executes = count(self.execute as u64);
+        if i < executes {
+            return Move::Execute(nth(self.execute as u64, i) + 1);
+        }
+        let i = i - executes;
+        let sends = count(self.send as u64);
+        if i < sends {
+            return Move::Send(nth(self.send as u64, i) + 1);
+        }
+        Move::Launch(nth(self.launch as u64, i - sends) + 1)
+    }
+}
