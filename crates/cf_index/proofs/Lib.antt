@@ -4,3 +4,7 @@ pub mod Parts
 pub mod Held
 pub mod Setting
 pub mod Filled
+pub mod Passed
+pub mod PassedStages
+pub mod PassedEnds
+pub mod PassedAll

@@ -1,5 +1,6 @@
 -- The order of all moves: by their kind, and within a kind by stage, or by siding and then cell.
-use Rattle.std.specs.Prelude.{ℕ, List, Option, Some, None, Bool, true, ◌&&◌, ◌||◌, position, nat_eq, nat_lt}
+use Rattle.std.specs.Prelude.{ℕ, List, Option, Some, None, Bool, true, ◌&&◌, ◌||◌, not, position, nat_eq, nat_lt}
+use Rattle.std.specs.List.{prefix_len}
 use Rattle.cf_bind.specs.declared.passenger.Guess.{Guess}
 use Rattle.cf_bind.specs.declared.passenger.Guess.TheVariants.{Next, Taken, Wait, To}
 use Rattle.cf_bind.specs.declared.moves.Move.{Move}
@@ -60,6 +61,10 @@ stands_behind a b = below_or (kind_place a) (kind_place b) (below_or (place a) (
 abbrev pub is_behind : Option Move → Move → Bool
 is_behind None mv = true
 is_behind (Some last) mv = stands_behind last mv
+
+-- how many of the moves come before the first that stands behind the last one
+unfoldable pub passed : Move → List Move → ℕ
+passed last moves = prefix_len (λ mv. not (stands_behind last mv)) moves
 
 -- the place in the list of the first move behind the last one, and the first of all where none stands there
 unfoldable pub first_behind : Option Move → List Move → ℕ

@@ -17,7 +17,7 @@ pub(crate) fn count(word: u64) -> usize
 /// How many of its numbers are below k.
 #[inline(always)]
 #[tactic(auto, using(crate::proofs::Places::mask_some, crate::proofs::Places::counts_below, crate::proofs::Places::counts_all_below, crate::proofs::Places::most_below))]
-pub(crate) fn count_below(word: u64, k: u32) -> usize
+pub(crate) fn count_below(word: u64, k: usize) -> usize
     ensures numbers { result ≡ length (filter (λ j. nat_lt j k) (places 64 word)) }
     ensures most { result ≤ 64 }
 {

@@ -3,6 +3,7 @@
 ghost use Rattle.std.specs.Prelude.{◌≡◌, ◌<◌, ◌≤◌, Some, length, slice_get};
 ghost use Rattle.cf_semantics.specs.Candidates.{other_moves};
 ghost use Rattle.cf_index.specs.Listed.{entering_moves};
+ghost use Rattle.cf_index.specs.Order.{passed};
 
 use cf_bind::{Guess, Move};
 
@@ -58,6 +59,35 @@ impl Entering {
             taken: false,
             wait: false,
             emit: self.emit,
+        }
+    }
+
+    /// How many come before the first that stands behind the move in the order of all moves.
+    #[inline(always)]
+    #[tactic(auto, unfolding(crate::specs::Listed::entering_moves, crate::specs::Order::passed))]
+    pub(crate) fn passed(&self, last: Move) -> usize
+        ensures count { result ≡ passed last (entering_moves self.now) }
+        ensures most { result ≤ 4 }
+    {
+        match last {
+            Move::Issue(Guess::Next) => self.next as usize,
+            Move::Issue(Guess::Taken) => self.next as usize + self.taken as usize,
+            Move::Issue(Guess::Wait) | Move::Issue(Guess::To(_)) => {
+                self.next as usize + self.taken as usize + self.wait as usize
+            }
+            Move::Emit
+            | Move::Climb(_)
+            | Move::Fall(_)
+            | Move::Meet(_)
+            | Move::Execute(_)
+            | Move::Send(_)
+            | Move::Launch(_)
+            | Move::Slide(_, _)
+            | Move::Access
+            | Move::Recover(_)
+            | Move::Leave
+            | Move::Exit
+            | Move::Serve => self.len(),
         }
     }
 }

@@ -2,8 +2,9 @@
 
 ghost use Rattle.std.specs.Prelude.{◌≡◌, ◌<◌, ◌≤◌, Some, length, slice_get};
 ghost use Rattle.cf_index.specs.Listed.{leaving_moves};
+ghost use Rattle.cf_index.specs.Order.{passed};
 
-use crate::bits::{count, nth};
+use crate::bits::{count, count_below, nth};
 use cf_bind::Move;
 
 /// Access, the stages where Recover can be made, with bit i - 1 for stage i, and Leave, Exit and Serve.
@@ -56,6 +57,33 @@ impl Leaving {
             Move::Exit
         } else {
             Move::Serve
+        }
+    }
+
+    /// How many come before the first that stands behind the move in the order of all moves.
+    #[inline(always)]
+    #[tactic(auto, using(crate::proofs::PassedEnds::leaving))]
+    pub(crate) fn passed(&self, last: Move) -> usize
+        ensures count { result ≡ passed last (leaving_moves self.now) }
+        ensures most { result ≤ 68 }
+    {
+        let accesses = self.access as usize;
+        let recovers = accesses + count(self.recover as u64);
+        match last {
+            Move::Issue(_)
+            | Move::Emit
+            | Move::Climb(_)
+            | Move::Fall(_)
+            | Move::Meet(_)
+            | Move::Execute(_)
+            | Move::Send(_)
+            | Move::Launch(_)
+            | Move::Slide(_, _) => 0,
+            Move::Access => accesses,
+            Move::Recover(i) => accesses + count_below(self.recover as u64, i as usize),
+            Move::Leave => recovers + self.leave as usize,
+            Move::Exit => recovers + self.leave as usize + self.exit as usize,
+            Move::Serve => self.len(),
         }
     }
 }

@@ -1,6 +1,7 @@
 //! The moves that are allowed, counted and picked by their place.
 #![tactic(auto)]
 
+mod behind;
 mod bits;
 mod candidates;
 mod entering;

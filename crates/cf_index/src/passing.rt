@@ -2,8 +2,9 @@
 
 ghost use Rattle.std.specs.Prelude.{◌≡◌, ◌<◌, ◌≤◌, Some, length, slice_get};
 ghost use Rattle.cf_index.specs.Listed.{passing_moves};
+ghost use Rattle.cf_index.specs.Order.{passed};
 
-use crate::bits::{count, nth};
+use crate::bits::{count, count_below, nth};
 use cf_bind::Move;
 
 /// For each kind of move from Climb to Launch the stages where it can be made: bit i - 1 for stage i.
@@ -65,5 +66,34 @@ impl Passing {
             return Move::Send(nth(self.send as u64, i) + 1);
         }
         Move::Launch(nth(self.launch as u64, i - sends) + 1)
+    }
+
+    /// How many come before the first that stands behind the move in the order of all moves.
+    #[inline(always)]
+    #[tactic(auto, using(crate::proofs::PassedStages::passing))]
+    pub(crate) fn passed(&self, last: Move) -> usize
+        ensures count { result ≡ passed last (passing_moves self.now) }
+        ensures most { result ≤ 384 }
+    {
+        let climbs = count(self.climb as u64);
+        let falls = climbs + count(self.fall as u64);
+        let meets = falls + count(self.meet as u64);
+        let executes = meets + count(self.execute as u64);
+        let sends = executes + count(self.send as u64);
+        match last {
+            Move::Issue(_) | Move::Emit => 0,
+            Move::Climb(i) => count_below(self.climb as u64, i as usize),
+            Move::Fall(i) => climbs + count_below(self.fall as u64, i as usize),
+            Move::Meet(i) => falls + count_below(self.meet as u64, i as usize),
+            Move::Execute(i) => meets + count_below(self.execute as u64, i as usize),
+            Move::Send(i) => executes + count_below(self.send as u64, i as usize),
+            Move::Launch(i) => sends + count_below(self.launch as u64, i as usize),
+            Move::Slide(_, _)
+            | Move::Access
+            | Move::Recover(_)
+            | Move::Leave
+            | Move::Exit
+            | Move::Serve => self.len(),
+        }
     }
 }

@@ -1,0 +1,26 @@
+-- The hold rule with a count that stops where Issue is held back: it answers as the whole count does.
+use Rattle.std.specs.Prelude.{◌≡◌, ℕ, ◌*◌, min, Bool, nat_le}
+use Rattle.cf_bind.specs.declared.moves.Move.{Move}
+use Rattle.cf_semantics.specs.declared.event.Event.{Event}
+use Rattle.cf_semantics.specs.Holding.{paced}
+
+-- how many stages there are, and the count, which stops at twice as many
+pub record Count : Type 0 where
+  pub stages : ℕ
+  pub count : ℕ
+
+-- the count that stops
+abbrev pub stopped : ℕ → ℕ → ℕ
+stopped stages count = min count (2 * stages)
+
+-- this many Issue moves were counted, beside so many stages
+abbrev pub HasCounted : ℕ → ℕ → Count → Type 0
+HasCounted stages count c = (c.stages ≡ stages) × (c.count ≡ stopped stages count)
+
+-- Issue is held back
+abbrev pub holds : Count → Bool
+holds c = nat_le (2 * c.stages) c.count
+
+-- the count after one more move
+abbrev pub saw : Count → Move → Event → Bool → Count
+saw c mv e drained = record c { count = stopped c.stages (paced c.count mv e drained) }

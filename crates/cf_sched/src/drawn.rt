@@ -1,0 +1,47 @@
+//! The policy that draws lots.
+
+ghost use Rattle.std.specs.Prelude.{◌≡◌, ◌<◌, length};
+ghost use Rattle.cf_sched.specs.Policies.{drawn, drawn_on, drawn_pick};
+
+use crate::policy::Policy;
+use cf_index::Candidates;
+use rand_core::utils::NextWord;
+use rand_pcg::Lcg64Xsh32;
+use std::marker::Model;
+
+/// Picks by the next 32-bit word of a PCG generator, modulo the number of candidates. It is seen as the generator.
+#[derive(Drop)]
+pub struct Drawn {
+    generator: Lcg64Xsh32,
+}
+
+impl Model for Drawn {
+    ghost use Rattle.rand_pcg.specs.Lcg.{Lcg};
+
+    ghost Value = { Lcg };
+
+    ghost view = { λ d. d.generator };
+}
+
+impl Drawn {
+    /// The generator begins with the seed, in stream 1.
+    pub fn new(seed: u32) -> Drawn
+        ensures { result ≡ drawn seed }
+    {
+        Drawn {
+            generator: Lcg64Xsh32::new(seed as u64, 1),
+        }
+    }
+}
+
+impl Policy for Drawn {
+    ghost picked = { drawn_pick };
+
+    ghost onward = { λ g moves. drawn_on g };
+
+    #[inline(always)]
+    fn pick(&mut self, candidates: &Candidates) -> usize {
+        let word = self.generator.next_word();
+        word as usize % candidates.len()
+    }
+}

@@ -1,0 +1,75 @@
+//! The rule by which Issue is held back.
+
+ghost use Rattle.std.specs.Prelude.{◌≡◌, ℕ};
+ghost use Rattle.cf_semantics.specs.Holding.{is_retirement};
+ghost use Rattle.cf_semantics.specs.Weight.{is_issue};
+ghost use Rattle.cf_sched.specs.Paces.{HasCounted, holds, saw};
+
+use cf_bind::Move;
+use cf_semantics::Event;
+use std::marker::Model;
+
+/// Counts the Issue moves since the start, the last retirement, or the last drained state, whichever is latest. From twice
+/// as many as there are stages on, Issue is held back. The count stops there, so that it never overflows.
+#[derive(Drop)]
+pub struct Pace {
+    stages: u32,
+    count: u64,
+}
+
+impl Model for Pace {
+    ghost use Rattle.std.specs.Prelude.{◌≤◌, ◌*◌};
+    ghost use Rattle.cf_sched.specs.Paces.{Count};
+
+    ghost Value = { Count };
+
+    ghost view = { λ p. record { stages = p.stages; count = p.count } };
+
+    ghost invariant = { λ p. p.count ≤ 2 * p.stages };
+}
+
+/// Whether an instruction retired.
+#[inline(always)]
+fn is_retirement(event: &Event) -> bool
+    ensures { result ≡ is_retirement event.now }
+{
+    matches!(event, Event::Retired(_))
+}
+
+/// Whether it is an Issue.
+#[inline(always)]
+fn is_issue(mv: Move) -> bool
+    ensures { result ≡ is_issue mv }
+{
+    matches!(mv, Move::Issue(_))
+}
+
+impl Pace {
+    /// No Issue was counted yet.
+    pub fn new(stages: u32) -> Pace
+        ensures { HasCounted stages 0 result }
+    {
+        Pace { stages, count: 0 }
+    }
+
+    /// Whether Issue is held back.
+    #[inline(always)]
+    pub fn held(&self) -> bool
+        ensures { result ≡ holds self.now }
+    {
+        2 * self.stages as u64 <= self.count
+    }
+
+    /// Takes note of a move: what it tells of itself, and whether the state after it is drained.
+    #[inline(always)]
+    #[tactic(auto, unfolding(cf_semantics::specs::Holding::paced))]
+    pub fn saw(&mut self, mv: Move, event: &Event, drained: bool)
+        ensures { self.new ≡ saw self.old mv event.now drained }
+    {
+        if is_retirement(event) || drained {
+            self.count = 0;
+        } else if is_issue(mv) && self.count < 2 * self.stages as u64 {
+            self.count += 1;
+        }
+    }
+}

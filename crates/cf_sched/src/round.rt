@@ -1,0 +1,47 @@
+//! The policy that takes the candidates in turn.
+
+ghost use Rattle.std.specs.Prelude.{◌≡◌, ◌<◌, None, length};
+ghost use Rattle.cf_sched.specs.Policies.{round_on, round_pick};
+
+use crate::policy::Policy;
+use cf_bind::Move;
+use cf_index::Candidates;
+use std::marker::Model;
+
+/// Picks the first candidate behind the last one that it picked in the order of all moves, or the first of all where none
+/// stands there or nothing was picked yet. It is seen as the last one that it picked.
+#[derive(Drop)]
+pub struct Round {
+    last: Option<Move>,
+}
+
+impl Model for Round {
+    ghost use Rattle.std.specs.Prelude.{Option};
+    ghost use Rattle.cf_bind.specs.declared.moves.Move.{Move};
+
+    ghost Value = { Option Move };
+
+    ghost view = { λ r. r.last };
+}
+
+impl Round {
+    /// Nothing was picked yet.
+    pub fn new() -> Round
+        ensures { result ≡ None }
+    {
+        Round { last: None }
+    }
+}
+
+impl Policy for Round {
+    ghost picked = { round_pick };
+
+    ghost onward = { round_on };
+
+    #[inline(always)]
+    fn pick(&mut self, candidates: &Candidates) -> usize {
+        let place = candidates.first_behind(self.last);
+        self.last = Some(candidates.pick(place));
+        place
+    }
+}
