@@ -12,4 +12,6 @@ pub mod ByScript
 pub mod Picking
 pub mod Bounds
 pub mod ByPolicy
+pub mod Stopped
+pub mod Coming
 pub mod Headline

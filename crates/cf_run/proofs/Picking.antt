@@ -1,16 +1,13 @@
 -- The picks of a policy are a run under the hold rule: each is allowed, and while the candidates are held none is an Issue unless no other move is allowed.
-use Rattle.std.proofs.Common.{◌≡◌, ℕ, List, [], ◌∷◌, ◌++◌, Option, Some, None, true, refl, sym, ap, subst, ◌∙◌, length}
-use Rattle.std.specs.Prelude.{slice_get}
+use Rattle.std.proofs.Common.{◌≡◌, ℕ, List, [], ◌∷◌, ◌++◌, Option, Some, true, refl, sym, subst}
 use Rattle.rv_machine.specs.Machine.{Machine}
 use Rattle.cf_layout.specs.Accepted.{IsAccepted}
 use Rattle.cf_layout.specs.Layout.{Plan}
 use Rattle.cf_bind.specs.declared.moves.Move.{Move}
-use Rattle.cf_semantics.specs.Bars.{bar}
 use Rattle.cf_semantics.specs.Drained.{IsStuck, is_drained}
 use Rattle.cf_semantics.specs.Holding.{is_held, paced}
 use Rattle.cf_semantics.specs.Lines.{Line, retires}
 use Rattle.cf_semantics.specs.Moves.{next}
-use Rattle.cf_semantics.specs.Runs.{start as start_on}
 use Rattle.cf_semantics.specs.State.{State, Moment}
 use Rattle.cf_semantics.specs.Weight.{is_issue}
 use Rattle.cf_refinement.proofs.Accepted.{accepted_suits}
@@ -21,7 +18,7 @@ use Rattle.cf_untold.specs.Paced.{PacesTo}
 use Rattle.cf_untold.proofs.Offered.{anew_shape, offered_held}
 use Rattle.cf_untold.proofs.Theorems.{anew_kept}
 use Rattle.cf_run.specs.Made.{Made, moves_of}
-use Rattle.cf_run.specs.Going.{IsMade, Leads}
+use Rattle.cf_run.specs.Going.{Leads}
 use Rattle.cf_run.specs.Policies.{Chooser, choice, behind_choice, offered_to, Picks}
 
 -- one pick more

@@ -72,6 +72,10 @@ reached-none limit show start none =
       report = writes-nothing start.report;
     }
 
+pub none-trace : (limit : ℕ) (show : Show) (start : Place) (none : start.tally ≡ no_tally) → (reached-none limit show start none).trace ≡ []
+unfolding reached-none
+none-trace limit show start none = refl
+
 pub followed-none : (limit : ℕ) (show : Show) (start : Stand) → start.place.tally ≡ no_tally → Follows limit show start start
 unfolding reached-none
 followed-none limit show start none = record { reaches = reached-none limit show start.place none; moves = refl; script = refl }

@@ -1,5 +1,5 @@
 -- What the run of a policy does: the moves that it picks from what it is offered, why it stops behind them, and what it leaves ("Counterflow Pipeline Processor Architecture", 1994: any schedule of local actions is a run).
-use Rattle.std.specs.Prelude.{◌≡◌, ◌⊎◌, ℕ, ◌+◌, ◌*◌, List, [], ◌∷◌, ◌++◌, slice_get, Option, Some, Ok, Err}
+use Rattle.std.specs.Prelude.{◌≡◌, ◌⊎◌, ℕ, ◌+◌, ◌*◌, List, [], ◌∷◌, ◌++◌, slice_get, Option, Some, None, Result, Ok, Err}
 use Rattle.rv_machine.specs.Hart.{Hart}
 use Rattle.cf_layout.specs.Layout.{Plan}
 use Rattle.cf_bind.specs.declared.moves.Move.{Move}
@@ -10,6 +10,7 @@ use Rattle.cf_semantics.specs.State.{State}
 use Rattle.cf_semantics.specs.Weight.{moves_per_issue}
 use Rattle.cf_core.specs.Asking.{AsksInput, AsksOutput}
 use Rattle.cf_core.specs.Processors.{Processor, opened}
+use Rattle.cf_sched.specs.Paces.{stopped}
 use Rattle.cf_run.specs.declared.answer.Ran.{Ran as Answer}
 use Rattle.cf_run.specs.declared.answer.Ran.TheVariants as ran
 use Rattle.cf_run.specs.declared.answer.Scripted.TheVariants.{Ran}
@@ -30,9 +31,13 @@ pub record Chooser (P : Type 0) : Type 0 where
   pub policy : P
   pub count : ℕ
 
+-- the policy with so many counted
+abbrev pub chooser : {P : Type 0} → P → ℕ → Chooser P
+chooser policy count = record { policy = policy; count = count }
+
 -- a policy before its first pick
 abbrev pub fresh : {P : Type 0} → P → Chooser P
-fresh policy = record { policy = policy; count = 0 }
+fresh policy = chooser policy 0
 
 -- what it is offered in a state
 abbrev pub offered_to : {P : Type 0} → Plan → Chooser P → State → List Move
@@ -56,14 +61,13 @@ Picks picked onward plan at s (made ∷ trace) last =
     (choice picked plan at s ≡ Some made.move)
     × Picks picked onward plan (behind_choice onward plan at s made) made.state trace last
 
--- one turn of the run: the policy picks a move, and it is made
-pub record Takes {P : Type 0} (picked : P → List Move → ℕ) (onward : P → List Move → P) (limit : ℕ) (show : Show) (at : Chooser P) (now new : Place) (later : Chooser P) : Type 0 where
+-- the run goes on to the move that the policy picks, and it is made
+pub record Takes {P : Type 0} (picked : P → List Move → ℕ) (limit : ℕ) (show : Show) (at : Chooser P) (now new : Place) : Type 0 where
   pub goes : GoesOn limit now.core.state
   pub move : Move
   pub choice_is : choice picked now.core.plan at now.core.state ≡ Some move
   pub event : Event
   pub does : Does show move now new (Ok event)
-  pub later_is : later ≡ behind_choice onward now.core.plan at now.core.state (record { move = move; event = event; state = new.core.state })
 
 -- the run goes on to the move that the policy picks, which stops it with this answer
 pub record Chooses {P : Type 0} (picked : P → List Move → ℕ) (onward : P → List Move → P) (limit : ℕ) (show : Show) (at : Chooser P) (now new : Place) (later : P) (answer : Answer) : Type 0 where
@@ -81,6 +85,17 @@ StopsPolicy picked onward limit show at now new later ran.Limit = IsOver limit n
 StopsPolicy picked onward limit show at now new later ran.ReadFault = Chooses picked onward limit show at now new later ran.ReadFault
 StopsPolicy picked onward limit show at now new later ran.WriteFault = Chooses picked onward limit show at now new later ran.WriteFault
 StopsPolicy picked onward limit show at now new later ran.ReportFault = Chooses picked onward limit show at now new later ran.ReportFault
+
+-- one turn of the run, by a pace that counts up to where the candidates are held: the policy picks a move and it is made
+pub record Turned {P : Type 0} (picked : P → List Move → ℕ) (onward : P → List Move → P) (limit : ℕ) (show : Show) (now new : Place) (at later : Chooser P) : Type 0 where
+  pub takes : Takes picked limit show at now new
+  pub policy_is : later.policy ≡ onward at.policy (offered_to now.core.plan at now.core.state)
+  pub count_is : later.count ≡ stopped now.core.plan.stages (paced at.count takes.move takes.event (is_drained new.core.state))
+
+-- or the run stops
+abbrev pub PolicyTurns : {P : Type 0} → (picked : P → List Move → ℕ) → (onward : P → List Move → P) → ℕ → Show → (now new : Place) → (at later : Chooser P) → Option Answer → Type 0
+PolicyTurns picked onward limit show now new at later None = Turned picked onward limit show now new at later
+PolicyTurns picked onward limit show now new at later (Some answer) = StopsPolicy picked onward limit show at now new later.policy answer
 
 -- the last move, where the report failed behind it
 abbrev pub made_last : {P : Type 0} → (picked : P → List Move → ℕ) → (onward : P → List Move → P) → (limit : ℕ) → (show : Show) → (at : Chooser P) → (now new : Place) → (later : P) → (answer : Answer) → StopsPolicy picked onward limit show at now new later answer → List Move
@@ -105,6 +120,21 @@ pub record RunsRight {P : Type 0} (picked : P → List Move → ℕ) (onward : P
   pub moves : List Move
   pub runs : RunsPolicy picked onward limit show start new policy later moves answer
   pub sequential : RunsSequentially show moves start new (Ran answer)
+
+-- an error where the input failed the run
+abbrev pub input_stopped : Option Answer → Result (Unit {0}) (Unit {0})
+input_stopped (Some ran.ReadFault) = Err tt
+input_stopped answer = Ok tt
+
+-- an error where the output did
+abbrev pub output_stopped : Option Answer → Result (Unit {0}) (Unit {0})
+output_stopped (Some ran.WriteFault) = Err tt
+output_stopped answer = Ok tt
+
+-- an error where the report did
+abbrev pub report_stopped : Option Answer → Result (Unit {0}) (Unit {0})
+report_stopped (Some ran.ReportFault) = Err tt
+report_stopped answer = Ok tt
 
 -- the most moves of a run under the hold rule in which so many instructions retire: 4 N K (r + 1)
 abbrev pub most_moves : Plan → ℕ → ℕ
