@@ -11,3 +11,6 @@ mod leaving;
 mod passing;
 
 pub use candidates::Candidates;
+
+#[cfg(test)]
+mod tests;

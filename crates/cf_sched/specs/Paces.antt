@@ -1,7 +1,10 @@
 -- The hold rule with a count that stops where Issue is held back: it answers as the whole count does.
-use Rattle.std.specs.Prelude.{◌≡◌, ℕ, ◌*◌, min, Bool, nat_le}
+use Rattle.std.specs.Prelude.{◌≡◌, ℕ, ◌*◌, List, min, Bool, nat_le, if◌then◌else◌}
+use Rattle.cf_layout.specs.Layout.{Plan}
 use Rattle.cf_bind.specs.declared.moves.Move.{Move}
 use Rattle.cf_semantics.specs.declared.event.Event.{Event}
+use Rattle.cf_semantics.specs.State.{State}
+use Rattle.cf_semantics.specs.Candidates.{candidates, held_back}
 use Rattle.cf_semantics.specs.Holding.{paced}
 
 -- how many stages there are, and the count, which stops at twice as many
@@ -24,3 +27,7 @@ holds c = nat_le (2 * c.stages) c.count
 -- the count after one more move
 abbrev pub saw : Count → Move → Event → Bool → Count
 saw c mv e drained = record c { count = stopped c.stages (paced c.count mv e drained) }
+
+-- what a policy is offered: the candidates, held back or not
+unfoldable pub offers : Count → Plan → State → List Move
+offers c plan s = if holds c then held_back (candidates plan s) else candidates plan s

@@ -1,6 +1,7 @@
 //! The policy that draws lots.
 
 ghost use Rattle.std.specs.Prelude.{◌≡◌, ◌<◌, length};
+ghost use Rattle.rand_pcg.specs.Pcg.{pcg32};
 ghost use Rattle.cf_sched.specs.Policies.{drawn, drawn_on, drawn_pick};
 
 use crate::policy::Policy;
@@ -32,6 +33,14 @@ impl Drawn {
             generator: Lcg64Xsh32::new(seed as u64, 1),
         }
     }
+
+    /// The generator's next word.
+    #[inline(always)]
+    pub(crate) fn draw(&mut self) -> u32
+        ensures { (result, self.new) ≡ pcg32 self.old }
+    {
+        self.generator.next_word()
+    }
 }
 
 impl Policy for Drawn {
@@ -41,7 +50,6 @@ impl Policy for Drawn {
 
     #[inline(always)]
     fn pick(&mut self, candidates: &Candidates) -> usize {
-        let word = self.generator.next_word();
-        word as usize % candidates.len()
+        self.draw() as usize % candidates.len()
     }
 }

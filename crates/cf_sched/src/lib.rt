@@ -2,6 +2,7 @@
 #![tactic(auto)]
 
 mod drawn;
+mod offer;
 mod pace;
 mod policy;
 mod round;
@@ -11,3 +12,6 @@ pub use drawn::Drawn;
 pub use pace::Pace;
 pub use policy::Policy;
 pub use round::Round;
+
+#[cfg(test)]
+mod tests;

@@ -1,7 +1,8 @@
 //! The rule by which Issue is held back.
 
 ghost use Rattle.std.specs.Prelude.{◌≡◌, ℕ};
-ghost use Rattle.cf_semantics.specs.Holding.{is_retirement};
+ghost use Rattle.cf_semantics.specs.Holding.{is_held, is_retirement, paced};
+ghost use Rattle.cf_layout.specs.Layout.{Plan};
 ghost use Rattle.cf_semantics.specs.Weight.{is_issue};
 ghost use Rattle.cf_sched.specs.Paces.{HasCounted, holds, saw};
 
@@ -55,7 +56,8 @@ impl Pace {
     /// Whether Issue is held back.
     #[inline(always)]
     pub fn held(&self) -> bool
-        ensures { result ≡ holds self.now }
+        ensures value { result ≡ holds self.now }
+        ensures held { (plan : Plan) (count : ℕ) → HasCounted plan.stages count self.now → result ≡ is_held plan count }
     {
         2 * self.stages as u64 <= self.count
     }
@@ -64,7 +66,8 @@ impl Pace {
     #[inline(always)]
     #[tactic(auto, unfolding(cf_semantics::specs::Holding::paced))]
     pub fn saw(&mut self, mv: Move, event: &Event, drained: bool)
-        ensures { self.new ≡ saw self.old mv event.now drained }
+        ensures value { self.new ≡ saw self.old mv event.now drained }
+        ensures counted { (stages count : ℕ) → HasCounted stages count self.old → HasCounted stages (paced count mv event.now drained) self.new }
     {
         if is_retirement(event) || drained {
             self.count = 0;

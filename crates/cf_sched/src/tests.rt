@@ -1,0 +1,108 @@
+//! Picks that were worked by hand, and words of the generator. The words are those of PCG XSH RR 64/32 (O'Neill, "PCG: a family
+//! of simple fast space-efficient statistically good algorithms for random number generation", 2014), worked out with whole
+//! numbers in Python by a program that gives the words of the paper's C demo, 0xa15c02b7 and so on, for state 42 and stream 54.
+use super::*;
+use cf_bind::{Guess, Move};
+use cf_core::{Core, Step};
+use cf_index::Candidates;
+use cf_io::{Empty, Nowhere};
+use cf_layout::plain;
+use cf_semantics::Event;
+use mem_regions::{Part, Regions};
+use rv_machine::Machine;
+use std::process::Abort;
+use std::test::Fail;
+
+/// Where the program stands: `addi x10, x0, 7` and `beq x0, x0, 0`.
+const BASE: u32 = 0x1_0000;
+
+const PROGRAM: [u8; 8] = [0x13, 0x05, 0x70, 0x00, 0x63, 0x00, 0x00, 0x00];
+
+/// The first words of the generator with a seed.
+fn words(seed: u32) -> [u32; 4] {
+    let mut drawn = Drawn::new(seed);
+    [drawn.draw(), drawn.draw(), drawn.draw(), drawn.draw()]
+}
+
+#[test]
+fn words_of_three_seeds(rt: HostRuntime) -> Result<(), Fail> {
+    assert_eq!(rt;
+        words(0),
+        [0x0f5d_eba9, 0x1842_96dd, 0x3576_43f4, 0xf8e8_4c31]
+    );
+    assert_eq!(rt;
+        words(1),
+        [0xc982_8f91, 0x1592_e274, 0xc026_2657, 0xa5c2_b6d3]
+    );
+    assert_eq!(rt;
+        words(u32::MAX),
+        [0x4e56_3271, 0x1235_970d, 0x0624_2b0c, 0x2f2d_a124]
+    );
+    Ok(())
+}
+
+/// A processor with the first instruction in stage 2: Issue by three guesses, Climb(2) and Execute(2) are allowed.
+fn core(rt: &(impl Abort + AllocGlobal)) -> Result<Core, Fail> {
+    let image = Part {
+        base: BASE,
+        start: 0,
+        len: 8,
+        size: 8,
+        write: true,
+        exec: true,
+    };
+    let memory = Regions::load(rt.alloc(), &PROGRAM, &[image])?;
+    let mut core = Core::new(rt.alloc(), plain(), Machine::new(memory, BASE))?;
+    for mv in [Move::Issue(Guess::Next), Move::Climb(1)] {
+        assert!(rt; core.retired() < 1000);
+        assert!(rt; matches!(core.step(mv, &mut Empty, &mut Nowhere), Step::Moved(_)));
+    }
+    Ok(core)
+}
+
+/// Six picks in turn from the same candidates.
+fn picks<P: Policy>(rt: &impl Abort, policy: &mut P, candidates: &Candidates) -> [usize; 6] {
+    let mut places = [0; 6];
+    for place in places.iter_mut() {
+        assert!(rt; !candidates.is_empty());
+        *place = policy.pick(candidates);
+    }
+    places
+}
+
+/// Round begins again behind the last; Drawn picks its words modulo 5.
+#[test]
+fn picks_from_five(rt: HostRuntime) -> Result<(), Fail> {
+    let core = core(&rt)?;
+    let mut candidates = Candidates::new(rt.alloc())?;
+    candidates.fill(&core);
+    assert_eq!(rt;
+        picks(&rt, &mut Round::new(), &candidates),
+        [0, 1, 2, 3, 4, 0]
+    );
+    assert_eq!(rt;
+        picks(&rt, &mut Drawn::new(0), &candidates),
+        [2, 1, 2, 0, 2, 2]
+    );
+    Ok(())
+}
+
+/// With two stages Issue is held back from the fourth Issue on.
+#[test]
+fn issue_is_held_back(rt: HostRuntime) -> Result<(), Fail> {
+    let core = core(&rt)?;
+    let mut candidates = Candidates::new(rt.alloc())?;
+    let mut pace = Pace::new(2);
+    for _ in 0..4 {
+        assert!(rt; !pace.held());
+        pace.offer(&core, &mut candidates);
+        assert!(rt; candidates.len() == 5);
+        pace.saw(Move::Issue(Guess::Next), &Event::Plain, false);
+    }
+    assert!(rt; pace.held());
+    pace.offer(&core, &mut candidates);
+    assert!(rt; candidates.len() == 2);
+    pace.saw(Move::Climb(2), &Event::Plain, true);
+    assert!(rt; !pace.held());
+    Ok(())
+}
