@@ -1,5 +1,5 @@
 -- The most cells of a siding, and the weight of the sidings, from one siding to the next.
-use Rattle.std.proofs.Common.{◌≡◌, ℕ, zero, suc, ◌+◌, ◌<◌, ◌≤◌, List, [], ◌∷◌, All, Option, length, map, drop, max, refl, ap, arith}
+use Rattle.std.proofs.Common.{◌≡◌, ℕ, zero, suc, ◌+◌, ◌<◌, ◌≤◌, List, [], ◌∷◌, All, Option, Some, length, map, drop, max, refl, sym, subst, ap, arith}
 use Rattle.std.specs.Prelude.{slice_get, unwrap_or, nat_lt}
 use Rattle.std.proofs.lemmas.Bool.Decides.{nat_tests}
 use Rattle.std.proofs.lemmas.List.Elements.{All-tail}
@@ -7,8 +7,9 @@ use Rattle.cf_layout.specs.Layout.{Plan, SidingPlan, no_siding, cells_of}
 use Rattle.cf_layout.specs.Accepted.{IsAccepted, IsSiding}
 use Rattle.cf_bind.specs.declared.cell.Op.{Op}
 use Rattle.cf_semantics.specs.Options.{on}
-use Rattle.cf_semantics.specs.State.{State}
-use Rattle.cf_semantics.specs.Weight.{larger, most_cells, siding_weight, sidings_weight}
+use Rattle.cf_bind.specs.declared.cell.Cell.{Cell}
+use Rattle.cf_semantics.specs.State.{State, cell_at}
+use Rattle.cf_semantics.specs.Weight.{cell_weight, cells_weight, larger, most_cells, siding_weight, sidings_weight}
 use Rattle.cf_sidings.specs.Sidings.{cells_in}
 use Rattle.cf_core.specs.Processors.{IsProcessor}
 use Rattle.cf_core.proofs.Berths.{length-siding}
@@ -76,3 +77,25 @@ pub few-ops : (plan : Plan) (s : State) (k : ℕ) (ops : List (Option Op)) → I
 few-ops plan s k ops h e = rw (e, length-siding plan s k h) (few-cells plan k h.accepted)
 
 pub ruleset weights = (weight-next, sidings-counted, few-cells, few-ops)
+
+-- the next stage joins those before it
+stage_next : (n d i : ℕ) (cells : List Cell) (k : ℕ) (c : Cell) → slice_get cells k ≡ Some c → cells_weight n d i (drop k cells) ≡ cell_weight n d i c + cells_weight n d (suc i) (drop (suc k) cells)
+stage_next n d i [] k c e = absurd (cc)
+stage_next n d i (x ∷ cells) zero c e = let g : x ≡ c = cc in rw g refl
+stage_next n d i (x ∷ cells) (suc k) c e = stage_next n d i cells k c e
+
+pub stage-next : (n d : ℕ) (cells : List Cell) (k : ℕ) (c : Cell) → Some c ≡ cell_at cells (k + 1) → cells_weight n d (1 + k) (drop k cells) ≡ cell_weight n d (k + 1) c + cells_weight n d (1 + (k + 1)) (drop (k + 1) cells)
+stage-next n d cells k c e =
+    let z : k + 1 ≡ suc k = omega arith in
+    let y : 1 + k ≡ suc k = omega arith in
+    let x : 1 + suc k ≡ suc (suc k) = omega arith in
+    rw (z, y, x) (stage_next n d (suc k) cells k c (sym (subst (λ (m : ℕ). Some c ≡ cell_at cells m) z e)))
+
+-- behind the last nothing is left
+pub stage-last : (n d i : ℕ) (cells : List Cell) (k : ℕ) → length cells ≤ k → cells_weight n d i (drop k cells) ≡ 0
+stage-last n d i [] zero h = refl
+stage-last n d i [] (suc k) h = refl
+stage-last n d i (c ∷ cells) zero h = absurd (omega arith)
+stage-last n d i (c ∷ cells) (suc k) h = stage-last n d i cells k (omega arith)
+
+pub ruleset stages = (stage-next, stage-last)

@@ -5,15 +5,8 @@ ghost use Rattle.cf_core.specs.Processors.{AreSame, AreSameEnds, IsProcessor};
 
 use crate::counterflow::Core;
 use crate::processor::Processor;
-use cf_bind::{Cell, End, Fetch, Op};
+use cf_bind::{End, Fetch, Op};
 use cf_ends::Ends;
-
-/// Whether the two lists have the same contents of stages in the same order.
-fn same_cells(cells: &[Cell], other: &[Cell]) -> bool
-    ensures { IsTrue result ↔ (cells.now ≡ other.now) }
-{
-    cells == other
-}
 
 /// Whether the two lists have the same operations in the same cells.
 fn same_ops(ops: &[Option<Op>], other: &[Option<Op>]) -> bool
@@ -88,7 +81,7 @@ impl Core {
     {
         let (own, other) = (&self.processor, &other.processor);
         own.layout.same(&other.layout)
-            && same_cells(own.stages.cells(), other.stages.cells())
+            && own.stages.same(&other.stages)
             && own.same_sidings(other)
             && own.same_ends(other)
             && own.memory.same(&other.memory)

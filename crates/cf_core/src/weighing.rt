@@ -7,6 +7,7 @@ ghost use Rattle.cf_core.specs.Processors.{IsProcessor};
 use crate::counterflow::Core;
 use crate::processor::Processor;
 use cf_bind::{Cell, Op, Passenger};
+use cf_stages::Stages;
 use rv_inst::{Class, class_of};
 
 /// The number where the test holds, else 0.
@@ -65,21 +66,21 @@ fn cell_weight(cell: &Cell, place: Place) -> u64
 
 /// The weight of what stands in the stages.
 #[inline(always)]
-fn cells_weight(list: &[Cell], cells: u64) -> u64
-    requires stages { length list.now ≤ 32 }
-    requires cells { cells ≤ 8 }
-    ensures weight { result ≡ weight_of_cells (length list.now) cells 1 list.now }
-    ensures most { result ≤ 512 * length list.now }
+#[tactic(auto, using(crate::proofs::Weights::stages))]
+fn cells_weight(stages: &Stages, cells: u64) -> u64
+    requires { cells ≤ 8 }
+    ensures weight { result ≡ weight_of_cells (length stages.now) cells 1 stages.now }
+    ensures most { result ≤ 16384 }
 {
-    let stages = list.len() as u64;
+    let count = stages.count();
     let mut weight = 0;
-    for (index, cell) in list.iter().enumerate() {
-        let stage = index as u64 + 1;
+    for index in 0..count {
+        let stage = index + 1;
         weight += cell_weight(
-            cell,
+            &stages.cell(stage),
             Place {
-                stage,
-                stages,
+                stage: u64::from(stage),
+                stages: u64::from(count),
                 cells,
             },
         );
@@ -159,7 +160,7 @@ impl Core {
         ensures { result ≡ weight self.now.plan self.now.state }
     {
         let processor = &self.processor;
-        let stages = cells_weight(processor.stages.cells(), processor.most_cells());
+        let stages = cells_weight(&processor.stages, processor.most_cells());
         let requests = (2 * u64::from(processor.layout.stages()) + 1)
             * u64::from(processor.ends.lane_len());
         stages + processor.sidings_weight() + requests

@@ -1,2 +1,10 @@
+pub mod Bits
 pub mod Cells
+pub mod Deciding
+pub mod Empty
+pub mod Kept
+pub mod Meetings
+pub mod Neighbours
 pub mod Order
+pub mod Parts
+pub mod Sameness

@@ -23,6 +23,10 @@ passenger_at cells i = on (cell_at cells i) None (λ c. c.passenger)
 abbrev pub packet_at : List Cell → ℕ → Option Packet
 packet_at cells i = on (cell_at cells i) None (λ c. c.packet)
 
+-- the two that stand there have met
+abbrev pub has_met_at : List Cell → ℕ → Bool
+has_met_at cells i = on (cell_at cells i) false (λ c. c.met)
+
 -- both are there, and have not met
 abbrev pub is_full_at : List Cell → ℕ → Bool
 is_full_at cells i = on (cell_at cells i) false is_full

@@ -1,2 +1,4 @@
 pub mod Changes
 pub mod Contents
+pub mod Parts
+pub mod Words

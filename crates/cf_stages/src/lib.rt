@@ -2,10 +2,14 @@
 #![tactic(auto)]
 
 mod changes;
+mod comparing;
 mod moving;
+mod places;
 mod stages;
 #[cfg(test)]
 mod tests;
+mod words;
 
 pub use cf_bind::Cell;
 pub use stages::Stages;
+pub use words::{has_bit, with_bit};

@@ -1,6 +1,7 @@
 -- What the operations answer decides for the lists of them.
 use Rattle.std.proofs.lemmas.Slice.Eq.{slice_eq-Decides}
-use Rattle.cf_core.proofs.Sameness.{option_decides, op_decides}
+use Rattle.cf_core.proofs.Sameness.{op_decides}
+use Rattle.cf_stages.proofs.Deciding.{option_decides}
 use Rattle.cf_core.proofs.same.same_ops.Goals as goal
 
 pub returns : goal.returns

@@ -5,6 +5,6 @@ use Rattle.cf_core.proofs.weighing.cells_weight.Given as goal
 -- what is counted and the stages that are left weigh what all weigh
 abbrev pub invariant-loop-index : goal.invariant-loop-index
 invariant-loop-index l = record {
-  whole : l.weight + cells_weight (length l.list) l.cells (1 + l.index) (drop l.index l.list) ≡ cells_weight (length l.list) l.cells 1 l.list;
+  whole : l.weight + cells_weight (length l.stages) l.cells (1 + l.index) (drop l.index l.stages) ≡ cells_weight (length l.stages) l.cells 1 l.stages;
   size : l.weight ≤ 512 * l.index;
 }

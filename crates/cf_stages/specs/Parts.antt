@@ -1,0 +1,33 @@
+-- The stages as two pipes side by side, and words of what stands where.
+use Rattle.std.specs.Prelude.{◌≡◌, ◌≤◌, ℕ, suc, Bool, List, [], ◌∷◌, Option, All, length}
+use Rattle.cf_bind.specs.declared.cell.Cell.{Cell}
+use Rattle.cf_bind.specs.declared.packet.Packet.{Packet}
+use Rattle.cf_bind.specs.declared.passenger.Passenger.{Passenger}
+use Rattle.cf_layout.specs.Words.{has_bit}
+use Rattle.cf_stages.specs.Changes.{IsCell}
+use Rattle.cf_stages.specs.Words.{passenger_word, packet_word, met_word}
+
+-- what stands in the stages from one on: the instruction and the result of each, which have met where the bit is set
+unfoldable pub cells_from : ℕ → List (Option Passenger) → List (Option Packet) → ℕ → List Cell
+cells_from k [] packets met = []
+cells_from k (p ∷ passengers) [] met = []
+cells_from k (p ∷ passengers) (q ∷ packets) met =
+    record { passenger = p; packet = q; met = has_bit met k } ∷ cells_from (suc k) passengers packets met
+
+-- what stands in all of them
+abbrev pub cells_of : List (Option Passenger) → List (Option Packet) → ℕ → List Cell
+cells_of passengers packets met = cells_from 0 passengers packets met
+
+-- two pipes of 2 to 32 stages, and the words of where an instruction is, where a result is, and where the two have met
+pub record AreParts (passengers : List (Option Passenger)) (packets : List (Option Packet)) (riding flying met : ℕ) : Type 0 where
+  pub pipes : length packets ≡ length passengers
+  pub least : 2 ≤ length passengers
+  pub most : length passengers ≤ 32
+  pub cells : All IsCell (cells_of passengers packets met)
+  pub passenger_bits : riding ≡ passenger_word (cells_of passengers packets met)
+  pub packet_bits : flying ≡ packet_word (cells_of passengers packets met)
+  pub met_bits : met ≡ met_word (cells_of passengers packets met)
+
+-- a stage with this in the place of the result, which has met the instruction that is there or has not
+abbrev pub with_place : Option Packet → Bool → Cell → Cell
+with_place q met c = record c { packet = q; met = met }
