@@ -1,5 +1,5 @@
 -- Where a run has come to, whatever its input tells; and where it has, over an input that tells what it has left.
-use Rattle.std.proofs.Common.{◌≡◌, ℕ, ◌+◌, List, [], Option, Some, refl, ap, subst, ◌∙◌, length, map, take}
+use Rattle.std.proofs.Common.{◌≡◌, ℕ, ◌+◌, List, [], Option, Some, ap, subst, ◌∙◌, refl, length}
 use Rattle.cf_io.specs.Puts.{Writes}
 use Rattle.rv_machine.specs.Hart.{Hart}
 use Rattle.rv_machine.specs.Machine.{Machine}
@@ -16,10 +16,10 @@ use Rattle.cf_core.specs.Processors.{Processor, in_state, opened}
 use Rattle.cf_run.specs.declared.show.Show.{Show}
 use Rattle.cf_run.specs.declared.show.Show.TheVariants as show
 use Rattle.cf_run.specs.Going.{moment_of, Leads}
-use Rattle.cf_run.specs.Headline.{machine_on, moves_made, moment_after, lines_after, IsRight, AreTexts}
-use Rattle.cf_run.specs.Made.{Made, moves_of, tally_of, all_shown}
+use Rattle.cf_run.specs.Headline.{machine_on, moment_after, lines_after, IsRight, AreTexts}
+use Rattle.cf_run.specs.Made.{Made, moves_of, all_shown}
 use Rattle.cf_run.specs.Moving.{Place}
-use Rattle.cf_run.specs.Scripts.{Stand, Reaches}
+use Rattle.cf_run.specs.Reaching.{Reaches}
 use Rattle.cf_run.proofs.Retirements.{shown-lines}
 use Rattle.cf_run.proofs.Runs.{leads-run}
 use Rattle.cf_run.proofs.Settling.{IsKept, kept-run, settles}
@@ -58,11 +58,6 @@ pub record ArrivesBy (shows : Show) (x : Machine) (moves : List Move) (begin now
   pub right : IsRight begin.core.plan x moves
   pub arrives : Arrives shows x (moment_after begin.core.plan x moves) (x.hart.retired + 1) (lines_after begin.core.plan x moves) begin now
 
--- the moves of the trace are those that were counted
-counted_moves : (begin : Stand) (now : Place) (trace : List Made) → now.tally ≡ tally_of trace → moves_of trace ≡ map (λ line. line.1) (take (length trace) begin.script.moves) → moves_of trace ≡ moves_made begin now
-unfolding tally_of
-counted_moves begin now trace tally moves = rw tally moves
-
 -- a run that leads to a moment has arrived there
 arrived : (limit : ℕ) (shows : Show) (hart : Hart) (rest left : List ℕ) (begin now : Place) (trace : List Made) (last : Moment) → IsAccepted begin.core.plan → length hart.regs ≡ 32 → begin.core ≡ opened begin.core.plan hart → begin.streams.input ≡ Some rest
     → IsTold begin.streams.input left → Leads begin.core.plan limit begin.streams.input (moment_of begin.core left) trace last → now.core ≡ in_state begin.core last.state → Leaves begin.streams now.streams last.rest last.output
@@ -88,9 +83,8 @@ arrived limit shows hart rest left begin now trace last accepted wide opens tell
       };
     }
 
--- so has the run of a script
-pub arrives-by : (limit : ℕ) (shows : Show) (hart : Hart) (rest : List ℕ) (begin now : Stand) → IsAccepted begin.place.core.plan → length hart.regs ≡ 32 → begin.place.core ≡ opened begin.place.core.plan hart → begin.place.streams.input ≡ Some rest → Reaches limit shows begin now
-    → ArrivesBy shows (machine_on hart rest) (moves_made begin now.place) begin.place now.place
+-- so has a run that has come to a place
+pub arrives-by : (limit : ℕ) (shows : Show) (hart : Hart) (rest : List ℕ) (begin now : Place) → IsAccepted begin.core.plan → length hart.regs ≡ 32 → begin.core ≡ opened begin.core.plan hart → begin.streams.input ≡ Some rest → (h : Reaches limit shows begin now)
+    → ArrivesBy shows (machine_on hart rest) (moves_of h.trace) begin now
 arrives-by limit shows hart rest begin now accepted wide opens tells h =
-    subst (λ (moves : List Move). ArrivesBy shows (machine_on hart rest) moves begin.place now.place) (counted_moves begin now.place h.trace h.tally h.moves)
-    (arrived limit shows hart rest h.rest begin.place now.place h.trace h.last accepted wide opens tells h.told h.leads h.core h.streams h.report)
+    arrived limit shows hart rest h.rest begin now h.trace h.last accepted wide opens tells h.told h.leads h.core h.streams h.report

@@ -1,4 +1,4 @@
--- The run of a script is one of the sequential machine on which its processor was opened, whatever stops it, and whether or not the input tells what it has left.
+-- A run is one of the sequential machine on which its processor was opened, whatever chose its moves and whatever stops it, and whether or not the input tells what it has left.
 use Rattle.std.proofs.Common.{◌≡◌, ℕ, ◌+◌, List, Option, Some, None, refl, sym, ap, subst, ◌∙◌, length}
 use Rattle.rv_machine.specs.Hart.{Hart}
 use Rattle.rv_machine.specs.Machine.{Machine}
@@ -7,40 +7,37 @@ use Rattle.cf_layout.specs.Layout.{Plan}
 use Rattle.cf_bind.specs.declared.moves.Move.{Move}
 use Rattle.cf_semantics.specs.Runs.{opened as opened_on}
 use Rattle.cf_core.specs.Processors.{Processor, opened}
-use Rattle.cf_report.specs.declared.tally.Tally.{Tally}
 use Rattle.cf_untold.proofs.Theorems.{refines_held}
 use Rattle.cf_run.specs.declared.answer.Scripted.{Scripted}
 use Rattle.cf_run.specs.declared.show.Show.{Show}
-use Rattle.cf_run.specs.Headline.{machine_on, moves_made, moment_after, lines_after, RunsAs, RunsAnew, RunsOver, RunsSequentially}
+use Rattle.cf_run.specs.Headline.{machine_on, moment_after, lines_after, RunsAs, RunsAnew, RunsOver, RunsSequentially}
 use Rattle.cf_run.specs.Moving.{Place}
-use Rattle.cf_run.specs.Scripts.{Stand, RunsScript}
+use Rattle.cf_run.specs.Made.{moves_of}
+use Rattle.cf_run.specs.Scripts.{Stand, RunsScript, first_moves}
 use Rattle.cf_run.proofs.Arrived.{ArrivesBy, arrives-by}
 use Rattle.cf_run.proofs.Settling.{settles}
-use Rattle.cf_run.proofs.Stopping.{IsStopped, ComesTo, comes-to}
+use Rattle.cf_run.proofs.ByScript.{comes-to}
+use Rattle.cf_run.proofs.Stopping.{IsStopped, ComesTo}
 use Rattle.cf_run.proofs.Untold.{ArrivesAnew, arrives-anew}
 
--- the moves that were made up to a place are those up to another with the same count
-same_moves : (shows : Show) (x : Machine) (begin : Stand) (now new : Place) (answer : Scripted) → new.tally ≡ now.tally → RunsAs shows x (moves_made begin now) begin.place new answer → RunsAs shows x (moves_made begin new) begin.place new answer
-same_moves shows x begin now new answer same h = subst (λ (tally : Tally). RunsAs shows x (moves_made begin (record now { tally = tally })) begin.place new answer) (sym same) h
-
--- a run of a script on an opened processor, over an input that tells
-run-told : (limit : ℕ) (shows : Show) (hart : Hart) (rest : List ℕ) (begin : Stand) (new : Place) (answer : Scripted) → IsAccepted begin.place.core.plan → length hart.regs ≡ 32 → begin.place.core ≡ opened begin.place.core.plan hart → begin.place.streams.input ≡ Some rest
-    → ComesTo limit shows begin new answer → RunsAs shows (machine_on hart rest) (moves_made begin new) begin.place new answer
-run-told limit shows hart rest begin new answer accepted wide opens tells c =
-    let plan : Plan = begin.place.core.plan in
+-- a run on an opened processor, over an input that tells
+run-told : (limit : ℕ) (shows : Show) (hart : Hart) (rest : List ℕ) (begin new : Place) (moves : List Move) (answer : Scripted) → IsAccepted begin.core.plan → length hart.regs ≡ 32 → begin.core ≡ opened begin.core.plan hart → begin.streams.input ≡ Some rest
+    → ComesTo limit shows begin moves new answer → RunsAs shows (machine_on hart rest) moves begin new answer
+run-told limit shows hart rest begin new moves answer accepted wide opens tells c =
+    let plan : Plan = begin.core.plan in
     let x : Machine = machine_on hart rest in
-    let moves : List Move = moves_made begin c.now.place in
-    let a : ArrivesBy shows x moves begin.place c.now.place = arrives-by limit shows hart rest begin c.now accepted wide opens tells c.reaches in
-    let h : IsStopped shows x (moment_after plan x moves) (hart.retired + 1) (lines_after plan x moves) begin.place new answer = c.stops x (moment_after plan x moves) (hart.retired + 1) (lines_after plan x moves) a.arrives in
-    same_moves shows x begin c.now.place new answer c.tally (record { right = a.right; stops = h.stops; report = h.report })
+    let made : List Move = moves_of c.reaches.trace in
+    let a : ArrivesBy shows x made begin c.now = arrives-by limit shows hart rest begin c.now accepted wide opens tells c.reaches in
+    let h : IsStopped shows x (moment_after plan x made) (hart.retired + 1) (lines_after plan x made) begin new answer = c.stops x (moment_after plan x made) (hart.retired + 1) (lines_after plan x made) a.arrives in
+    subst (λ (moves : List Move). RunsAs shows x moves begin new answer) c.moves_are (record { right = a.right; stops = h.stops; report = h.report })
 
 -- and over one that does not tell
-run-untold : (limit : ℕ) (shows : Show) (hart : Hart) (begin : Stand) (new : Place) (answer : Scripted) → IsAccepted begin.place.core.plan → length hart.regs ≡ 32 → begin.place.core ≡ opened begin.place.core.plan hart → begin.place.streams.input ≡ None
-    → ComesTo limit shows begin new answer → RunsAnew shows hart begin.place new answer
-run-untold limit shows hart begin new answer accepted wide opens none c =
-    let plan : Plan = begin.place.core.plan in
-    let a : ArrivesAnew shows hart begin.place c.now.place = arrives-anew limit shows hart begin c.now accepted wide opens none c.reaches in
-    let h : IsStopped shows a.at a.last (hart.retired + 1) a.written begin.place new answer = c.stops a.at a.last (hart.retired + 1) a.written a.arrives in
+run-untold : (limit : ℕ) (shows : Show) (hart : Hart) (begin new : Place) (moves : List Move) (answer : Scripted) → IsAccepted begin.core.plan → length hart.regs ≡ 32 → begin.core ≡ opened begin.core.plan hart → begin.streams.input ≡ None
+    → ComesTo limit shows begin moves new answer → RunsAnew shows hart begin new answer
+run-untold limit shows hart begin new moves answer accepted wide opens none c =
+    let plan : Plan = begin.core.plan in
+    let a : ArrivesAnew shows hart begin c.now = arrives-anew limit shows hart begin c.now accepted wide opens none c.reaches in
+    let h : IsStopped shows a.at a.last (hart.retired + 1) a.written begin new answer = c.stops a.at a.last (hart.retired + 1) a.written a.arrives in
     record {
       at = a.at;
       written = a.written;
@@ -63,20 +60,22 @@ opened_regs : (core : Processor) (plan : Plan) (hart : Hart) → core ≡ opened
 unfolding opened opened_on
 opened_regs core plan hart is = ap (λ (p : Processor). p.state.regs) is
 
--- the headline
-pub runs-sequentially : (limit : ℕ) (shows : Show) (begin new : Stand) (answer : Scripted) → IsAccepted begin.place.core.plan → length begin.place.core.state.regs ≡ 32 → RunsScript limit shows begin new answer → RunsSequentially shows begin new.place answer
-unfolding RunsSequentially
-runs-sequentially limit shows begin new answer accepted wide r plan hart opens = over begin.place.streams.input refl
+-- a run that came to some place is one of that machine
+runs_over : (limit : ℕ) (shows : Show) (hart : Hart) (begin new : Place) (moves : List Move) (answer : Scripted) → IsAccepted begin.core.plan → length hart.regs ≡ 32 → begin.core ≡ opened begin.core.plan hart
+    → ComesTo limit shows begin moves new answer → RunsOver begin.streams.input shows hart moves begin new answer
+runs_over limit shows hart begin new moves answer accepted wide opens c = over begin.streams.input refl
   where
-    is : begin.place.core ≡ opened begin.place.core.plan hart
-    is = opened_here begin.place.core plan hart opens
+    over : (told : Option (List ℕ)) → begin.streams.input ≡ told → RunsOver told shows hart moves begin new answer
+    over (Some rest) tells = run-told limit shows hart rest begin new moves answer accepted wide opens tells c
+    over None tells = run-untold limit shows hart begin new moves answer accepted wide opens tells c
 
-    regs : length hart.regs ≡ 32
-    regs = ap length (sym (opened_regs begin.place.core plan hart opens)) ∙ wide
+-- the headline
+pub comes_sequentially : (limit : ℕ) (shows : Show) (begin new : Place) (moves : List Move) (answer : Scripted) → IsAccepted begin.core.plan → length begin.core.state.regs ≡ 32 → ComesTo limit shows begin moves new answer → RunsSequentially shows moves begin new answer
+unfolding RunsSequentially
+comes_sequentially limit shows begin new moves answer accepted wide c plan hart opens =
+    runs_over limit shows hart begin new moves answer accepted (ap length (sym (opened_regs begin.core plan hart opens)) ∙ wide) (opened_here begin.core plan hart opens) c
 
-    comes : ComesTo limit shows begin new.place answer
-    comes = comes-to limit shows begin r.now new answer accepted r.reaches r.stops
-
-    over : (told : Option (List ℕ)) → begin.place.streams.input ≡ told → RunsOver told shows hart begin new.place answer
-    over (Some rest) tells = run-told limit shows hart rest begin new.place answer accepted regs is tells comes
-    over None tells = run-untold limit shows hart begin new.place answer accepted regs is tells comes
+-- of a script
+pub runs-sequentially : (limit : ℕ) (shows : Show) (begin new : Stand) (answer : Scripted) → IsAccepted begin.place.core.plan → length begin.place.core.state.regs ≡ 32 → RunsScript limit shows begin new answer → RunsSequentially shows (first_moves begin.script new.place.tally) begin.place new.place answer
+runs-sequentially limit shows begin new answer accepted wide r =
+    comes_sequentially limit shows begin.place new.place (first_moves begin.script new.place.tally) answer accepted wide (comes-to limit shows begin r.now new answer accepted r.follows r.stops)

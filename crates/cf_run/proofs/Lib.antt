@@ -8,4 +8,10 @@ pub mod Settling
 pub mod Arrived
 pub mod Untold
 pub mod Stopping
+pub mod ByScript
+pub mod Picking
+pub mod Bounds
+pub mod ByPolicy
+pub mod Stopped
+pub mod Coming
 pub mod Headline

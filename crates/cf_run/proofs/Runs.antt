@@ -22,8 +22,9 @@ use Rattle.cf_scripts.specs.declared.refusal.ScriptErr.{ScriptErr}
 use Rattle.cf_run.specs.declared.show.Show.{Show}
 use Rattle.cf_run.specs.Made.{Made, moves_of, is_meeting, is_killed, is_died, tally_of, raised_if, counted, shown, all_shown}
 use Rattle.cf_run.specs.Going.{moment_of, Finds, IsMade, Leads, RunsTo}
-use Rattle.cf_run.specs.Moving.{MakesOne, MakesAndShows, Does}
-use Rattle.cf_run.specs.Scripts.{Stand, no_tally, Reaches, Tries}
+use Rattle.cf_run.specs.Moving.{Place, MakesOne, MakesAndShows, Does}
+use Rattle.cf_run.specs.Reaching.{no_tally, Reaches}
+use Rattle.cf_run.specs.Scripts.{Stand, Follows, DoesLine, Tries}
 use Rattle.cf_report.proofs.Puttings.{writes-nothing, writes-again}
 use Rattle.cf_run.proofs.Behind.{next-behind, next-retired}
 
@@ -52,26 +53,32 @@ runs-to plan limit None m trace last h = tt
 runs-to plan limit (Some told) m trace last h = leads-run plan limit told m trace last h
 
 -- before the first move
-pub reached-none : (limit : ℕ) (show : Show) (start : Stand) → start.place.tally ≡ no_tally → Reaches limit show start start
+pub reached-none : (limit : ℕ) (show : Show) (start : Place) → start.tally ≡ no_tally → Reaches limit show start start
 unfolding Leads tally_of all_shown
 reached-none limit show start none =
-    let told : Option (List ℕ) = start.place.streams.input in
+    let told : Option (List ℕ) = start.streams.input in
     let rest : List ℕ = unwrap_or told [] in
-    let m : Moment = moment_of start.place.core rest in
+    let m : Moment = moment_of start.core rest in
     record {
       trace = [];
       rest = rest;
       told = rest-told told;
       last = m;
       leads = refl;
-      run = runs-to start.place.core.plan limit told m [] m refl;
+      run = runs-to start.core.plan limit told m [] m refl;
       core = refl;
-      streams = stays start.place.streams rest (rest-told told);
-      moves = refl;
-      script = refl;
+      streams = stays start.streams rest (rest-told told);
       tally = none;
-      report = writes-nothing start.place.report;
+      report = writes-nothing start.report;
     }
+
+pub none-trace : (limit : ℕ) (show : Show) (start : Place) (none : start.tally ≡ no_tally) → (reached-none limit show start none).trace ≡ []
+unfolding reached-none
+none-trace limit show start none = refl
+
+pub followed-none : (limit : ℕ) (show : Show) (start : Stand) → start.place.tally ≡ no_tally → Follows limit show start start
+unfolding reached-none
+followed-none limit show start none = record { reaches = reached-none limit show start.place none; moves = refl; script = refl }
 
 -- the input that the next move finds
 finds-rest : (told between : Option (List ℕ)) (left rest : List ℕ) → Becomes told between left → IsTold between rest → Finds told left rest
@@ -115,7 +122,7 @@ led start core new limit m last trace before between after mv e same leads strea
     }
 
 -- the moves of a longer list
-moves-more : (trace : List Made) (made : Made) → moves_of (trace ++ made ∷ []) ≡ moves_of trace ++ made.move ∷ []
+pub moves-more : (trace : List Made) (made : Made) → moves_of (trace ++ made ∷ []) ≡ moves_of trace ++ made.move ∷ []
 moves-more [] made = refl
 moves-more (first ∷ trace) made = ap (λ moves. first.move ∷ moves) (moves-more trace made)
 
@@ -167,43 +174,56 @@ unfolding tally_of
 moves-counted trace now new mv e same counts = rw (counts, same) (omega arith)
 
 -- one move more
-more : (limit : ℕ) (show : Show) (start now new : Stand) → Reaches limit show start now → (t : Tries limit show now new None) → MakesAndShows show t.move now.place new.place → Reaches limit show start new
-more limit show start now new h t d =
-    let o : MakesOne t.move now.place new.place = d.makes in
-    let made : Made = record { move = t.move; event = o.event; state = new.place.core.state } in
+pub reached-more : (limit : ℕ) (show : Show) (start now new : Place) (mv : Move) (e : Event) → Reaches limit show start now → now.core.state.retired < limit → MakesAndShows show mv e now new → Reaches limit show start new
+reached-more limit show start now new mv e h below d =
+    let o : MakesOne mv e now new = d.makes in
+    let made : Made = record { move = mv; event = e; state = new.core.state } in
     let trace : List Made = h.trace ++ made ∷ [] in
-    let l : Led start.place.core.plan limit start.place.streams.input (moment_of start.place.core h.rest) trace start.place.core new.place.core start.place.streams new.place.streams =
-    led start.place.core now.place.core new.place.core limit (moment_of start.place.core h.rest) h.last h.trace start.place.streams now.place.streams new.place.streams t.move o.event h.core h.leads h.streams t.goes.below o.allowed o.is_event o.makes in
-    let P : Told → Type 0 = λ told. next_of told ≡ Ok (Some (t.line, t.move)) in
-    let next : first_of (drop (length h.trace) start.script.moves) start.script.refused ≡ Ok (Some (t.line, t.move)) = subst P h.script t.next in
-    let size : length trace ≡ suc (length h.trace) = length-more h.trace made ∙ add-one (length h.trace) in
-    let plan : now.place.core.plan ≡ start.place.core.plan = ap (λ (p : Processor). p.plan) h.core in
-    let text : List ℕ = shown show start.place.core.plan new.place.tally.moves made in
-    let last : Writes now.place.report new.place.report text = subst (λ (p : Plan). Writes now.place.report new.place.report (shown show p new.place.tally.moves made)) plan d.report in
-    let number : new.place.tally.moves ≡ 1 + length h.trace = moves-counted h.trace now.place.tally new.place.tally t.move o.event h.tally o.tally in
+    let l : Led start.core.plan limit start.streams.input (moment_of start.core h.rest) trace start.core new.core start.streams new.streams =
+    led start.core now.core new.core limit (moment_of start.core h.rest) h.last h.trace start.streams now.streams new.streams mv e h.core h.leads h.streams below o.allowed o.is_event o.makes in
+    let plan : now.core.plan ≡ start.core.plan = ap (λ (p : Processor). p.plan) h.core in
+    let text : List ℕ = shown show start.core.plan new.tally.moves made in
+    let last : Writes now.report new.report text = subst (λ (p : Plan). Writes now.report new.report (shown show p new.tally.moves made)) plan d.report in
+    let number : new.tally.moves ≡ 1 + length h.trace = moves-counted h.trace now.tally new.tally mv e h.tally o.tally in
     record {
       trace = trace;
       rest = h.rest;
       told = h.told;
       last = l.last;
       leads = l.leads;
-      run = runs-to start.place.core.plan limit start.place.streams.input (moment_of start.place.core h.rest) trace l.last l.leads;
+      run = runs-to start.core.plan limit start.streams.input (moment_of start.core h.rest) trace l.last l.leads;
       core = l.core;
       streams = l.streams;
-      moves = moves-more h.trace made ∙ ap (λ moves. moves ++ t.move ∷ []) h.moves ∙ sym (taken-more start.script.moves start.script.refused (length h.trace) t.line t.move next) ∙ ap (λ (n : ℕ). map (λ (line : ℕ × Move). line.1) (take n start.script.moves)) (sym size);
-      script = t.script ∙ ap behind_next h.script ∙ ap (λ (moves : List (ℕ × Move)). record start.script { moves = moves }) (dropped-more start.script.moves (length h.trace) ∙ ap (λ (n : ℕ). drop n start.script.moves) (sym size));
-      tally = o.tally ∙ ap (λ (tally : Tally). counted tally t.move o.event) h.tally ∙ sym (tally-more h.trace made);
-      report = subst (Writes start.place.report new.place.report) (sym (shown-more show start.place.core.plan 1 new.place.tally.moves h.trace made number)) (writes-again start.place.report now.place.report new.place.report _ text h.report last);
+      tally = o.tally ∙ ap (λ (tally : Tally). counted tally mv e) h.tally ∙ sym (tally-more h.trace made);
+      report = subst (Writes start.report new.report) (sym (shown-more show start.core.plan 1 new.tally.moves h.trace made number)) (writes-again start.report now.report new.report _ text h.report last);
     }
 
-pub reached-more : (limit : ℕ) (show : Show) (start now new : Stand) → Reaches limit show start now → Tries limit show now new None → Reaches limit show start new
-unfolding Does
-reached-more limit show start now new h t = more limit show start now new h t t.does
+-- the moves that led here, and that one
+pub reached-trace : (limit : ℕ) (show : Show) (start now new : Place) (mv : Move) (e : Event) (h : Reaches limit show start now) (below : now.core.state.retired < limit) (d : MakesAndShows show mv e now new)
+    → (reached-more limit show start now new mv e h below d).trace ≡ h.trace ++ record { move = mv; event = e; state = new.core.state } ∷ []
+unfolding reached-more
+reached-trace limit show start now new mv e h below d = refl
+
+pub followed-more : (limit : ℕ) (show : Show) (start now new : Stand) → Follows limit show start now → Tries limit show now new None → Follows limit show start new
+unfolding DoesLine Does reached-more
+followed-more limit show start now new f t =
+    let h : Reaches limit show start.place now.place = f.reaches in
+    let e : Event = t.does.0 in
+    let d : MakesAndShows show t.move e now.place new.place = t.does.1 in
+    let made : Made = record { move = t.move; event = e; state = new.place.core.state } in
+    let P : Told → Type 0 = λ told. next_of told ≡ Ok (Some (t.line, t.move)) in
+    let next : first_of (drop (length h.trace) start.script.moves) start.script.refused ≡ Ok (Some (t.line, t.move)) = subst P f.script t.next in
+    let size : length (h.trace ++ made ∷ []) ≡ suc (length h.trace) = length-more h.trace made ∙ add-one (length h.trace) in
+    record {
+      reaches = reached-more limit show start.place now.place new.place t.move e h t.goes.below d;
+      moves = moves-more h.trace made ∙ ap (λ moves. moves ++ t.move ∷ []) f.moves ∙ sym (taken-more start.script.moves start.script.refused (length h.trace) t.line t.move next) ∙ ap (λ (n : ℕ). map (λ (line : ℕ × Move). line.1) (take n start.script.moves)) (sym size);
+      script = t.script ∙ ap behind_next f.script ∙ ap (λ (moves : List (ℕ × Move)). record start.script { moves = moves }) (dropped-more start.script.moves (length h.trace) ∙ ap (λ (n : ℕ). drop n start.script.moves) (sym size));
+    }
 
 -- the moves that led here, and that one
-pub reached-trace : (limit : ℕ) (show : Show) (start now new : Stand) (h : Reaches limit show start now) (t : Tries limit show now new None) → (made : Made) × (made.move ≡ t.move) × ((reached-more limit show start now new h t).trace ≡ h.trace ++ made ∷ [])
-unfolding Does more reached-more
-reached-trace limit show start now new h t = (record { move = t.move; event = t.does.makes.event; state = new.place.core.state }, refl, refl)
+pub followed-trace : (limit : ℕ) (show : Show) (start now new : Stand) (f : Follows limit show start now) (t : Tries limit show now new None) → (made : Made) × (made.move ≡ t.move) × ((followed-more limit show start now new f t).reaches.trace ≡ f.reaches.trace ++ made ∷ [])
+unfolding DoesLine Does followed-more reached-more
+followed-trace limit show start now new f t = (record { move = t.move; event = t.does.0; state = new.place.core.state }, refl, refl)
 
 -- no more instructions than the limit have retired
 retired-within : (limit : ℕ) (old new : Processor) (mv : Move) (before after : Streams) → old.state.retired < limit → Makes old new mv before after → new.state.retired ≤ limit
@@ -211,9 +231,12 @@ retired-within limit old new mv before after below makes =
     let m : Moment = record { state = old.state; rest = makes.rest; output = [] } in
     omega (arith, next-retired old.plan m mv, ap (λ (q : Moment). q.state.retired) makes.is)
 
+pub made-within : (limit : ℕ) (show : Show) (now new : Place) (mv : Move) (e : Event) → now.core.state.retired < limit → MakesAndShows show mv e now new → new.core.state.retired ≤ limit
+made-within limit show now new mv e below d = retired-within limit now.core new.core mv now.streams new.streams below d.makes.makes
+
 pub tried-within : (limit : ℕ) (show : Show) (now new : Stand) → Tries limit show now new None → new.place.core.state.retired ≤ limit
-unfolding Does
-tried-within limit show now new t = retired-within limit now.place.core new.place.core t.move now.place.streams new.place.streams t.goes.below t.does.makes.makes
+unfolding DoesLine Does
+tried-within limit show now new t = made-within limit show now.place new.place t.move t.does.0 t.goes.below t.does.1
 
 -- a script has one move less for each that is counted
 lengths : (moves : List (ℕ × Move)) (refused : Option ScriptErr) (line : ℕ) (mv : Move) → first_of moves refused ≡ Ok (Some (line, mv)) → length (drop 1 moves) + 1 ≡ length moves
@@ -224,11 +247,11 @@ pub tried-left : (limit : ℕ) (show : Show) (now new : Stand) → Tries limit s
 tried-left limit show now new t = rw t.script (lengths now.script.moves now.script.refused t.line t.move t.next)
 
 pub tried-counted : (limit : ℕ) (show : Show) (now new : Stand) → Tries limit show now new None → new.place.tally.moves ≡ now.place.tally.moves + 1
-unfolding Does
-tried-counted limit show now new t = ap (λ (tally : Tally). tally.moves) t.does.makes.tally
+unfolding DoesLine Does
+tried-counted limit show now new t = ap (λ (tally : Tally). tally.moves) t.does.1.makes.tally
 
 -- no count is greater than that of the moves
-pub counts-within : (limit : ℕ) (show : Show) (start now : Stand) → Reaches limit show start now → (now.place.tally.meets ≤ now.place.tally.moves) × (now.place.tally.kills ≤ now.place.tally.moves) × (now.place.tally.dead ≤ now.place.tally.moves)
+pub counts-within : (limit : ℕ) (show : Show) (start now : Place) → Reaches limit show start now → (now.tally.meets ≤ now.tally.moves) × (now.tally.kills ≤ now.tally.moves) × (now.tally.dead ≤ now.tally.moves)
 unfolding tally_of
 counts-within limit show start now h =
     rw h.tally (count_by-le-length (λ made. is_meeting made.move) h.trace, count_by-le-length (λ made. is_killed made.event) h.trace, count_by-le-length (λ made. is_died made.event) h.trace)

@@ -1,5 +1,5 @@
--- How a run of a script stops, at whatever moment it has come to.
-use Rattle.std.proofs.Common.{◌≡◌, ℕ, List, ◌++◌, Option, Some, None, true, arith, refl, sym, ap, subst, ◌∙◌, take, append_assoc}
+-- How a run stops, at whatever moment it has come to.
+use Rattle.std.proofs.Common.{◌≡◌, ℕ, ◌<◌, List, [], ◌∷◌, ◌++◌, Option, Some, None, Err, true, arith, refl, sym, ap, subst, ◌∙◌, take, append_assoc}
 use Rattle.std.proofs.lemmas.List.{append_cancel_left}
 use Rattle.cf_io.specs.Puts.{Writes, WritesFront}
 use Rattle.rv_machine.specs.Machine.{Machine}
@@ -7,6 +7,7 @@ use Rattle.rv_machine.specs.Streams.{Streams, Leaves}
 use Rattle.cf_layout.specs.Accepted.{IsAccepted}
 use Rattle.cf_bind.specs.declared.moves.Move.{Move}
 use Rattle.cf_bind.specs.declared.moves.Move.TheVariants.{Serve}
+use Rattle.cf_semantics.specs.declared.event.Event.{Event}
 use Rattle.cf_semantics.specs.Bars.{bar}
 use Rattle.cf_semantics.specs.Lines.{Line}
 use Rattle.cf_semantics.specs.State.{State, Moment}
@@ -14,18 +15,19 @@ use Rattle.cf_refinement.specs.Invariant.{HoldsAfter}
 use Rattle.cf_core.specs.Processors.{Processor, in_state}
 use Rattle.cf_core.specs.Stepping.{FailsToRead, FailsToWrite}
 use Rattle.cf_report.proofs.Puttings.{front-again, writes-again}
+use Rattle.cf_run.specs.declared.answer.Ran.{Ran as Answer}
 use Rattle.cf_run.specs.declared.answer.Ran.TheVariants as ran
 use Rattle.cf_run.specs.declared.answer.Scripted.{Scripted}
-use Rattle.cf_run.specs.declared.answer.Scripted.TheVariants.{Ran, ScriptEnd, BadScript, BarredAt}
+use Rattle.cf_run.specs.declared.answer.Scripted.TheVariants.{Ran}
 use Rattle.cf_run.specs.declared.show.Show.{Show}
 use Rattle.cf_run.specs.declared.show.Show.TheVariants as show
 use Rattle.cf_run.specs.Headline.{StandsAt, IsUnmoved, FailsInput, FailsOutput, StopsAt, AreTexts, Gets, ReportsLines}
-use Rattle.cf_run.specs.Made.{Made, all_shown}
+use Rattle.cf_run.specs.Made.{Made, moves_of, all_shown}
 use Rattle.cf_run.specs.Moving.{Place, MakesAndShows, MakesUnshown, FailsOutside, Does, shown_of}
-use Rattle.cf_run.specs.Scripts.{Stand, Reaches, Tries, Stops}
+use Rattle.cf_run.specs.Reaching.{Reaches, IsOver}
 use Rattle.cf_run.proofs.Arrived.{Arrives}
 use Rattle.cf_run.proofs.Fronts.{front-after}
-use Rattle.cf_run.proofs.Runs.{reached-more}
+use Rattle.cf_run.proofs.Runs.{moves-more, reached-more, reached-trace}
 
 -- a run stopped at the moment, and reported these lines, numbered from n on
 pub record IsStopped (shows : Show) (x : Machine) (m : Moment) (n : ℕ) (written : List Line) (begin new : Place) (answer : Scripted) : Type 0 where
@@ -122,7 +124,7 @@ unwritten_stop shows begin now new mv accepted outside fails x m n written a = r
 }
 
 -- a report that got all that was to be put to it
-abbrev filled : Option (List ℕ) → List ℕ → Option (List ℕ)
+abbrev pub filled : Option (List ℕ) → List ℕ → Option (List ℕ)
 filled None text = None
 filled (Some told) text = Some (told ++ text)
 
@@ -141,74 +143,65 @@ front_whole (Some told) b c x y z h front whole =
     subst (WritesFront (Some told) c) same (front-again (Some told) b c x y h front)
 
 -- the last move of a run whose report failed, as if that had not
-shown_too : (shows : Show) (mv : Move) (now new : Place) (d : MakesUnshown shows mv now new) → MakesAndShows shows mv now (record new { report = filled now.report (shown_of shows mv now new d.makes.event) })
-shown_too shows mv now new d =
-    let text : List ℕ = shown_of shows mv now new d.makes.event in
+pub shown_too : (shows : Show) (mv : Move) (e : Event) (now new : Place) → MakesUnshown shows mv e now new → MakesAndShows shows mv e now (record new { report = filled now.report (shown_of shows mv e now new) })
+shown_too shows mv e now new d =
+    let text : List ℕ = shown_of shows mv e now new in
     record {
-      makes = record { allowed = d.makes.allowed; makes = d.makes.makes; event = d.makes.event; is_event = d.makes.is_event; tally = d.makes.tally };
+      makes = record { allowed = d.makes.allowed; makes = d.makes.makes; is_event = d.makes.is_event; tally = d.makes.tally };
       report = fills now.report text;
     }
 
--- where a run came to at last: it made as many moves as were counted, and stopped there
-pub record ComesTo (limit : ℕ) (shows : Show) (begin : Stand) (new : Place) (answer : Scripted) : Type 0 where
-  pub now : Stand
+-- where a run came to at last: it made these moves, and stopped there
+pub record ComesTo (limit : ℕ) (shows : Show) (begin : Place) (moves : List Move) (new : Place) (answer : Scripted) : Type 0 where
+  pub now : Place
   pub reaches : Reaches limit shows begin now
-  pub tally : new.tally ≡ now.place.tally
-  pub stops : StopsFrom shows begin.place now.place new answer
+  pub moves_are : moves_of reaches.trace ≡ moves
+  pub stops : StopsFrom shows begin now new answer
 
--- the run stops at a report that failed, behind a move that was made and counted
-unshown_stop : (limit : ℕ) (shows : Show) (begin now new : Stand) → Reaches limit shows begin now → Tries limit shows now new (Some (Ran ran.ReportFault)) → ComesTo limit shows begin new.place (Ran ran.ReportFault)
+-- a run that has come to a place and does not go on
+pub comes_here : (limit : ℕ) (shows : Show) (begin now new : Place) (answer : Scripted) (h : Reaches limit shows begin now) → new ≡ now → ((x : Machine) (m : Moment) → StandsAt m begin new → StopsAt x m begin new answer)
+    → ((text : List ℕ) → Writes begin.report new.report text → Gets begin.report new.report answer text) → ComesTo limit shows begin (moves_of h.trace) new answer
+comes_here limit shows begin now new answer h same stops gets = record {
+  now = now;
+  reaches = h;
+  moves_are = refl;
+  stops = stays shows begin now new answer same stops gets;
+}
+
+-- one that is over
+pub comes_over : (limit : ℕ) (shows : Show) (begin now new : Place) (answer : Answer) (h : Reaches limit shows begin now) → IsOver limit now.core.state answer → new ≡ now → ComesTo limit shows begin (moves_of h.trace) new (Ran answer)
+unfolding StopsAt Gets
+comes_over limit shows begin now new (ran.Exit status) h is same = comes_here limit shows begin now new (Ran (ran.Exit status)) h same (λ x m h. h) (λ text w. w)
+comes_over limit shows begin now new (ran.Trap cause pc detail) h is same = comes_here limit shows begin now new (Ran (ran.Trap cause pc detail)) h same (λ x m h. h) (λ text w. w)
+comes_over limit shows begin now new ran.Limit h is same = comes_here limit shows begin now new (Ran ran.Limit) h same (λ x m h. h) (λ text w. w)
+comes_over limit shows begin now new ran.ReadFault h is same = absurd is
+comes_over limit shows begin now new ran.WriteFault h is same = absurd is
+comes_over limit shows begin now new ran.ReportFault h is same = absurd is
+
+-- one whose next move the input failed
+pub comes_unread : (limit : ℕ) (shows : Show) (begin now new : Place) (mv : Move) (h : Reaches limit shows begin now) → Does shows mv now new (Err ran.ReadFault) → ComesTo limit shows begin (moves_of h.trace) new (Ran ran.ReadFault)
+unfolding Does
+comes_unread limit shows begin now new mv h does = record { now = now; reaches = h; moves_are = refl; stops = unread_stop shows begin now new mv does.0 does.1 }
+
+-- or the output
+pub comes_unwritten : (limit : ℕ) (shows : Show) (begin now new : Place) (mv : Move) → IsAccepted begin.core.plan → (h : Reaches limit shows begin now) → Does shows mv now new (Err ran.WriteFault) → ComesTo limit shows begin (moves_of h.trace) new (Ran ran.WriteFault)
+unfolding Does
+comes_unwritten limit shows begin now new mv accepted h does = record { now = now; reaches = h; moves_are = refl; stops = unwritten_stop shows begin now new mv accepted does.0 does.1 }
+
+-- one whose report failed, behind a move that was made and counted
+pub comes_unshown : (limit : ℕ) (shows : Show) (begin now new : Place) (mv : Move) (h : Reaches limit shows begin now) → now.core.state.retired < limit → Does shows mv now new (Err ran.ReportFault) → ComesTo limit shows begin (moves_of h.trace ++ mv ∷ []) new (Ran ran.ReportFault)
 unfolding Does StopsAt Gets
-unshown_stop limit shows begin now new h t =
-    let d : MakesUnshown shows t.move now.place new.place = t.does in
-    let text : List ℕ = shown_of shows t.move now.place new.place d.makes.event in
-    let full : Stand = record { place = record new.place { report = filled now.place.report text }; script = new.script } in
-    let tries : Tries limit shows now full None = record { goes = t.goes; line = t.line; move = t.move; next = t.next; script = t.script; does = shown_too shows t.move now.place new.place d } in
+comes_unshown limit shows begin now new mv h below (e, d) =
+    let text : List ℕ = shown_of shows mv e now new in
+    let full : Place = record new { report = filled now.report text } in
+    let made : MakesAndShows shows mv e now full = shown_too shows mv e now new d in
     record {
       now = full;
-      reaches = reached-more limit shows begin now full h tries;
-      tally = refl;
+      reaches = reached-more limit shows begin now full mv e h below made;
+      moves_are = ap moves_of (reached-trace limit shows begin now full mv e h below made) ∙ moves-more h.trace (record { move = mv; event = e; state = full.core.state });
       stops = λ x m n written a. record {
         stops = record { core = a.core; streams = a.streams };
-        report = told_lines shows begin.place new.place (Ran ran.ReportFault) a.trace n written a.texts
-            (front_whole begin.place.report now.place.report new.place.report (all_shown shows begin.place.core.plan 1 h.trace) text (all_shown shows begin.place.core.plan 1 a.trace) h.report d.report a.report);
+        report = told_lines shows begin new (Ran ran.ReportFault) a.trace n written a.texts
+            (front_whole begin.report now.report new.report (all_shown shows begin.core.plan 1 h.trace) text (all_shown shows begin.core.plan 1 a.trace) h.report d.report a.report);
       };
     }
-
--- a run of a script that does not go on
-script_stays : (limit : ℕ) (shows : Show) (begin now new : Stand) (answer : Scripted) → Reaches limit shows begin now → new ≡ now → ((x : Machine) (m : Moment) → StandsAt m begin.place new.place → StopsAt x m begin.place new.place answer)
-    → ((text : List ℕ) → Writes begin.place.report new.place.report text → Gets begin.place.report new.place.report answer text) → ComesTo limit shows begin new.place answer
-script_stays limit shows begin now new answer h same stops gets = record {
-  now = now;
-  reaches = h;
-  tally = ap (λ (s : Stand). s.place.tally) same;
-  stops = stays shows begin.place now.place new.place answer (ap (λ (s : Stand). s.place) same) stops gets;
-}
-
--- whatever stops it, a run of a script came to some place and stopped there
-pub comes-to : (limit : ℕ) (shows : Show) (begin now new : Stand) (answer : Scripted) → IsAccepted begin.place.core.plan → Reaches limit shows begin now → Stops limit shows now new answer → ComesTo limit shows begin new.place answer
-unfolding Stops Does StopsAt Gets
-comes-to limit shows begin now new ScriptEnd accepted h stops = script_stays limit shows begin now new ScriptEnd h stops.2 (λ x m h. h) (λ text w. w)
-comes-to limit shows begin now new (BadScript refusal) accepted h stops = script_stays limit shows begin now new (BadScript refusal) h stops.2 (λ x m h. h) (λ text w. w)
-comes-to limit shows begin now new (BarredAt line b) accepted h stops = record {
-  now = now;
-  reaches = h;
-  tally = ap (λ (p : Place). p.tally) stops.does.2;
-  stops = stays shows begin.place now.place new.place (BarredAt line b) stops.does.2 (λ x m h. h) (λ text w. w);
-}
-comes-to limit shows begin now new (Ran (ran.Exit status)) accepted h stops = script_stays limit shows begin now new (Ran (ran.Exit status)) h stops.1 (λ x m h. h) (λ text w. w)
-comes-to limit shows begin now new (Ran (ran.Trap cause pc detail)) accepted h stops = script_stays limit shows begin now new (Ran (ran.Trap cause pc detail)) h stops.1 (λ x m h. h) (λ text w. w)
-comes-to limit shows begin now new (Ran ran.Limit) accepted h stops = script_stays limit shows begin now new (Ran ran.Limit) h stops.1 (λ x m h. h) (λ text w. w)
-comes-to limit shows begin now new (Ran ran.ReadFault) accepted h stops = record {
-  now = now;
-  reaches = h;
-  tally = stops.does.0.tally;
-  stops = unread_stop shows begin.place now.place new.place stops.move stops.does.0 stops.does.1;
-}
-comes-to limit shows begin now new (Ran ran.WriteFault) accepted h stops = record {
-  now = now;
-  reaches = h;
-  tally = stops.does.0.tally;
-  stops = unwritten_stop shows begin.place now.place new.place stops.move accepted stops.does.0 stops.does.1;
-}
-comes-to limit shows begin now new (Ran ran.ReportFault) accepted h stops = unshown_stop limit shows begin now new h stops

@@ -26,7 +26,7 @@ use Rattle.cf_run.specs.Going.{moment_of, Leads}
 use Rattle.cf_run.specs.Headline.{machine_on, AreTexts}
 use Rattle.cf_run.specs.Made.{Made, moves_of, all_shown, shown}
 use Rattle.cf_run.specs.Moving.{Place}
-use Rattle.cf_run.specs.Scripts.{Stand, Reaches}
+use Rattle.cf_run.specs.Reaching.{Reaches}
 use Rattle.cf_run.proofs.Arrived.{Arrives, begins}
 use Rattle.cf_run.proofs.Retirements.{made-texts}
 
@@ -65,7 +65,7 @@ untold-input (Some told) after rest none = absurd (cc)
 left-untold : (before after : Streams) (found rest output : List ℕ) → before.input ≡ None → Leaves before after found output → Leaves before after rest output
 left-untold before after found rest output none h = record { input = untold-input before.input after.input rest none; output = h.output }
 
--- where the run of a script has come to over an input that does not tell
+-- where a run has come to over an input that does not tell
 pub record ArrivesAnew (shows : Show) (hart : Hart) (begin now : Place) : Type 0 where
   pub at : Machine
   pub written : List Line
@@ -76,13 +76,13 @@ pub record ArrivesAnew (shows : Show) (hart : Hart) (begin now : Place) : Type 0
   pub arrives : Arrives shows at last (hart.retired + 1) written begin now
 
 -- so it has, by the moves that it made
-pub arrives-anew : (limit : ℕ) (shows : Show) (hart : Hart) (begin now : Stand) → IsAccepted begin.place.core.plan → length hart.regs ≡ 32 → begin.place.core ≡ opened begin.place.core.plan hart → begin.place.streams.input ≡ None → Reaches limit shows begin now
-    → ArrivesAnew shows hart begin.place now.place
+pub arrives-anew : (limit : ℕ) (shows : Show) (hart : Hart) (begin now : Place) → IsAccepted begin.core.plan → length hart.regs ≡ 32 → begin.core ≡ opened begin.core.plan hart → begin.streams.input ≡ None → Reaches limit shows begin now
+    → ArrivesAnew shows hart begin now
 arrives-anew limit shows hart begin now accepted wide opens none h =
-    let plan : Plan = begin.place.core.plan in
+    let plan : Plan = begin.core.plan in
     let x : Machine = machine_on hart h.rest in
-    let untold : Leads plan limit None (moment_of begin.place.core h.rest) h.trace h.last = subst (λ (o : Option (List ℕ)). Leads plan limit o (moment_of begin.place.core h.rest) h.trace h.last) none h.leads in
-    let there : Leads plan limit None (start_on plan x) h.trace h.last = subst (λ (m : Moment). Leads plan limit None m h.trace h.last) (begins begin.place.core hart h.rest h.rest opens refl) untold in
+    let untold : Leads plan limit None (moment_of begin.core h.rest) h.trace h.last = subst (λ (o : Option (List ℕ)). Leads plan limit o (moment_of begin.core h.rest) h.trace h.last) none h.leads in
+    let there : Leads plan limit None (start_on plan x) h.trace h.last = subst (λ (m : Moment). Leads plan limit None m h.trace h.last) (begins begin.core hart h.rest h.rest opens refl) untold in
     let leads : LeadsAnew plan (start_on plan x) 1 h.trace h.last = leads-anew plan limit (start_on plan x) 1 h.trace h.last there in
     let holds : HoldsAnew plan x leads.written h.last = holds_anew plan x (moves_of h.trace) h.last leads.written accepted wide leads.leads in
     record {
@@ -95,7 +95,7 @@ arrives-anew limit shows hart begin now accepted wide opens none h =
       arrives = record {
         kept = record { held = holds.held; tidy = holds.tidy };
         core = h.core;
-        streams = left-untold begin.place.streams now.place.streams h.last.rest holds.rest h.last.output none h.streams;
+        streams = left-untold begin.streams now.streams h.last.rest holds.rest h.last.output none h.streams;
         trace = h.trace;
         texts = subst (λ (n : ℕ). AreTexts (n + 1) leads.written (all_shown show.Retired plan 1 h.trace)) (opened_retired plan x) leads.texts;
         report = h.report;

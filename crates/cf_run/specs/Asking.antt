@@ -9,7 +9,8 @@ use Rattle.cf_scripts.specs.Scripts.{Told, next_of}
 use Rattle.cf_run.specs.declared.answer.Scripted.{Scripted}
 use Rattle.cf_run.specs.declared.show.Show.{Show}
 use Rattle.cf_run.specs.Made.{Made}
-use Rattle.cf_run.specs.Scripts.{Stand, GoesOn, RunsScript}
+use Rattle.cf_run.specs.Reaching.{GoesOn}
+use Rattle.cf_run.specs.Scripts.{Stand, RunsScript}
 
 -- one of these moves asks this; the first was made in that state, and each other in the one that the move before it left
 unfoldable pub SomeAsks : (asks : Processor → Move → Type 0) → Plan → State → List Made → Type 0
@@ -28,7 +29,7 @@ pub record NextAsks (asks : Processor → Move → Type 0) (limit : ℕ) (core :
 -- a move of the run asks this: one of those that lead to where it stops, or the next one there
 abbrev pub RunAsks : (asks : Processor → Move → Type 0) (limit : ℕ) (show : Show) (start new : Stand) (answer : Scripted) → RunsScript limit show start new answer → Type 0
 RunAsks asks limit show start new answer runs =
-    SomeAsks asks start.place.core.plan start.place.core.state runs.reaches.trace
+    SomeAsks asks start.place.core.plan start.place.core.state runs.follows.reaches.trace
     ⊎ NextAsks asks limit runs.now.place.core runs.now.script
 
 -- a run, with a claim about the input that holds unless a move of the run asks it, and one about the output

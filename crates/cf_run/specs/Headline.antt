@@ -1,5 +1,5 @@
 -- The headline: a run leaves what the sequential machine leaves on which the processor was opened, whether or not the input tells what it has left, and comes to rest ("Counterflow Pipeline Processor Architecture", 1994: the order of the local actions is free).
-use Rattle.std.specs.Prelude.{◌≡◌, ℕ, ◌+◌, ◌≤◌, List, [], ◌∷◌, ◌++◌, length, map, take, Option, Some, None}
+use Rattle.std.specs.Prelude.{◌≡◌, ℕ, ◌+◌, ◌≤◌, List, [], ◌∷◌, ◌++◌, length, Option, Some, None}
 use Rattle.cf_io.specs.Puts.{Writes, WritesFront}
 use Rattle.rv_inst.specs.declared.isa.Isa.{Isa}
 use Rattle.rv_machine.specs.After.{after}
@@ -29,7 +29,6 @@ use Rattle.cf_run.specs.declared.answer.Scripted.TheVariants.{Ran}
 use Rattle.cf_run.specs.declared.show.Show.{Show}
 use Rattle.cf_run.specs.declared.show.Show.TheVariants as show
 use Rattle.cf_run.specs.Moving.{Place}
-use Rattle.cf_run.specs.Scripts.{Stand}
 
 -- The sequential machine as a run begins: the hart on which the processor was opened, with this input before it and nothing written.
 abbrev pub machine_on : Hart → List ℕ → Machine
@@ -141,16 +140,12 @@ pub record RunsAnew (shows : Show) (hart : Hart) (begin new : Place) (answer : S
   pub stops : StopsAt at last begin new answer
   pub report : ReportsLines shows (hart.retired + 1) written begin new answer
 
--- The moves that the run of a script made: its first, as many as were counted.
-abbrev pub moves_made : Stand → Place → List Move
-moves_made begin new = map (λ line. line.1) (take new.tally.moves begin.script.moves)
+-- The run is one of the machine that starts on this hart with what the input tells, by these moves; where the input does not tell that, of the machine each of whose calls finds some input.
+abbrev pub RunsOver : Option (List ℕ) → Show → Hart → List Move → (begin new : Place) → Scripted → Type 0
+RunsOver (Some rest) shows hart moves begin new answer = RunsAs shows (machine_on hart rest) moves begin new answer
+RunsOver None shows hart moves begin new answer = RunsAnew shows hart begin new answer
 
--- The run is one of the machine that starts on this hart with what the input tells; where the input does not tell that, of the machine each of whose calls finds some input.
-abbrev pub RunsOver : Option (List ℕ) → Show → Hart → Stand → Place → Scripted → Type 0
-RunsOver (Some rest) shows hart begin new answer = RunsAs shows (machine_on hart rest) (moves_made begin new) begin.place new answer
-RunsOver None shows hart begin new answer = RunsAnew shows hart begin.place new answer
-
--- The headline: on whatever hart the processor was opened, and whatever the input tells or does not tell, the run is one of the machine that starts on that hart.
-unfoldable pub RunsSequentially : Show → Stand → Place → Scripted → Type 0
-RunsSequentially shows begin new answer =
-    (plan : Plan) (hart : Hart) → begin.place.core ≡ opened plan hart → RunsOver begin.place.streams.input shows hart begin new answer
+-- The headline, of a run that made these moves, whatever chose them: on whatever hart the processor was opened, and whatever the input tells or does not tell, the run is one of the machine that starts on that hart.
+unfoldable pub RunsSequentially : Show → List Move → (begin new : Place) → Scripted → Type 0
+RunsSequentially shows moves begin new answer =
+    (plan : Plan) (hart : Hart) → begin.core ≡ opened plan hart → RunsOver begin.streams.input shows hart moves begin new answer

@@ -1,5 +1,5 @@
 -- One move of a run: it is made, counted and shown, or it tells why the run stops there.
-use Rattle.std.specs.Prelude.{◌≡◌, ℕ, List, Option, Some, None}
+use Rattle.std.specs.Prelude.{◌≡◌, ℕ, List, Option, None, Result, Ok, Err}
 use Rattle.cf_io.specs.Puts.{Writes, WritesFront}
 use Rattle.rv_machine.specs.Streams.{Streams}
 use Rattle.cf_bind.specs.declared.moves.Move.{Move}
@@ -10,9 +10,8 @@ use Rattle.cf_semantics.specs.Events.{IsEvent}
 use Rattle.cf_core.specs.Processors.{Processor}
 use Rattle.cf_core.specs.Stepping.{Makes, FailsToRead, FailsToWrite}
 use Rattle.cf_report.specs.declared.tally.Tally.{Tally}
+use Rattle.cf_run.specs.declared.answer.Ran.{Ran as Answer}
 use Rattle.cf_run.specs.declared.answer.Ran.TheVariants as ran
-use Rattle.cf_run.specs.declared.answer.Scripted.{Scripted}
-use Rattle.cf_run.specs.declared.answer.Scripted.TheVariants.{Ran, ScriptEnd, BadScript, BarredAt}
 use Rattle.cf_run.specs.declared.show.Show.{Show}
 use Rattle.cf_run.specs.Made.{counted, shown}
 
@@ -28,27 +27,26 @@ abbrev pub place_of : Processor → Streams → Option (List ℕ) → Tally → 
 place_of core streams report tally = record { core = core; streams = streams; report = report; tally = tally }
 
 -- nothing barred the move; it was made and counted, with this event
-pub record MakesOne (mv : Move) (now new : Place) : Type 0 where
+pub record MakesOne (mv : Move) (event : Event) (now new : Place) : Type 0 where
   pub allowed : first_bar now.core.plan now.core.state mv ≡ None
   pub makes : Makes now.core new.core mv now.streams new.streams
-  pub event : Event
   pub is_event : IsEvent now.core.plan now.core.state mv event
   pub tally : new.tally ≡ counted now.tally mv event
 
 -- what a report shows of it
-abbrev pub shown_of : Show → (mv : Move) (now new : Place) → Event → List ℕ
-shown_of show mv now new e =
+abbrev pub shown_of : Show → (mv : Move) → Event → (now new : Place) → List ℕ
+shown_of show mv e now new =
     shown show now.core.plan new.tally.moves (record { move = mv; event = e; state = new.core.state })
 
 -- it was made and shown
-pub record MakesAndShows (show : Show) (mv : Move) (now new : Place) : Type 0 where
-  pub makes : MakesOne mv now new
-  pub report : Writes now.report new.report (shown_of show mv now new makes.event)
+pub record MakesAndShows (show : Show) (mv : Move) (event : Event) (now new : Place) : Type 0 where
+  pub makes : MakesOne mv event now new
+  pub report : Writes now.report new.report (shown_of show mv event now new)
 
 -- it was made, and the report failed behind a front of what is shown of it
-pub record MakesUnshown (show : Show) (mv : Move) (now new : Place) : Type 0 where
-  pub makes : MakesOne mv now new
-  pub report : WritesFront now.report new.report (shown_of show mv now new makes.event)
+pub record MakesUnshown (show : Show) (mv : Move) (event : Event) (now new : Place) : Type 0 where
+  pub makes : MakesOne mv event now new
+  pub report : WritesFront now.report new.report (shown_of show mv event now new)
 
 -- what holds besides where the input or the output fails a call: nothing barred the move, it was Serve, and nothing was counted or shown
 pub record FailsOutside (mv : Move) (now new : Place) : Type 0 where
@@ -57,18 +55,29 @@ pub record FailsOutside (mv : Move) (now new : Place) : Type 0 where
   pub report : new.report ≡ now.report
   pub tally : new.tally ≡ now.tally
 
--- what the move of this line does: it is made, or the answer of the run says why it stops
-unfoldable pub Does : Show → ℕ → Move → (now new : Place) → Option Scripted → Type 0
-Does show line mv now new None = MakesAndShows show mv now new
-Does show line mv now new (Some (BarredAt at bar)) =
-    (at ≡ line) × (first_bar now.core.plan now.core.state mv ≡ Some bar) × (new ≡ now)
-Does show line mv now new (Some (Ran ran.ReadFault)) =
+-- what the move does: it is made with this event, or the answer of the run says why it stops
+unfoldable pub Does : Show → Move → (now new : Place) → Result Event Answer → Type 0
+Does show mv now new (Ok event) = MakesAndShows show mv event now new
+Does show mv now new (Err ran.ReadFault) =
     FailsOutside mv now new × FailsToRead now.core new.core now.streams new.streams
-Does show line mv now new (Some (Ran ran.WriteFault)) =
+Does show mv now new (Err ran.WriteFault) =
     FailsOutside mv now new × FailsToWrite now.core new.core now.streams new.streams
-Does show line mv now new (Some (Ran ran.ReportFault)) = MakesUnshown show mv now new
-Does show line mv now new (Some (Ran (ran.Exit status))) = ⊥
-Does show line mv now new (Some (Ran (ran.Trap cause pc detail))) = ⊥
-Does show line mv now new (Some (Ran ran.Limit)) = ⊥
-Does show line mv now new (Some ScriptEnd) = ⊥
-Does show line mv now new (Some (BadScript refusal)) = ⊥
+Does show mv now new (Err ran.ReportFault) = (event : Event) × MakesUnshown show mv event now new
+Does show mv now new (Err (ran.Exit status)) = ⊥
+Does show mv now new (Err (ran.Trap cause pc detail)) = ⊥
+Does show mv now new (Err ran.Limit) = ⊥
+
+-- an error where the input failed the run
+abbrev pub input_done : Result Event Answer → Result (Unit {0}) (Unit {0})
+input_done (Err ran.ReadFault) = Err tt
+input_done answer = Ok tt
+
+-- an error where the output did
+abbrev pub output_done : Result Event Answer → Result (Unit {0}) (Unit {0})
+output_done (Err ran.WriteFault) = Err tt
+output_done answer = Ok tt
+
+-- an error where the report did
+abbrev pub report_done : Result Event Answer → Result (Unit {0}) (Unit {0})
+report_done (Err ran.ReportFault) = Err tt
+report_done answer = Ok tt

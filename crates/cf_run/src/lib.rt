@@ -3,12 +3,16 @@
 
 mod answer;
 mod counting;
+mod known;
 mod moving;
+mod over;
+mod policy;
 mod script;
 mod show;
 mod showing;
 
 pub use answer::{Ran, Scripted};
+pub use policy::run_policy;
 pub use script::run_script;
 pub use show::Show;
 

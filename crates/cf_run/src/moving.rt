@@ -1,61 +1,60 @@
 //! One move of a run.
 #![tactic(auto, unfolding(crate::specs::Moving::Does))]
 
-ghost use Rattle.std.specs.Prelude.{◌≡◌, ◌+◌, ◌<◌, ◌^◌};
+ghost use Rattle.std.specs.Prelude.{◌≡◌, ◌+◌, ◌<◌, ◌^◌, None};
 ghost use Rattle.cf_io.specs.Causes.{HasCause};
 ghost use Rattle.rv_machine.specs.Streams.{streams_of};
+ghost use Rattle.cf_semantics.specs.Bars.{bar};
 ghost use Rattle.cf_core.specs.Asking.{AsksInput, AsksOutput};
-ghost use Rattle.cf_run.specs.Moving.{place_of, Does};
-ghost use Rattle.cf_run.specs.Scripts.{input_scripted, output_scripted, report_scripted};
+ghost use Rattle.cf_run.specs.Moving.{place_of, Does, input_done, output_done, report_done};
 
-use crate::answer::{Ran, Scripted};
+use crate::answer::Ran;
 use crate::counting::count;
 use crate::show::Show;
 use crate::showing::put_shown;
 use cf_bind::Move;
-use cf_core::{Core, Step};
+use cf_core::{Core, Event, Fault};
 use cf_io::{Sink, Source};
 use cf_report::Tally;
 
-/// Makes the move of a line, counts it and shows it; or says why the run stops there.
+/// Makes an allowed move, counts it and shows it, and tells what is seen of it; or says why the run stops there.
 #[inline(always)]
 pub(crate) fn make<S: Source, K: Sink, R: Sink>(
     core: &mut Core,
-    line: u32,
     mv: Move,
     show: Show,
     input: &mut S,
     output: &mut K,
     report: &mut R,
     tally: &mut Tally,
-) -> Option<Scripted>
+) -> Result<Event, Ran>
+    requires allowed { bar core.old.plan core.old.state mv ≡ None }
     requires retired { core.old.state.retired + 1 < 2 ^ 64 }
     requires moves { tally.old.moves + 1 < 2 ^ 64 }
     requires meets { tally.old.meets + 1 < 2 ^ 64 }
     requires kills { tally.old.kills + 1 < 2 ^ 64 }
     requires dead { tally.old.dead + 1 < 2 ^ 64 }
-    ensures does { Does show line mv
+    ensures does { Does show mv
         (place_of core.old (streams_of (S.left input.old) (K.written output.old))
         (R.written report.old) tally.old)
         (place_of core.new (streams_of (S.left input.new) (K.written output.new))
         (R.written report.new) tally.new)
         result }
-    ensures input { HasCause (S.faults input.old) (S.faults input.new) (input_scripted result) }
-    ensures output { HasCause (K.faults output.old) (K.faults output.new) (output_scripted result) }
-    ensures report { HasCause (R.faults report.old) (R.faults report.new) (report_scripted result) }
+    ensures input { HasCause (S.faults input.old) (S.faults input.new) (input_done result) }
+    ensures output { HasCause (K.faults output.old) (K.faults output.new) (output_done result) }
+    ensures report { HasCause (R.faults report.old) (R.faults report.new) (report_done result) }
     ensures input_asked { (AsksInput core.old mv → ⊥) → input.new ≡ input.old }
     ensures output_asked { (AsksOutput core.old mv → ⊥) → output.new ≡ output.old }
 {
-    match core.step(mv, input, output) {
-        Step::Moved(event) => {
+    match core.make(mv, input, output) {
+        Ok(event) => {
             count(tally, mv, &event);
             match put_shown(core, show, tally.moves, mv, &event, report) {
-                Ok(()) => None,
-                Err(_) => Some(Scripted::Ran(Ran::ReportFault)),
+                Ok(()) => Ok(event),
+                Err(_) => Err(Ran::ReportFault),
             }
         }
-        Step::Barred(bar) => Some(Scripted::BarredAt { line, bar }),
-        Step::ReadFault => Some(Scripted::Ran(Ran::ReadFault)),
-        Step::WriteFault => Some(Scripted::Ran(Ran::WriteFault)),
+        Err(Fault::Read) => Err(Ran::ReadFault),
+        Err(Fault::Write) => Err(Ran::WriteFault),
     }
 }

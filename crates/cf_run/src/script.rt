@@ -1,36 +1,62 @@
 //! The run of a script.
-#![tactic(auto, unfolding(crate::specs::Scripts::Stops))]
+#![tactic(auto, unfolding(crate::specs::Scripts::Stops, crate::specs::Scripts::DoesLine))]
 
-ghost use Rattle.std.specs.Prelude.{◌≡◌, ◌+◌, ◌<◌, ◌≤◌, ◌^◌, IsNone, MatchOption, Some, false, length};
+ghost use Rattle.std.specs.Prelude.{◌≡◌, ◌+◌, ◌<◌, ◌≤◌, ◌^◌, IsNone, Some, false, length};
 ghost use Rattle.cf_io.specs.Causes.{HasCause};
 ghost use Rattle.rv_machine.specs.Streams.{streams_of};
 ghost use Rattle.cf_core.specs.Asking.{AsksInput, AsksOutput};
 ghost use Rattle.cf_run.specs.Asking.{NextAsks, RunsUnasked};
-ghost use Rattle.cf_layout.specs.Accepted.{IsAccepted};
 ghost use Rattle.cf_run.specs.Moving.{place_of};
 ghost use Rattle.cf_run.specs.Headline.{RunsSequentially};
-ghost use Rattle.cf_run.specs.Scripts.{no_tally, stand_of, GoesOn, IsOver, RunsScript, Turns, input_scripted, output_scripted, report_scripted};
+ghost use Rattle.cf_run.specs.Reaching.{no_tally};
+ghost use Rattle.cf_run.specs.Scripts.{stand_of, first_moves, DoesLine, RunsScript, Turns, input_scripted, output_scripted, report_scripted};
 
-use crate::answer::{Ran, Scripted};
+use crate::answer::Scripted;
+use crate::known::known;
 use crate::moving::make;
+use crate::over::over;
 use crate::show::Show;
-use cf_bind::End;
+use cf_bind::Move;
 use cf_core::Core;
 use cf_io::{Sink, Source};
 use cf_report::Tally;
 use cf_scripts::Script;
 
-/// Why the run is over, if it is.
+/// Makes the move of a line, counts it and shows it; or says why the run stops there.
 #[inline(always)]
-fn over(core: &Core, limit: u64) -> Option<Ran>
-    requires { core.now.state.retired ≤ limit }
-    ensures { MatchOption result (GoesOn limit core.now.state) (IsOver limit core.now.state) }
+fn make_line<S: Source, K: Sink, R: Sink>(
+    core: &mut Core,
+    line: u32,
+    mv: Move,
+    show: Show,
+    input: &mut S,
+    output: &mut K,
+    report: &mut R,
+    tally: &mut Tally,
+) -> Option<Scripted>
+    requires retired { core.old.state.retired + 1 < 2 ^ 64 }
+    requires moves { tally.old.moves + 1 < 2 ^ 64 }
+    requires meets { tally.old.meets + 1 < 2 ^ 64 }
+    requires kills { tally.old.kills + 1 < 2 ^ 64 }
+    requires dead { tally.old.dead + 1 < 2 ^ 64 }
+    ensures does { DoesLine show line mv
+        (place_of core.old (streams_of (S.left input.old) (K.written output.old))
+        (R.written report.old) tally.old)
+        (place_of core.new (streams_of (S.left input.new) (K.written output.new))
+        (R.written report.new) tally.new)
+        result }
+    ensures input { HasCause (S.faults input.old) (S.faults input.new) (input_scripted result) }
+    ensures output { HasCause (K.faults output.old) (K.faults output.new) (output_scripted result) }
+    ensures report { HasCause (R.faults report.old) (R.faults report.new) (report_scripted result) }
+    ensures input_asked { (AsksInput core.old mv → ⊥) → input.new ≡ input.old }
+    ensures output_asked { (AsksOutput core.old mv → ⊥) → output.new ≡ output.old }
 {
-    match core.ending() {
-        Some(End::Exit(status)) => Some(Ran::Exit(status)),
-        Some(End::Trap { cause, pc, detail }) => Some(Ran::Trap { cause, pc, detail }),
-        None if core.retired() == limit => Some(Ran::Limit),
-        None => None,
+    if let Some(bar) = core.allowed(mv) {
+        return Some(Scripted::BarredAt { line, bar });
+    }
+    match make(core, mv, show, input, output, report, tally) {
+        Ok(_) => None,
+        Err(ran) => Some(Scripted::Ran(ran)),
     }
 }
 
@@ -71,28 +97,10 @@ fn advance<S: Source, K: Sink, R: Sink>(
         return Some(Scripted::Ran(ran));
     }
     match script.next() {
-        Ok(Some((line, mv))) => make(core, line, mv, show, input, output, report, tally),
+        Ok(Some((line, mv))) => make_line(core, line, mv, show, input, output, report, tally),
         Ok(None) => Some(Scripted::ScriptEnd),
         Err(refusal) => Some(Scripted::BadScript(refusal)),
     }
-}
-
-/// The register file has 32 registers. It does nothing.
-#[inline(always)]
-fn all_registers(regs: &[u32; 32])
-    ensures { length regs.now ≡ 32 }
-{
-    let _ = regs;
-}
-
-/// What every processor keeps: its layout is accepted, and it has 32 registers. It does nothing.
-#[inline(always)]
-fn known(core: &Core)
-    ensures accepted { IsAccepted core.now.plan }
-    ensures registers { length core.now.state.regs ≡ 32 }
-{
-    let _ = core.layout();
-    all_registers(core.regs());
 }
 
 /// Runs a script: makes its moves one after another until the program ends, as many instructions have
@@ -130,9 +138,9 @@ pub fn run_script<S: Source, K: Sink, R: Sink>(
         (stand_of (place_of core.new (streams_of (S.left input.new) (K.written output.new))
         (R.written report.new) tally.new) script.new)
         result }
-    ensures sequential { RunsSequentially show
-        (stand_of (place_of core.old (streams_of (S.left input.old) (K.written output.old))
-        (R.written report.old) tally.old) script.old)
+    ensures sequential { RunsSequentially show (first_moves script.old tally.new)
+        (place_of core.old (streams_of (S.left input.old) (K.written output.old))
+        (R.written report.old) tally.old)
         (place_of core.new (streams_of (S.left input.new) (K.written output.new))
         (R.written report.new) tally.new)
         result }

@@ -1,14 +1,14 @@
 -- Each state that is reached can be completed to a command.
-use Rattle.std.proofs.Common.{◌≡◌, ℕ, List, [], ◌∷◌, codes, true, refl, Option, Some, None, ◌∙◌}
+use Rattle.std.proofs.Common.{◌≡◌, ℕ, List, [], ◌∷◌, codes, true, refl, Some, ◌∙◌}
 use Rattle.cf_words.specs.declared.names.Name.{Name}
 use Rattle.cf_words.specs.declared.names.Name.TheVariants as names
 use Rattle.cf_words.specs.declared.options.Show.TheVariants as shows
 use Rattle.cf_words.specs.declared.options.Key.{Key}
 use Rattle.cf_words.specs.declared.options.Key.TheVariants as keys
-use Rattle.cf_words.specs.Options.{key_word, has_lines, limit_to, show_lines, script_from, Given}
-use Rattle.cf_words.specs.Words.{is_built, Subject, machine_on, check_on, list_on, asm_on, run_on, name_of, Asked, run, layout_in, limit_of, lines_of}
+use Rattle.cf_words.specs.Options.{has_lines, limit_to, show_lines, script_from, seed_from, Given}
+use Rattle.cf_words.specs.Words.{is_built, Subject, machine_on, check_on, list_on, asm_on, run_on, name_of, Asked, asked_by}
 use Rattle.cf_words.specs.Reading.{State, start, named, laid, options, valued, follow, behind_first, nothing_given, completed}
-use Rattle.cf_words.proofs.Steps.{put, start-follows, named-follows, laid-follows, option-follows, limit-follows, lines-follow, script-follows}
+use Rattle.cf_words.proofs.Steps.{put, start-follows, named-follows, laid-follows, limit-follows, lines-follow, script-follows, seed-follows}
 use Rattle.cf_words.proofs.Settings.{reads, reads-step}
 use Rattle.cf_words.proofs.Reached.{Reached, has_value}
 
@@ -33,29 +33,9 @@ complete-step state word behind h c = record {
 complete-now : (state : State) (asked : Asked) → completed state ≡ Some asked → Completion state
 complete-now state asked h = record { words = []; last = state; asked = asked; read = refl; done = h }
 
-complete-run : (script : Option (List ℕ)) (layout program : List ℕ) (given : Given) →
-    given.script ≡ script →
-    Completion (options (run_on layout program) given)
-unfolding completed
-complete-run (Some file) layout program given e =
-    complete-now (options (run_on layout program) given)
-    (run (layout_in layout) program file (limit_of given) (lines_of given)) (rw e)
-complete-run None layout program given e =
-    complete-step (options (run_on layout program) given) (key_word keys.Script)
-    (valued (run_on layout program) given keys.Script)
-    (option-follows (run_on layout program) given keys.Script refl (rw e))
-    (complete-step (valued (run_on layout program) given keys.Script) (codes "s")
-    (options (run_on layout program) (put given (script_from (codes "s"))))
-    (script-follows (run_on layout program) given (codes "s") refl)
-    (complete-now (options (run_on layout program) (put given (script_from (codes "s")))) _ refl))
-
 complete-options : (subject : Subject) (given : Given) → Completion (options subject given)
 unfolding completed
-complete-options (machine_on program) given = complete-now (options (machine_on program) given) _ refl
-complete-options (check_on layout) given = complete-now (options (check_on layout) given) _ refl
-complete-options (list_on program) given = complete-now (options (list_on program) given) _ refl
-complete-options (asm_on source) given = complete-now (options (asm_on source) given) _ refl
-complete-options (run_on layout program) given = complete-run given.script layout program given refl
+complete-options subject given = complete-now (options subject given) (asked_by subject given) refl
 
 report-shown : (subject : Subject) → has_lines (name_of subject) shows.Report ≡ true
 report-shown (machine_on program) = refl
@@ -81,6 +61,11 @@ complete-value keys.Script subject given h =
     (options subject (put given (script_from (codes "s"))))
     (script-follows subject given (codes "s") refl)
     (complete-options subject (put given (script_from (codes "s"))))
+complete-value keys.Seed subject given h =
+    complete-step (valued subject given keys.Seed) (codes "0")
+    (options subject (put given (seed_from (codes "0"))))
+    (seed-follows subject given (codes "0") refl)
+    (complete-options subject (put given (seed_from (codes "0"))))
 complete-value keys.Mul subject given h = absurd (cc)
 
 complete-laid : (layout : List ℕ) → Completion (laid layout)

@@ -1,12 +1,12 @@
 -- Reading accepts just the words of the grammar, and gives what they ask; so words ask one thing at most.
-use Rattle.std.proofs.Common.{◌≡◌, ◌≤◌, option_map, ℕ, List, [], ◌∷◌, ◌++◌, Bool, true, false, refl, arith, Option, Some, None, ◌&&◌, sym, ◌∙◌, subst, ap}
+use Rattle.std.proofs.Common.{◌≡◌, ◌≤◌, ℕ, List, [], ◌∷◌, ◌++◌, Bool, true, false, refl, arith, Some, None, ◌&&◌, sym, ◌∙◌, subst, ap}
 use Rattle.std.specs.List.{list_all}
 use Rattle.std.proofs.lemmas.Bool.Decides.{nat_tests}
 use Rattle.cf_words.specs.declared.names.Name.{Name}
 use Rattle.cf_words.specs.declared.names.Name.TheVariants as names
 use Rattle.cf_words.specs.Values.{is_file_name}
-use Rattle.cf_words.specs.Options.{written, takes, most_limit, Setting, limit_to, show_lines, script_from, with_mul, Given, given_in}
-use Rattle.cf_words.specs.Words.{is_built, word_of, Subject, machine_on, check_on, list_on, asm_on, run_on, name_of, positional_of, Asked, machine, check, listing, asm, run, layout_in, limit_of, lines_of, is_retired, asked_by, IsBounded, Asks}
+use Rattle.cf_words.specs.Options.{written, takes, most_limit, Setting, limit_to, show_lines, script_from, seed_from, with_mul, Given, given_in}
+use Rattle.cf_words.specs.Words.{is_built, word_of, Subject, machine_on, check_on, list_on, asm_on, run_on, name_of, positional_of, Asked, limit_of, asked_by, IsBounded, Asks}
 use Rattle.cf_words.specs.Reading.{State, start, named, laid, options, behind_first, nothing_given, completed}
 use Rattle.cf_words.proofs.Steps.{start-read, start-follows, named-read, named-follows, laid-read, laid-follows}
 use Rattle.cf_words.proofs.Settings.{reads, reads-split, reads-step, put_all, fresh-once, once-fresh, put-given, Tail, tail-read, settings-read}
@@ -34,7 +34,7 @@ asks-tail subject words asked built files tail = record {
     taken = tail.taken;
     none_twice = fresh-once tail.settings nothing_given tail.fresh;
   };
-  means = subst (λ g. asked_by subject g ≡ Some asked) (put-given tail.settings tail.fresh) tail.means;
+  means = subst (λ g. asked_by subject g ≡ asked) (put-given tail.settings tail.fresh) tail.means;
 }
 
 -- behind the layout of a run
@@ -150,7 +150,8 @@ asks-read words asked asks =
       read = ap (λ (ws : List (List ℕ)). reads start ws) c.words_are
           ∙ (subject-read asks.subject (written asks.settings) c.built c.named
           ∙ settings-read asks.settings asks.subject nothing_given c.taken fresh);
-      done = ap (λ (g : Given). asked_by asks.subject g) (put-given asks.settings fresh) ∙ asks.means;
+      done = ap (λ (a : Asked). Some a)
+          (ap (λ (g : Given). asked_by asks.subject g) (put-given asks.settings fresh) ∙ asks.means);
     }
 
 -- words ask one thing at most
@@ -174,37 +175,22 @@ limit-bounded name (show_lines lines ∷ settings) taken =
 limit-bounded name (script_from file ∷ settings) taken =
     limit-bounded name settings (both (takes name (script_from file)) (list_all (takes name) settings)
     taken).1
+limit-bounded name (seed_from digits ∷ settings) taken =
+    limit-bounded name settings (both (takes name (seed_from digits)) (list_all (takes name) settings)
+    taken).1
 limit-bounded name (with_mul ∷ settings) taken =
     limit-bounded name settings (both (takes name with_mul) (list_all (takes name) settings) taken).1
 
-some-same : (one other : Asked) → Some one ≡ Some other → one ≡ other
-some-same one other same = cc
-
-run-bounded : (layout program : List ℕ) (given : Given) (script : Option (List ℕ)) (asked : Asked) →
-    limit_of given ≤ most_limit →
-    option_map (λ file. run (layout_in layout) program file (limit_of given) (lines_of given)) script ≡
-    Some asked →
-    IsBounded asked
-run-bounded layout program given None asked bound means = absurd (cc)
-run-bounded layout program given (Some file) asked bound means =
-    subst IsBounded
-    (some-same (run (layout_in layout) program file (limit_of given) (lines_of given)) asked means) bound
-
-asked-bounded : (subject : Subject) (given : Given) (asked : Asked) → limit_of given ≤ most_limit →
-    asked_by subject given ≡ Some asked → IsBounded asked
-asked-bounded (machine_on program) given asked bound means =
-    subst IsBounded (some-same (machine program (limit_of given) (is_retired (lines_of given))
-    given.mul) asked means) bound
-asked-bounded (check_on layout) given asked bound means = subst IsBounded
-    (some-same (check (layout_in layout)) asked means) tt
-asked-bounded (list_on program) given asked bound means = subst IsBounded
-    (some-same (listing program) asked means) tt
-asked-bounded (asm_on source) given asked bound means = subst IsBounded
-    (some-same (asm source) asked means) tt
-asked-bounded (run_on layout program) given asked bound means = run-bounded layout program given
-    given.script asked bound means
+given-bounded : (subject : Subject) (given : Given) → limit_of given ≤ most_limit →
+    IsBounded (asked_by subject given)
+given-bounded (machine_on program) given bound = bound
+given-bounded (check_on layout) given bound = tt
+given-bounded (list_on program) given bound = tt
+given-bounded (asm_on source) given bound = tt
+given-bounded (run_on layout program) given bound = bound
 
 pub asks-bounded : (words : List (List ℕ)) (asked : Asked) → Asks words asked → IsBounded asked
 asks-bounded words asked asks =
-    asked-bounded asks.subject (given_in asks.settings) asked
-    (limit-bounded (name_of asks.subject) asks.settings asks.command.taken) asks.means
+    subst IsBounded asks.means
+    (given-bounded asks.subject (given_in asks.settings)
+    (limit-bounded (name_of asks.subject) asks.settings asks.command.taken))

@@ -4,7 +4,7 @@ use Rattle.cf_words.specs.declared.names.Name.{Name}
 use Rattle.cf_words.specs.declared.names.Name.TheVariants as names
 use Rattle.cf_words.specs.declared.options.Key.{Key}
 use Rattle.cf_words.specs.declared.options.Key.TheVariants as keys
-use Rattle.cf_words.specs.Options.{key_of, Setting, limit_to, show_lines, script_from, with_mul, Given}
+use Rattle.cf_words.specs.Options.{key_of, Setting, limit_to, show_lines, script_from, seed_from, with_mul, Given}
 use Rattle.cf_words.specs.Words.{is_built, Subject, machine_on, check_on, list_on, asm_on, run_on, positional_of}
 use Rattle.cf_words.specs.Reading.{State, start, named, laid, options, valued, follow, behind_first, behind_key, has_key, is_there}
 use Rattle.cf_words.proofs.Steps.{put, start-read, named-read, laid-read, option-read, value-read}
@@ -34,6 +34,7 @@ reached-key : (key : Key) (subject : Subject) (given : Given) → has_key given 
 reached-key keys.Limit subject given fresh = (refl, fresh)
 reached-key keys.Show subject given fresh = (refl, fresh)
 reached-key keys.Script subject given fresh = (refl, fresh)
+reached-key keys.Seed subject given fresh = (refl, fresh)
 reached-key keys.Mul subject given fresh = tt
 
 reached-next : (state : State) (word : List ℕ) (behind : State) → Reached state →
@@ -69,7 +70,7 @@ size_if true = 1
 size_if false = 0
 
 abbrev given_size : Given → ℕ
-given_size given = size_of given.limit + (size_of given.show + (size_of given.script + size_if given.mul))
+given_size given = size_of given.limit + (size_of given.show + (size_of given.schedule + size_if given.mul))
 
 abbrev size : State → ℕ
 size start = 0
@@ -98,6 +99,7 @@ size-key : (key : Key) (subject : Subject) (given : Given) → has_key given key
 size-key keys.Limit subject given fresh = omega arith
 size-key keys.Show subject given fresh = omega arith
 size-key keys.Script subject given fresh = omega arith
+size-key keys.Seed subject given fresh = omega arith
 size-key keys.Mul subject given fresh = omega (arith, size-if-false given.mul fresh)
 
 size-value : (setting : Setting) (subject : Subject) (given : Given) → has_value (key_of setting) ≡ true →
@@ -105,7 +107,8 @@ size-value : (setting : Setting) (subject : Subject) (given : Given) → has_val
     size (options subject (put given setting)) ≡ size (valued subject given (key_of setting)) + 1
 size-value (limit_to digits) subject given value fresh = omega (arith, not-there-size given.limit fresh)
 size-value (show_lines lines) subject given value fresh = omega (arith, not-there-size given.show fresh)
-size-value (script_from file) subject given value fresh = omega (arith, not-there-size given.script fresh)
+size-value (script_from file) subject given value fresh = omega (arith, not-there-size given.schedule fresh)
+size-value (seed_from digits) subject given value fresh = omega (arith, not-there-size given.schedule fresh)
 size-value with_mul subject given value fresh = absurd (cc)
 
 size-next : (state : State) (word : List ℕ) (behind : State) → Reached state →
@@ -157,8 +160,7 @@ given-few given = omega (
   arith,
   size-of-few given.limit,
   size-of-few given.show,
-  size-of-few
-      given.script,
+  size-of-few given.schedule,
   size-if-few given.mul,
 )
 

@@ -4,10 +4,10 @@ use Rattle.std.specs.Option.{option_or}
 use Rattle.std.specs.List.{list_all}
 use Rattle.cf_words.specs.declared.options.Key.{Key}
 use Rattle.cf_words.specs.declared.options.Key.TheVariants as keys
-use Rattle.cf_words.specs.Options.{key_word, show_word, key_of, value_words, written, takes_key, is_value, takes, Without, NoneTwice, Setting, limit_to, show_lines, script_from, with_mul, Given, given_in}
+use Rattle.cf_words.specs.Options.{key_word, show_word, key_of, value_words, written, takes_key, is_value, takes, Matter, limits, showing, schedules, multiplies, matter_of, Without, NoneTwice, Setting, limit_to, show_lines, script_from, seed_from, with_mul, Given, given_in}
 use Rattle.cf_words.specs.Words.{Subject, name_of, Asked, asked_by}
-use Rattle.cf_words.specs.Reading.{State, options, valued, follow, behind_key, has_key, is_there, nothing_given, completed}
-use Rattle.cf_words.proofs.Steps.{put, option-read, value-read, option-follows, limit-follows, lines-follow, script-follows}
+use Rattle.cf_words.specs.Reading.{State, options, valued, follow, behind_key, has_key, is_settled, is_there, nothing_given, completed}
+use Rattle.cf_words.proofs.Steps.{put, option-read, value-read, option-follows, limit-follows, lines-follow, script-follows, seed-follows}
 
 -- all words in turn
 abbrev pub after : {A B : Type 0} → Option A → (A → Option B) → Option B
@@ -40,7 +40,7 @@ reads-step state word words behind h = ap (λ (o : Option State). after o (λ be
 pub none-left : (state last : State) → reads state [] ≡ Some last → state ≡ last
 none-left state last h = cc
 
--- none of the options stands already, nor twice
+-- none of the options settles what is settled already
 abbrev pub Fresh : Given → List Setting → Type 0
 Fresh given [] = Unit {0}
 Fresh given (setting ∷ settings) = (has_key given (key_of setting) ≡ false) × Fresh (put given setting)
@@ -54,74 +54,84 @@ put-has : (given : Given) (setting : Setting) → has_key (put given setting) (k
 put-has given (limit_to digits) = refl
 put-has given (show_lines lines) = refl
 put-has given (script_from file) = refl
+put-has given (seed_from digits) = refl
 put-has given with_mul = refl
 
-put-keeps : (given : Given) (setting : Setting) (key : Key) → has_key given key ≡ true →
-    has_key (put given setting) key ≡ true
-put-keeps given (limit_to digits) keys.Limit h = refl
-put-keeps given (limit_to digits) keys.Show h = h
-put-keeps given (limit_to digits) keys.Script h = h
-put-keeps given (limit_to digits) keys.Mul h = h
-put-keeps given (show_lines lines) keys.Limit h = h
-put-keeps given (show_lines lines) keys.Show h = refl
-put-keeps given (show_lines lines) keys.Script h = h
-put-keeps given (show_lines lines) keys.Mul h = h
-put-keeps given (script_from file) keys.Limit h = h
-put-keeps given (script_from file) keys.Show h = h
-put-keeps given (script_from file) keys.Script h = refl
-put-keeps given (script_from file) keys.Mul h = h
-put-keeps given with_mul keys.Limit h = h
-put-keeps given with_mul keys.Show h = h
-put-keeps given with_mul keys.Script h = h
-put-keeps given with_mul keys.Mul h = refl
+put-keeps : (given : Given) (setting : Setting) (matter : Matter) → is_settled given matter ≡ true →
+    is_settled (put given setting) matter ≡ true
+put-keeps given (limit_to digits) limits h = refl
+put-keeps given (limit_to digits) showing h = h
+put-keeps given (limit_to digits) schedules h = h
+put-keeps given (limit_to digits) multiplies h = h
+put-keeps given (show_lines lines) limits h = h
+put-keeps given (show_lines lines) showing h = refl
+put-keeps given (show_lines lines) schedules h = h
+put-keeps given (show_lines lines) multiplies h = h
+put-keeps given (script_from file) limits h = h
+put-keeps given (script_from file) showing h = h
+put-keeps given (script_from file) schedules h = refl
+put-keeps given (script_from file) multiplies h = h
+put-keeps given (seed_from digits) limits h = h
+put-keeps given (seed_from digits) showing h = h
+put-keeps given (seed_from digits) schedules h = refl
+put-keeps given (seed_from digits) multiplies h = h
+put-keeps given with_mul limits h = h
+put-keeps given with_mul showing h = h
+put-keeps given with_mul schedules h = h
+put-keeps given with_mul multiplies h = refl
 
-put-other : (given : Given) (setting : Setting) (key : Key) → has_key given key ≡ false →
-    key_of setting ≢ key → has_key (put given setting) key ≡ false
-put-other given (limit_to digits) keys.Limit h other = absurd (other refl)
-put-other given (limit_to digits) keys.Show h other = h
-put-other given (limit_to digits) keys.Script h other = h
-put-other given (limit_to digits) keys.Mul h other = h
-put-other given (show_lines lines) keys.Limit h other = h
-put-other given (show_lines lines) keys.Show h other = absurd (other refl)
-put-other given (show_lines lines) keys.Script h other = h
-put-other given (show_lines lines) keys.Mul h other = h
-put-other given (script_from file) keys.Limit h other = h
-put-other given (script_from file) keys.Show h other = h
-put-other given (script_from file) keys.Script h other = absurd (other refl)
-put-other given (script_from file) keys.Mul h other = h
-put-other given with_mul keys.Limit h other = h
-put-other given with_mul keys.Show h other = h
-put-other given with_mul keys.Script h other = h
-put-other given with_mul keys.Mul h other = absurd (other refl)
+put-other : (given : Given) (setting : Setting) (matter : Matter) → is_settled given matter ≡ false →
+    matter_of (key_of setting) ≢ matter → is_settled (put given setting) matter ≡ false
+put-other given (limit_to digits) limits h other = absurd (other refl)
+put-other given (limit_to digits) showing h other = h
+put-other given (limit_to digits) schedules h other = h
+put-other given (limit_to digits) multiplies h other = h
+put-other given (show_lines lines) limits h other = h
+put-other given (show_lines lines) showing h other = absurd (other refl)
+put-other given (show_lines lines) schedules h other = h
+put-other given (show_lines lines) multiplies h other = h
+put-other given (script_from file) limits h other = h
+put-other given (script_from file) showing h other = h
+put-other given (script_from file) schedules h other = absurd (other refl)
+put-other given (script_from file) multiplies h other = h
+put-other given (seed_from digits) limits h other = h
+put-other given (seed_from digits) showing h other = h
+put-other given (seed_from digits) schedules h other = absurd (other refl)
+put-other given (seed_from digits) multiplies h other = h
+put-other given with_mul limits h other = h
+put-other given with_mul showing h other = h
+put-other given with_mul schedules h other = h
+put-other given with_mul multiplies h other = absurd (other refl)
 
--- fresh options do not stand twice
-fresh-without : (settings : List Setting) (given : Given) (key : Key) → has_key given key ≡ true →
-    Fresh given settings → Without key settings
-fresh-without [] given key h fresh = tt
-fresh-without (setting ∷ settings) given key h fresh = (
-  λ same. let f : has_key given (key_of setting) ≡ false = fresh.0 in
-      let g : has_key given (key_of setting) ≡ true = subst (λ k. has_key given k ≡ true) (sym same) h
+-- fresh options settle nothing twice
+fresh-without : (settings : List Setting) (given : Given) (matter : Matter) →
+    is_settled given matter ≡ true → Fresh given settings → Without matter settings
+fresh-without [] given matter h fresh = tt
+fresh-without (setting ∷ settings) given matter h fresh = (
+  λ same. let f : is_settled given (matter_of (key_of setting)) ≡ false = fresh.0 in
+      let g : is_settled given (matter_of (key_of setting)) ≡ true =
+      subst (λ m. is_settled given m ≡ true) (sym same) h
       in cc,
-  fresh-without settings (put given setting) key (put-keeps given setting key h) fresh.1,
+  fresh-without settings (put given setting) matter (put-keeps given setting matter h) fresh.1,
 )
 
 pub fresh-once : (settings : List Setting) (given : Given) → Fresh given settings → NoneTwice settings
 fresh-once [] given fresh = tt
 fresh-once (setting ∷ settings) given fresh = (
-  fresh-without settings (put given setting) (key_of setting) (put-has given setting) fresh.1,
+  fresh-without settings (put given setting) (matter_of (key_of setting)) (put-has given setting) fresh.1,
   fresh-once settings (put given setting) fresh.1,
 )
 
--- and options that do not stand twice are fresh
+-- and options that settle nothing twice are fresh
 abbrev Clear : Given → List Setting → Type 0
 Clear given [] = Unit {0}
 Clear given (setting ∷ settings) = (has_key given (key_of setting) ≡ false) × Clear given settings
 
 clear-put : (settings : List Setting) (given : Given) (setting : Setting) → Clear given settings →
-    Without (key_of setting) settings → Clear (put given setting) settings
+    Without (matter_of (key_of setting)) settings → Clear (put given setting) settings
 clear-put [] given setting clear without = tt
 clear-put (next ∷ settings) given setting clear without = (
-  put-other given setting (key_of next) clear.0 (λ same. without.0 (sym same)),
+  put-other given setting (matter_of (key_of next)) clear.0 (λ same. without.0 (sym same)),
   clear-put settings given setting clear.1 without.1,
 )
 
@@ -138,6 +148,7 @@ nothing-has : (key : Key) → has_key nothing_given key ≡ false
 nothing-has keys.Limit = refl
 nothing-has keys.Show = refl
 nothing-has keys.Script = refl
+nothing-has keys.Seed = refl
 nothing-has keys.Mul = refl
 
 clear-nothing : (settings : List Setting) → Clear nothing_given settings
@@ -152,7 +163,7 @@ abbrev joined : Given → Given → Given
 joined given more = record {
   limit = option_or given.limit more.limit;
   show = option_or given.show more.show;
-  script = option_or given.script more.script;
+  schedule = option_or given.schedule more.schedule;
   mul = given.mul || more.mul;
 }
 
@@ -165,7 +176,8 @@ joined-put : (given : Given) (setting : Setting) (settings : List Setting) →
     joined (put given setting) (given_in settings) ≡ joined given (given_in (setting ∷ settings))
 joined-put given (limit_to digits) settings h = let e = not-there given.limit h in rw e
 joined-put given (show_lines lines) settings h = let e = not-there given.show h in rw e
-joined-put given (script_from file) settings h = let e = not-there given.script h in rw e
+joined-put given (script_from file) settings h = let e = not-there given.schedule h in rw e
+joined-put given (seed_from digits) settings h = let e = not-there given.schedule h in rw e
 joined-put given with_mul settings h = rw h
 
 or-none : {A : Type 0} → (o : Option A) → option_or o None ≡ o
@@ -179,7 +191,7 @@ or-false false = refl
 put-joined : (settings : List Setting) (given : Given) → Fresh given settings →
     put_all given settings ≡ joined given (given_in settings)
 put-joined [] given fresh =
-    sym (rw (or-none given.limit, or-none given.show, or-none given.script, or-false given.mul))
+    sym (rw (or-none given.limit, or-none given.show, or-none given.schedule, or-false given.mul))
 put-joined (setting ∷ settings) given fresh =
     put-joined settings (put given setting) fresh.1 ∙ joined-put given setting settings fresh.0
 
@@ -193,7 +205,7 @@ pub record Tail (subject : Subject) (given : Given) (words : List (List ℕ)) (a
   pub words_are : words ≡ written settings
   pub taken : list_all (takes (name_of subject)) settings ≡ true
   pub fresh : Fresh given settings
-  pub means : asked_by subject (put_all given settings) ≡ Some asked
+  pub means : asked_by subject (put_all given settings) ≡ asked
 
 tail-none : (subject : Subject) (given : Given) (last : State) (asked : Asked) →
     reads (options subject given) [] ≡ Some last → completed last ≡ Some asked →
@@ -203,7 +215,7 @@ tail-none subject given last asked h done =
     let e : options subject given ≡ last = cc in
     let m : completed (options subject given) ≡ Some asked = subst (λ s. completed s ≡ Some asked)
     (sym e) done in
-    record { settings = []; words_are = refl; taken = refl; fresh = tt; means = m }
+    record { settings = []; words_are = refl; taken = refl; fresh = tt; means = cc m }
 
 -- one more option before the others
 tail-more : (subject : Subject) (given : Given) (setting : Setting) (words : List (List ℕ))
@@ -265,6 +277,8 @@ tail-keyed keys.Show subject given words last asked taken fresh h done next late
     tail-valued keys.Show subject given words last asked taken fresh h done later
 tail-keyed keys.Script subject given words last asked taken fresh h done next later =
     tail-valued keys.Script subject given words last asked taken fresh h done later
+tail-keyed keys.Seed subject given words last asked taken fresh h done next later =
+    tail-valued keys.Seed subject given words last asked taken fresh h done later
 tail-keyed keys.Mul subject given words last asked taken fresh h done next later =
     tail-more subject given with_mul words asked taken refl fresh (next (put given with_mul) h)
 
@@ -330,6 +344,13 @@ setting-read (script_from file) subject given words taken allowed fresh =
     ∙ reads-step (valued subject given keys.Script) file words
     (options subject (put given (script_from file)))
     (script-follows subject given file allowed)
+setting-read (seed_from digits) subject given words taken allowed fresh =
+    reads-step (options subject given) (key_word keys.Seed) (digits ∷ words)
+    (valued subject given keys.Seed)
+    (option-follows subject given keys.Seed taken fresh)
+    ∙ reads-step (valued subject given keys.Seed) digits words
+    (options subject (put given (seed_from digits)))
+    (seed-follows subject given digits allowed)
 setting-read with_mul subject given words taken allowed fresh =
     reads-step (options subject given) (key_word keys.Mul) words (options subject (put given with_mul))
     (option-follows subject given keys.Mul taken fresh)

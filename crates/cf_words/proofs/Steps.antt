@@ -6,16 +6,17 @@ use Rattle.cf_words.specs.declared.options.Show.{Show}
 use Rattle.cf_words.specs.declared.options.Key.{Key}
 use Rattle.cf_words.specs.declared.options.Key.TheVariants as keys
 use Rattle.cf_words.specs.Values.{is_file_name, is_number}
-use Rattle.cf_words.specs.Options.{key_word, show_word, key_of, value_words, takes_key, has_lines, is_value, most_limit, Setting, limit_to, show_lines, script_from, with_mul, Given}
+use Rattle.cf_words.specs.Options.{key_word, show_word, key_of, value_words, takes_key, has_lines, is_value, most_limit, most_seed, Setting, limit_to, show_lines, script_from, seed_from, with_mul, by_script, by_seed, Given}
 use Rattle.cf_words.specs.Words.{is_built, word_of, Subject, run_on, name_of}
-use Rattle.cf_words.specs.Reading.{State, start, named, laid, options, valued, follow, when, behind_name, behind_first, behind_key, behind_option, behind_value, has_key, with_value, with_limit, with_lines, name_in, key_in, lines_in, number_in, nothing_given}
+use Rattle.cf_words.specs.Reading.{State, start, named, laid, options, valued, follow, when, behind_name, behind_first, behind_key, behind_option, behind_value, has_key, with_value, with_limit, with_seed, with_lines, name_in, key_in, lines_in, number_in, nothing_given}
 use Rattle.cf_words.proofs.Texts.{name-read, name-written, key-read, key-written, lines-read, lines-written}
 
 -- what is given with one more option
 abbrev pub put : Given → Setting → Given
 put given (limit_to digits) = record given { limit = Some (digits_value 10 digits) }
 put given (show_lines lines) = record given { show = Some lines }
-put given (script_from file) = record given { script = Some file }
+put given (script_from file) = record given { schedule = Some (by_script file) }
+put given (seed_from digits) = record given { schedule = Some (by_seed (digits_value 10 digits)) }
 put given with_mul = record given { mul = true }
 
 when-some : {A : Type 0} → (b : Bool) (x y : A) → when b x ≡ Some y → (b ≡ true) × (y ≡ x)
@@ -165,11 +166,19 @@ lines-found (Some lines) subject given word behind e h =
 
 script-tested : (b : Bool) (subject : Subject) (given : Given) (word : List ℕ) (behind : State) →
     is_file_name word ≡ b →
-    behind_value subject (when b (record given { script = Some word })) ≡ Some behind →
+    behind_value subject (when b (record given { schedule = Some (by_script word) })) ≡ Some behind →
     ValueRead subject given keys.Script word behind
 script-tested true subject given word behind t h =
     record { setting = script_from word; key_is = refl; word_is = refl; allowed = t; behind_is = cc }
 script-tested false subject given word behind t h = absurd (cc)
+
+seed-found : (found : Option ℕ) (subject : Subject) (given : Given) (word : List ℕ) (behind : State) →
+    number_in most_seed word ≡ found → behind_value subject (with_seed given found) ≡ Some behind →
+    ValueRead subject given keys.Seed word behind
+seed-found None subject given word behind e h = absurd (cc)
+seed-found (Some number) subject given word behind e h =
+    let n = number-test most_seed word number e in
+    record { setting = seed_from word; key_is = refl; word_is = refl; allowed = n.0; behind_is = cc (n.1) }
 
 pub value-read : (key : Key) (subject : Subject) (given : Given) (word : List ℕ) (behind : State) →
     follow (valued subject given key) word ≡ Some behind → ValueRead subject given key word behind
@@ -180,6 +189,8 @@ value-read keys.Show subject given word behind h =
     lines-found (lines_in word) subject given word behind refl h
 value-read keys.Script subject given word behind h =
     script-tested (is_file_name word) subject given word behind refl h
+value-read keys.Seed subject given word behind h =
+    seed-found (number_in most_seed word) subject given word behind refl h
 value-read keys.Mul subject given word behind h = absurd (cc)
 
 number-is : (most : ℕ) (word : List ℕ) → is_number most word ≡ true →
@@ -192,6 +203,12 @@ pub limit-follows : (subject : Subject) (given : Given) (word : List ℕ) →
     follow (valued subject given keys.Limit) word ≡ Some (options subject (put given (limit_to word)))
 unfolding follow with_value
 limit-follows subject given word h = rw (number-is most_limit word h)
+
+pub seed-follows : (subject : Subject) (given : Given) (word : List ℕ) →
+    is_number most_seed word ≡ true →
+    follow (valued subject given keys.Seed) word ≡ Some (options subject (put given (seed_from word)))
+unfolding follow with_value
+seed-follows subject given word h = rw (number-is most_seed word h)
 
 pub lines-follow : (subject : Subject) (given : Given) (lines : Show) →
     has_lines (name_of subject) lines ≡ true →

@@ -36,6 +36,7 @@ unfolding key_in
 key-read word keys.Limit h = is-text word (codes "--limit") (grind arith)
 key-read word keys.Show h = is-text word (codes "--show") (grind arith)
 key-read word keys.Script h = is-text word (codes "--script") (grind arith)
+key-read word keys.Seed h = is-text word (codes "--seed") (grind arith)
 key-read word keys.Mul h = is-text word (codes "--mul") (grind arith)
 
 pub key-written : (key : Key) → key_in (key_word key) ≡ Some key
@@ -43,6 +44,7 @@ unfolding key_in
 key-written keys.Limit = refl
 key-written keys.Show = refl
 key-written keys.Script = refl
+key-written keys.Seed = refl
 key-written keys.Mul = refl
 
 pub lines-read : (word : List ℕ) (lines : Show) → lines_in word ≡ Some lines → word ≡ show_word lines

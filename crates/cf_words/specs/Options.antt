@@ -14,6 +14,7 @@ pub data Setting : Type 0 where
   limit_to : (digits : List ℕ) → Setting
   show_lines : Show → Setting
   script_from : (file : List ℕ) → Setting
+  seed_from : (digits : List ℕ) → Setting
   with_mul : Setting
 
 -- which option it is
@@ -21,6 +22,7 @@ abbrev pub key_of : Setting → Key
 key_of (limit_to digits) = keys.Limit
 key_of (show_lines lines) = keys.Show
 key_of (script_from file) = keys.Script
+key_of (seed_from digits) = keys.Seed
 key_of with_mul = keys.Mul
 
 -- the option's own word
@@ -28,6 +30,7 @@ abbrev pub key_word : Key → List ℕ
 key_word keys.Limit = codes "--limit"
 key_word keys.Show = codes "--show"
 key_word keys.Script = codes "--script"
+key_word keys.Seed = codes "--seed"
 key_word keys.Mul = codes "--mul"
 
 -- the word for what is shown
@@ -41,6 +44,7 @@ abbrev pub value_words : Setting → List (List ℕ)
 value_words (limit_to digits) = digits ∷ []
 value_words (show_lines lines) = show_word lines ∷ []
 value_words (script_from file) = file ∷ []
+value_words (seed_from digits) = digits ∷ []
 value_words with_mul = []
 
 -- the words of the options, in their order
@@ -53,10 +57,12 @@ abbrev pub takes_key : Name → Key → Bool
 takes_key names.Machine keys.Limit = true
 takes_key names.Machine keys.Show = true
 takes_key names.Machine keys.Script = false
+takes_key names.Machine keys.Seed = false
 takes_key names.Machine keys.Mul = true
 takes_key names.Run keys.Limit = true
 takes_key names.Run keys.Show = true
 takes_key names.Run keys.Script = true
+takes_key names.Run keys.Seed = true
 takes_key names.Run keys.Mul = false
 takes_key _ _ = false
 
@@ -70,26 +76,52 @@ has_lines _ lines = true
 abbrev pub most_limit : ℕ
 most_limit = 1000000000
 
+-- the greatest seed
+abbrev pub most_seed : ℕ
+most_seed = 4294967295
+
 -- a value that the option may have
 abbrev pub is_value : Name → Setting → Bool
 is_value name (limit_to digits) = is_number most_limit digits
 is_value name (show_lines lines) = has_lines name lines
 is_value name (script_from file) = is_file_name file
+is_value name (seed_from digits) = is_number most_seed digits
 is_value name with_mul = true
 
 -- the command has the option, and it may have that value
 abbrev pub takes : Name → Setting → Bool
 takes name setting = takes_key name (key_of setting) && is_value name setting
 
--- an option is none of these
-abbrev pub Without : Key → List Setting → Type 0
-Without key [] = Unit {0}
-Without key (setting ∷ settings) = (key_of setting ≢ key) × Without key settings
+-- what options settle
+pub data Matter : Type 0 where
+  limits : Matter
+  showing : Matter
+  schedules : Matter
+  multiplies : Matter
 
--- no option stands twice
+-- each option settles one matter; a script and a seed both settle the schedule
+abbrev pub matter_of : Key → Matter
+matter_of keys.Limit = limits
+matter_of keys.Show = showing
+matter_of keys.Script = schedules
+matter_of keys.Seed = schedules
+matter_of keys.Mul = multiplies
+
+-- none of these options settles the matter
+abbrev pub Without : Matter → List Setting → Type 0
+Without matter [] = Unit {0}
+Without matter (setting ∷ settings) = (matter_of (key_of setting) ≢ matter) × Without matter settings
+
+-- nothing is settled twice: no option stands twice, and a script excludes a seed
 abbrev pub NoneTwice : List Setting → Type 0
 NoneTwice [] = Unit {0}
-NoneTwice (setting ∷ settings) = Without (key_of setting) settings × NoneTwice settings
+NoneTwice (setting ∷ settings) = Without (matter_of (key_of setting)) settings × NoneTwice settings
+
+-- what chooses the moves of a run: the script in a file, a seed from which they are drawn, or the fixed rule
+pub data Schedule : Type 0 where
+  by_script : (file : List ℕ) → Schedule
+  by_seed : (seed : ℕ) → Schedule
+  by_rule : Schedule
 
 -- the limit among them
 abbrev pub limit_in : List Setting → Option ℕ
@@ -103,11 +135,12 @@ show_in [] = None
 show_in (show_lines lines ∷ settings) = Some lines
 show_in (_ ∷ settings) = show_in settings
 
--- the file of the script
-abbrev pub script_in : List Setting → Option (List ℕ)
-script_in [] = None
-script_in (script_from file ∷ settings) = Some file
-script_in (_ ∷ settings) = script_in settings
+-- the schedule
+abbrev pub schedule_in : List Setting → Option Schedule
+schedule_in [] = None
+schedule_in (script_from file ∷ settings) = Some (by_script file)
+schedule_in (seed_from digits ∷ settings) = Some (by_seed (digits_value 10 digits))
+schedule_in (_ ∷ settings) = schedule_in settings
 
 -- whether `--mul` is there
 abbrev pub mul_in : List Setting → Bool
@@ -119,7 +152,7 @@ mul_in (_ ∷ settings) = mul_in settings
 pub record Given : Type 0 where
   pub limit : Option ℕ
   pub show : Option Show
-  pub script : Option (List ℕ)
+  pub schedule : Option Schedule
   pub mul : Bool
 
 -- what stands among them
@@ -127,6 +160,6 @@ abbrev pub given_in : List Setting → Given
 given_in settings = record {
   limit = limit_in settings;
   show = show_in settings;
-  script = script_in settings;
+  schedule = schedule_in settings;
   mul = mul_in settings;
 }

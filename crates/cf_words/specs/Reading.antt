@@ -9,7 +9,7 @@ use Rattle.cf_words.specs.declared.options.Show.TheVariants as shows
 use Rattle.cf_words.specs.declared.options.Key.{Key}
 use Rattle.cf_words.specs.declared.options.Key.TheVariants as keys
 use Rattle.cf_words.specs.Values.{is_file_name, is_number}
-use Rattle.cf_words.specs.Options.{takes_key, has_lines, most_limit, Given}
+use Rattle.cf_words.specs.Options.{takes_key, has_lines, most_limit, most_seed, Matter, limits, showing, schedules, multiplies, matter_of, by_script, by_seed, Given}
 use Rattle.cf_words.specs.Words.{is_built, Subject, machine_on, check_on, list_on, asm_on, run_on, name_of, Asked, asked_by}
 
 -- a word that is this text
@@ -32,6 +32,7 @@ key_in word =
     if is_text word (codes "--limit") then Some keys.Limit
     else if is_text word (codes "--show") then Some keys.Show
     else if is_text word (codes "--script") then Some keys.Script
+    else if is_text word (codes "--seed") then Some keys.Seed
     else if is_text word (codes "--mul") then Some keys.Mul
     else None
 
@@ -49,19 +50,23 @@ number_in most word = if is_number most word then Some (digits_value 10 word) el
 
 -- no option yet
 abbrev pub nothing_given : Given
-nothing_given = record { limit = None; show = None; script = None; mul = false }
+nothing_given = record { limit = None; show = None; schedule = None; mul = false }
 
 -- whether there is one
 abbrev pub is_there : {A : Type 0} → Option A → Bool
 is_there None = false
 is_there (Some x) = true
 
--- whether an option stands already
+-- whether a matter is settled already
+abbrev pub is_settled : Given → Matter → Bool
+is_settled given limits = is_there given.limit
+is_settled given showing = is_there given.show
+is_settled given schedules = is_there given.schedule
+is_settled given multiplies = given.mul
+
+-- whether what an option settles is settled already
 abbrev pub has_key : Given → Key → Bool
-has_key given keys.Limit = is_there given.limit
-has_key given keys.Show = is_there given.show
-has_key given keys.Script = is_there given.script
-has_key given keys.Mul = given.mul
+has_key given key = is_settled given (matter_of key)
 
 -- what is known behind the words that were read
 pub data State : Type 0 where
@@ -94,6 +99,7 @@ abbrev pub behind_key : Subject → Given → Key → State
 behind_key subject given keys.Limit = valued subject given keys.Limit
 behind_key subject given keys.Show = valued subject given keys.Show
 behind_key subject given keys.Script = valued subject given keys.Script
+behind_key subject given keys.Seed = valued subject given keys.Seed
 behind_key subject given keys.Mul = options subject (record given { mul = true })
 
 -- the same, where the word is one that the command has and that did not stand before
@@ -112,11 +118,18 @@ abbrev pub with_limit : Given → Option ℕ → Option Given
 with_limit given None = None
 with_limit given (Some limit) = Some (record given { limit = Some limit })
 
+-- a seed
+abbrev pub with_seed : Given → Option ℕ → Option Given
+with_seed given None = None
+with_seed given (Some seed) = Some (record given { schedule = Some (by_seed seed) })
+
 -- what is given with the value of an option
 unfoldable pub with_value : Name → Given → Key → List ℕ → Option Given
 with_value name given keys.Limit word = with_limit given (number_in most_limit word)
 with_value name given keys.Show word = with_lines name given (lines_in word)
-with_value name given keys.Script word = when (is_file_name word) (record given { script = Some word })
+with_value name given keys.Script word =
+    when (is_file_name word) (record given { schedule = Some (by_script word) })
+with_value name given keys.Seed word = with_seed given (number_in most_seed word)
 with_value name given keys.Mul word = None
 
 -- behind an option's value
@@ -134,5 +147,5 @@ follow (valued subject given key) word = behind_value subject (with_value (name_
 
 -- what is asked where no word is left, or nothing where one is missing
 unfoldable pub completed : State → Option Asked
-completed (options subject given) = asked_by subject given
+completed (options subject given) = Some (asked_by subject given)
 completed _ = None

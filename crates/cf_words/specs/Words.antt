@@ -1,5 +1,5 @@
 -- The grammar of the project's command line: accepted words, what they ask, and the first word that has no place.
-use Rattle.std.specs.Prelude.{◌≡◌, ◌≤◌, ◌+◌, ℕ, List, [], ◌∷◌, ◌++◌, codes, length, take, nat_eq, Bool, true, false, Option, Some, option_map, if◌then◌else◌}
+use Rattle.std.specs.Prelude.{◌≡◌, ◌≤◌, ◌+◌, ℕ, List, [], ◌∷◌, ◌++◌, codes, length, take, nat_eq, Bool, true, false, if◌then◌else◌}
 use Rattle.std.specs.List.{list_all}
 use Rattle.std.specs.Option.{unwrap_or}
 use lib.Pointwise.{pointwise}
@@ -8,7 +8,7 @@ use Rattle.cf_words.specs.declared.names.Name.TheVariants as names
 use Rattle.cf_words.specs.declared.options.Show.{Show}
 use Rattle.cf_words.specs.declared.options.Show.TheVariants as shows
 use Rattle.cf_words.specs.Values.{is_file_name}
-use Rattle.cf_words.specs.Options.{Setting, written, takes, most_limit, NoneTwice, Given, given_in}
+use Rattle.cf_words.specs.Options.{Setting, written, takes, most_limit, NoneTwice, Schedule, by_rule, Given, given_in}
 
 -- the commands that are built: the one place that says so
 unfoldable pub is_built : Name → Bool
@@ -50,8 +50,8 @@ positional_of (list_on program) = program ∷ []
 positional_of (asm_on source) = source ∷ []
 positional_of (run_on layout program) = layout ∷ program ∷ []
 
--- the words are a built command's, with its positional words and behind them options of that command, of which
--- none stands twice
+-- the words are a built command's, with its positional words and behind them options of that command, which
+-- settle nothing twice
 pub record IsCommand (words : List (List ℕ)) (subject : Subject) (settings : List Setting) : Type 0 where
   pub built : is_built (name_of subject) ≡ true
   pub words_are : words ≡ word_of (name_of subject) ∷ (positional_of subject ++ written settings)
@@ -74,7 +74,7 @@ pub data Asked : Type 0 where
   check : Layout → Asked
   listing : (program : List ℕ) → Asked
   asm : (source : List ℕ) → Asked
-  run : Layout → (program : List ℕ) (script : List ℕ) (limit : ℕ) (lines : Show) → Asked
+  run : Layout → (program : List ℕ) → Schedule → (limit : ℕ) (lines : Show) → Asked
 
 -- the limit, which is 10,000,000 where none is given
 abbrev pub limit_of : Given → ℕ
@@ -84,25 +84,29 @@ limit_of given = unwrap_or given.limit 10000000
 abbrev pub lines_of : Given → Show
 lines_of given = unwrap_or given.show shows.Report
 
+-- the schedule, which is the fixed rule where neither a script nor a seed is given
+abbrev pub schedule_of : Given → Schedule
+schedule_of given = unwrap_or given.schedule by_rule
+
 -- whether retired instructions are shown
 abbrev pub is_retired : Show → Bool
 is_retired shows.Retired = true
 is_retired _ = false
 
--- what a command asks with what its options give: a run needs a script
-abbrev pub asked_by : Subject → Given → Option Asked
+-- what a command asks with what its options give
+abbrev pub asked_by : Subject → Given → Asked
 asked_by (machine_on program) given =
-    Some (machine program (limit_of given) (is_retired (lines_of given)) given.mul)
-asked_by (check_on layout) given = Some (check (layout_in layout))
-asked_by (list_on program) given = Some (listing program)
-asked_by (asm_on source) given = Some (asm source)
+    machine program (limit_of given) (is_retired (lines_of given)) given.mul
+asked_by (check_on layout) given = check (layout_in layout)
+asked_by (list_on program) given = listing program
+asked_by (asm_on source) given = asm source
 asked_by (run_on layout program) given =
-    option_map (λ script. run (layout_in layout) program script (limit_of given) (lines_of given)) given.script
+    run (layout_in layout) program (schedule_of given) (limit_of given) (lines_of given)
 
 -- a limit that is asked is within its bound
 abbrev pub IsBounded : Asked → Type 0
 IsBounded (machine program limit retired mul) = limit ≤ most_limit
-IsBounded (run layout program script limit lines) = limit ≤ most_limit
+IsBounded (run layout program schedule limit lines) = limit ≤ most_limit
 IsBounded _ = Unit {0}
 
 -- the words are accepted, and ask this
@@ -110,7 +114,7 @@ pub record Asks (words : List (List ℕ)) (asked : Asked) : Type 0 where
   pub subject : Subject
   pub settings : List Setting
   pub command : IsCommand words subject settings
-  pub means : asked_by subject (given_in settings) ≡ Some asked
+  pub means : asked_by subject (given_in settings) ≡ asked
 
 -- the words before this index begin those of some command; with the word at it, or with none there, they begin
 -- those of no command

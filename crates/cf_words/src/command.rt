@@ -6,7 +6,7 @@ ghost use Rattle.cf_words.specs.Words.{Asks, IsBadAt, IsBounded, layout_in};
 ghost use Rattle.cf_words.specs.Reading.{completed};
 ghost use Rattle.cf_words.specs.Views.{state_of, asked_of, layout_of};
 
-use crate::options::{Options, Show};
+use crate::options::{Options, Schedule, Show};
 use crate::reading::{Reading, Subject};
 
 /// The limit where `--limit` is not given.
@@ -26,8 +26,8 @@ pub struct MachineOptions {
 /// The options of `run`.
 #[derive(Clone, Copy)]
 pub struct RunOptions<'a> {
-    /// The file with the moves.
-    pub script: &'a str,
+    /// What chooses the moves.
+    pub schedule: Schedule<'a>,
     /// How many instructions are retired at most.
     pub limit: u64,
     /// What is shown before the closing report.
@@ -63,7 +63,7 @@ pub enum Command<'a> {
     Asm {
         source: &'a str,
     },
-    /// Runs the processor by a script.
+    /// Runs the processor.
     Run {
         layout: LayoutWord<'a>,
         program: &'a str,
@@ -89,6 +89,7 @@ fn complete<'a>(reading: Reading<'a>) -> Option<Command<'a>>
     };
     let limit = options.limit.unwrap_or(DEFAULT_LIMIT);
     let show = options.show.unwrap_or(Show::Report);
+    let schedule = options.schedule.unwrap_or(Schedule::Rule);
     match subject {
         Subject::Machine(program) => Some(Command::Machine {
             program,
@@ -103,18 +104,15 @@ fn complete<'a>(reading: Reading<'a>) -> Option<Command<'a>>
         }),
         Subject::List(program) => Some(Command::List { program }),
         Subject::Asm(source) => Some(Command::Asm { source }),
-        Subject::Run(layout, program) => {
-            let script = options.script?;
-            Some(Command::Run {
-                layout: layout_word(layout),
-                program,
-                options: RunOptions {
-                    script,
-                    limit,
-                    show,
-                },
-            })
-        }
+        Subject::Run(layout, program) => Some(Command::Run {
+            layout: layout_word(layout),
+            program,
+            options: RunOptions {
+                schedule,
+                limit,
+                show,
+            },
+        }),
     }
 }
 

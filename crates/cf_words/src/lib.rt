@@ -8,7 +8,7 @@ mod options;
 mod reading;
 
 pub use command::{Command, LayoutWord, MachineOptions, RunOptions, read_words};
-pub use options::Show;
+pub use options::{Schedule, Show};
 
 #[cfg(test)]
 mod tests;

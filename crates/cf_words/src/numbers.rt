@@ -1,7 +1,7 @@
 //! Numbers on the command line.
 #![tactic(auto, unfolding(crate::specs::Reading::number_in), using(crate::proofs::Digits::digits))]
 
-ghost use Rattle.std.specs.Prelude.{◌≡◌};
+ghost use Rattle.std.specs.Prelude.{◌≡◌, ◌≤◌, IfSome};
 ghost use Rattle.std.specs.List.{list_all};
 ghost use Rattle.cf_words.specs.Values.{is_digit, is_numeral as is_number_word};
 ghost use Rattle.cf_words.specs.Reading.{number_in};
@@ -23,7 +23,8 @@ fn is_numeral(word: &str) -> bool
 
 /// The number that a word writes in 1 to 10 decimal digits, where it is at most `most`.
 pub(crate) fn read_number(word: &str, most: u64) -> Option<u64>
-    ensures { result ≡ number_in most word.now }
+    ensures number { result ≡ number_in most word.now }
+    ensures within { IfSome result (λ number. number ≤ most) }
 {
     if !is_numeral(word) {
         return None;

@@ -12,6 +12,9 @@ use crate::numbers::read_number;
 /// The greatest number of retired instructions behind `--limit`.
 const MOST_LIMIT: u64 = 1_000_000_000;
 
+/// The greatest seed behind `--seed`.
+const MOST_SEED: u64 = 0xFFFF_FFFF;
+
 /// What is shown of a run.
 #[derive(Clone, Copy)]
 pub enum Show {
@@ -23,12 +26,24 @@ pub enum Show {
     Moves,
 }
 
+/// What chooses the moves of a run.
+#[derive(Clone, Copy)]
+pub enum Schedule<'a> {
+    /// The script in a file of this name.
+    Script(&'a str),
+    /// They are drawn from this seed.
+    Seed(u32),
+    /// The fixed rule.
+    Rule,
+}
+
 /// The options by their own words.
 #[derive(Clone, Copy)]
 pub(crate) enum Key {
     Limit,
     Show,
     Script,
+    Seed,
     Mul,
 }
 
@@ -37,7 +52,7 @@ pub(crate) enum Key {
 pub(crate) struct Options<'a> {
     pub(crate) limit: Option<u64>,
     pub(crate) show: Option<Show>,
-    pub(crate) script: Option<&'a str>,
+    pub(crate) schedule: Option<Schedule<'a>>,
     pub(crate) mul: bool,
 }
 
@@ -50,6 +65,7 @@ impl Key {
             "--limit" => Some(Key::Limit),
             "--show" => Some(Key::Show),
             "--script" => Some(Key::Script),
+            "--seed" => Some(Key::Seed),
             "--mul" => Some(Key::Mul),
             _ => None,
         }
@@ -61,7 +77,7 @@ impl Key {
     {
         match (name, self) {
             (Name::Machine, Key::Limit | Key::Show | Key::Mul) => true,
-            (Name::Run, Key::Limit | Key::Show | Key::Script) => true,
+            (Name::Run, Key::Limit | Key::Show | Key::Script | Key::Seed) => true,
             _ => false,
         }
     }
@@ -100,19 +116,19 @@ impl<'a> Options<'a> {
         Options {
             limit: None,
             show: None,
-            script: None,
+            schedule: None,
             mul: false,
         }
     }
 
-    /// Whether this option was read already.
+    /// Whether what this option settles was settled already: a script and a seed exclude each other.
     pub(crate) fn has(&self, key: Key) -> bool
         ensures { result ≡ has_key (given_of self.now) key }
     {
         match key {
             Key::Limit => self.limit.is_some(),
             Key::Show => self.show.is_some(),
-            Key::Script => self.script.is_some(),
+            Key::Script | Key::Seed => self.schedule.is_some(),
             Key::Mul => self.mul,
         }
     }
@@ -137,9 +153,16 @@ impl<'a> Options<'a> {
                 })
             }
             Key::Script => is_file_name(word).then_some(Options {
-                script: Some(word),
+                schedule: Some(Schedule::Script(word)),
                 ..self
             }),
+            Key::Seed => {
+                let seed = read_number(word, MOST_SEED)?;
+                Some(Options {
+                    schedule: Some(Schedule::Seed(seed as u32)),
+                    ..self
+                })
+            }
             Key::Mul => None,
         }
     }

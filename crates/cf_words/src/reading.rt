@@ -82,7 +82,9 @@ fn behind_subject<'a>(
                 ..options
             },
         )),
-        Key::Limit | Key::Show | Key::Script => Some(Reading::Value(subject, options, key)),
+        Key::Limit | Key::Show | Key::Script | Key::Seed => Some(Reading::Value(
+            subject, options, key,
+        )),
     }
 }
 

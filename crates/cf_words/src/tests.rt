@@ -112,12 +112,17 @@ fn check_words(rt: HostRuntime) -> Result<(), Fail> {
     Ok(())
 }
 
-/// Whether the words ask to run the processor by the script `s`, and the limit of that run.
-fn run_asked(words: &[String]) -> Result<(bool, u64), u32> {
-    match read_words(words)? {
-        Command::Run { options, .. } => Ok((options.script == "s", options.limit)),
-        _ => Err(99),
-    }
+/// The script or the seed by which the words ask to run the processor, and the limit of that run.
+fn run_asked(words: &[String]) -> Result<(Option<&str>, Option<u32>, u64), u32> {
+    let Command::Run { options, .. } = read_words(words)? else {
+        return Err(99);
+    };
+    let (script, seed) = match options.schedule {
+        Schedule::Script(file) => (Some(file), None),
+        Schedule::Seed(seed) => (None, Some(seed)),
+        Schedule::Rule => (None, None),
+    };
+    Ok((script, seed, options.limit))
 }
 
 #[test]
@@ -126,24 +131,37 @@ fn run_words(rt: HostRuntime) -> Result<(), Fail> {
     let rows = [
         (
             ["run", "plain", "p", "--script", "s"].as_slice(),
-            Ok((true, 10_000_000)),
+            Ok((Some("s"), None, 10_000_000)),
         ),
         (
             [
                 "run", "l", "p", "--show", "moves", "--limit", "0", "--script", "s",
             ]
             .as_slice(),
-            Ok((true, 0)),
+            Ok((Some("s"), None, 0)),
         ),
         (["run"].as_slice(), Err(1)),
         (["run", "plain"].as_slice(), Err(2)),
-        // A run needs a script; schedules by a seed are not built.
-        (["run", "plain", "p"].as_slice(), Err(3)),
-        (["run", "plain", "p", "--seed", "1"].as_slice(), Err(3)),
+        (
+            ["run", "plain", "p"].as_slice(),
+            Ok((None, None, 10_000_000)),
+        ),
+        (
+            ["run", "plain", "p", "--seed", "4294967295"].as_slice(),
+            Ok((None, Some(4_294_967_295), 10_000_000)),
+        ),
+        (
+            ["run", "plain", "p", "--seed", "4294967296"].as_slice(),
+            Err(4),
+        ),
         (["run", "plain", "p", "--mul"].as_slice(), Err(3)),
         (["run", "plain", "p", "--script"].as_slice(), Err(4)),
         (
             ["run", "plain", "p", "--script", "s", "--seed", "1"].as_slice(),
+            Err(5),
+        ),
+        (
+            ["run", "plain", "p", "--seed", "1", "--script", "s"].as_slice(),
             Err(5),
         ),
     ];

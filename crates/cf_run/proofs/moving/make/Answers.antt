@@ -1,20 +1,17 @@
 use Rattle.cf_run.specs.Moving.{Does}
-use Rattle.cf_run.proofs.Moves.{made-shown, made-unshown, does-barred, does-read_fault, does-write_fault}
+use Rattle.cf_run.proofs.Moves.{made-shown, made-unshown, does-read_fault, does-write_fault}
 use Rattle.cf_run.proofs.moving.make.Goals as goal
 
-pub returns-in-Ok-clause-does : goal.returns-in-Ok-clause-does
+pub returns-in-Ok-put_shown-clause-does : goal.returns-in-Ok-put_shown-clause-does
 unfolding Does
-returns-in-Ok-clause-does g c = made-shown _ _ _ _ _ _ _ _ c.in-Moved.ensures.steps c.count.ensures c.in-Ok.ensures
+returns-in-Ok-put_shown-clause-does g c = made-shown _ _ _ _ _ _ _ _ c.requires.allowed c.in-Ok.ensures.makes c.count.ensures c.in-Ok-put_shown.ensures
 
 pub returns-in-Err-clause-does : goal.returns-in-Err-clause-does
 unfolding Does
-returns-in-Err-clause-does g c = made-unshown _ _ _ _ _ _ _ _ c.in-Moved.ensures.steps c.count.ensures c.in-Err.ensures
+returns-in-Err-clause-does g c = (c.in-Ok.event, made-unshown _ _ _ _ _ _ _ _ c.requires.allowed c.in-Ok.ensures.makes c.count.ensures c.in-Err.ensures)
 
-pub returns-in-Barred-clause-does : goal.returns-in-Barred-clause-does
-returns-in-Barred-clause-does g c = does-barred _ _ _ _ _ _ _ _ _ _ c.in-Barred.ensures.steps
+pub returns-in-Err-Read-clause-does : goal.returns-in-Err-Read-clause-does
+returns-in-Err-Read-clause-does g c = does-read_fault _ _ _ _ _ _ _ _ c.requires.allowed (rw c.in-Err-Read.field-0-is at c.in-Err-Read.ensures.makes)
 
-pub returns-in-ReadFault-clause-does : goal.returns-in-ReadFault-clause-does
-returns-in-ReadFault-clause-does g c = does-read_fault _ _ _ _ _ _ _ _ _ c.in-ReadFault.ensures.steps
-
-pub returns-in-WriteFault-clause-does : goal.returns-in-WriteFault-clause-does
-returns-in-WriteFault-clause-does g c = does-write_fault _ _ _ _ _ _ _ _ _ c.in-WriteFault.ensures.steps
+pub returns-in-Err-Write-clause-does : goal.returns-in-Err-Write-clause-does
+returns-in-Err-Write-clause-does g c = does-write_fault _ _ _ _ _ _ _ _ c.requires.allowed (rw c.in-Err-Write.field-0-is at c.in-Err-Write.ensures.makes)

@@ -1,14 +1,14 @@
 use Rattle.std.proofs.Common.{refl, ap, inl, inr, ◌∙◌, arith}
 use Rattle.cf_core.specs.Asking.{AsksInput, AsksOutput}
 use Rattle.cf_report.specs.declared.tally.Tally.{Tally}
-use Rattle.cf_run.proofs.Runs.{reached-none, reached-more, tried-within, tried-left, tried-counted, counts-within, few-made, few-more}
+use Rattle.cf_run.proofs.Runs.{followed-none, followed-more, tried-within, tried-left, tried-counted, counts-within, few-made, few-more}
 use Rattle.cf_run.proofs.Asked.{unasked-more}
 use Rattle.cf_run.proofs.Headline.{runs-sequentially}
 use Rattle.cf_run.proofs.script.run_script.Goals as goal
 
 pub loop-end-init : goal.loop-end-init
 loop-end-init g c = record {
-  reached = reached-none _ _ _ c.requires.tally;
+  followed = followed-none _ _ _ c.requires.tally;
   input_asked = λ unasked. refl;
   output_asked = λ unasked. refl;
   within = c.requires.retired;
@@ -20,26 +20,26 @@ loop-end-init g c = record {
 
 pub advance-requires-clause-meets : goal.advance-requires-clause-meets
 advance-requires-clause-meets g c =
-    let within = counts-within _ _ _ _ c.loop-end.invariant.reached in
+    let within = counts-within _ _ _ _ c.loop-end.invariant.followed.reaches in
     omega (arith, few-made _ _ c.loop-end.invariant.few, within.0)
 
 pub advance-requires-clause-kills : goal.advance-requires-clause-kills
 advance-requires-clause-kills g c =
-    let within = counts-within _ _ _ _ c.loop-end.invariant.reached in
+    let within = counts-within _ _ _ _ c.loop-end.invariant.followed.reaches in
     omega (arith, few-made _ _ c.loop-end.invariant.few, within.1)
 
 pub advance-requires-clause-dead : goal.advance-requires-clause-dead
 advance-requires-clause-dead g c =
-    let within = counts-within _ _ _ _ c.loop-end.invariant.reached in
+    let within = counts-within _ _ _ _ c.loop-end.invariant.followed.reaches in
     omega (arith, few-made _ _ c.loop-end.invariant.few, within.2)
 
 pub loop-end-preserved : goal.loop-end-preserved
 loop-end-preserved g c =
     let tries = c.in_default.ensures.turns in
     record {
-      reached = reached-more _ _ _ _ _ c.loop-end.invariant.reached tries;
-      input_asked = unasked-more AsksInput _ _ _ _ _ c.loop-end.invariant.reached c.in_default.ensures.turns _ _ _ c.loop-end.invariant.input_asked c.in_default.ensures.input_asked;
-      output_asked = unasked-more AsksOutput _ _ _ _ _ c.loop-end.invariant.reached c.in_default.ensures.turns _ _ _ c.loop-end.invariant.output_asked c.in_default.ensures.output_asked;
+      followed = followed-more _ _ _ _ _ c.loop-end.invariant.followed tries;
+      input_asked = unasked-more AsksInput _ _ _ _ _ c.loop-end.invariant.followed c.in_default.ensures.turns _ _ _ c.loop-end.invariant.input_asked c.in_default.ensures.input_asked;
+      output_asked = unasked-more AsksOutput _ _ _ _ _ c.loop-end.invariant.followed c.in_default.ensures.turns _ _ _ c.loop-end.invariant.output_asked c.in_default.ensures.output_asked;
       within = tried-within _ _ _ _ tries;
       few = λ some. few-more _ _ _ _ c.loop-end.invariant.few (c.in_default.ensures.few refl) (tried-left _ _ _ _ tries) (tried-counted _ _ _ _ tries);
       input = omega (arith, c.in_default.ensures.input.never_falls, c.loop-end.invariant.input);
@@ -49,11 +49,11 @@ loop-end-preserved g c =
 
 pub returns-in-Some-clause-asked : goal.returns-in-Some-clause-asked
 returns-in-Some-clause-asked g c = record {
-  runs = record { now = _; reaches = c.loop-end.invariant.reached; stops = c.in-Some.ensures.turns };
+  runs = record { now = _; follows = c.loop-end.invariant.followed; stops = c.in-Some.ensures.turns };
   input_asked = λ unasked. c.in-Some.ensures.input_asked (λ next. unasked (inr next)) ∙ c.loop-end.invariant.input_asked (λ some. unasked (inl some));
   output_asked = λ unasked. c.in-Some.ensures.output_asked (λ next. unasked (inr next)) ∙ c.loop-end.invariant.output_asked (λ some. unasked (inl some));
 }
 
 pub returns-in-Some-clause-sequential : goal.returns-in-Some-clause-sequential
 returns-in-Some-clause-sequential g c =
-    runs-sequentially _ _ _ _ _ c.known.ensures.accepted c.known.ensures.registers (record { now = _; reaches = c.loop-end.invariant.reached; stops = c.in-Some.ensures.turns })
+    runs-sequentially _ _ _ _ _ c.known.ensures.accepted c.known.ensures.registers (record { now = _; follows = c.loop-end.invariant.followed; stops = c.in-Some.ensures.turns })

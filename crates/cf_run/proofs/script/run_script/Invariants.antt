@@ -3,7 +3,7 @@ use Rattle.rv_machine.specs.Streams.{streams_of}
 use Rattle.cf_core.specs.Asking.{AsksInput, AsksOutput}
 use Rattle.cf_run.specs.Asking.{SomeAsks}
 use Rattle.cf_run.specs.Moving.{place_of}
-use Rattle.cf_run.specs.Scripts.{Stand, stand_of, Reaches}
+use Rattle.cf_run.specs.Scripts.{Stand, stand_of, Follows}
 use Rattle.cf_run.proofs.script.run_script.Given as goal
 
 -- the moves that were made so far lead here
@@ -16,9 +16,9 @@ invariant-loop-end g l =
     (reported l.initial.report) l.initial.tally) l.initial.script in
     let now : Stand = stand_of (place_of l.core (streams_of (left l.input) (written l.output)) (reported l.report) l.tally) l.script in
     record {
-      reached : Reaches l.limit l.show start now;
-      input_asked : (SomeAsks AsksInput start.place.core.plan start.place.core.state reached.trace → ⊥) → l.input ≡ l.initial.input;
-      output_asked : (SomeAsks AsksOutput start.place.core.plan start.place.core.state reached.trace → ⊥) → l.output ≡ l.initial.output;
+      followed : Follows l.limit l.show start now;
+      input_asked : (SomeAsks AsksInput start.place.core.plan start.place.core.state followed.reaches.trace → ⊥) → l.input ≡ l.initial.input;
+      output_asked : (SomeAsks AsksOutput start.place.core.plan start.place.core.state followed.reaches.trace → ⊥) → l.output ≡ l.initial.output;
       within : l.core.state.retired ≤ l.limit;
       few : 0 < l.tally.moves → l.tally.moves + length l.script.moves < 2 ^ 25;
       input : g.S.Source.faults l.initial.input ≤ g.S.Source.faults l.input;

@@ -1,0 +1,119 @@
+-- The run of a policy has a bounded number of moves, whatever its input tells, and until it is over the policy is offered a move.
+use Rattle.std.proofs.Common.{◌≡◌, ℕ, suc, ◌+◌, ◌-◌, ◌*◌, ◌≤◌, ◌<◌, ◌^◌, List, [], ◌∷◌, None, All, refl, sym, ap, subst, ◌∙◌, length, arith}
+use Rattle.std.proofs.lemmas.List.{length-map}
+use Rattle.std.proofs.lemmas.Bool.Decides.{nat_tests}
+use Rattle.rv_machine.specs.Machine.{Machine}
+use Rattle.cf_layout.specs.Accepted.{IsAccepted, IsSiding}
+use Rattle.cf_layout.specs.Layout.{SidingPlan, Plan}
+use Rattle.cf_bind.specs.declared.moves.Move.{Move}
+use Rattle.cf_semantics.specs.Holding.{offered}
+use Rattle.cf_semantics.specs.Lines.{Line}
+use Rattle.cf_semantics.specs.Refines.{gained}
+use Rattle.cf_semantics.specs.Runs.{opened as opened_on, start as start_on}
+use Rattle.cf_semantics.specs.State.{Moment}
+use Rattle.cf_semantics.specs.Weight.{most_cells, moves_per_issue}
+use Rattle.cf_untold.specs.Invariant.{HoldsAnew}
+use Rattle.cf_untold.specs.Paced.{PacesTo}
+use Rattle.cf_untold.proofs.Offered.{offered_some}
+use Rattle.cf_untold.proofs.Pacing.{paces_leads, paced_bounded_anew}
+use Rattle.cf_untold.proofs.Theorems.{anew_started, holds_anew}
+use Rattle.cf_core.specs.Processors.{Processor, in_state, opened}
+use Rattle.cf_run.specs.declared.show.Show.{Show}
+use Rattle.cf_run.specs.Going.{moment_of, Leads}
+use Rattle.cf_run.specs.Headline.{machine_on}
+use Rattle.cf_run.specs.Made.{Made, moves_of, tally_of}
+use Rattle.cf_run.specs.Moving.{Place}
+use Rattle.cf_run.specs.Policies.{IsOpened, Chooser, fresh, Picks, most_moves}
+use Rattle.cf_run.specs.Reaching.{Reaches}
+use Rattle.cf_run.proofs.Arrived.{begins}
+use Rattle.cf_run.proofs.Picking.{picks-paced}
+
+-- an opened processor has the registers and the count of its hart
+opened_wide : (core : Processor) (o : IsOpened core) → length core.state.regs ≡ 32 → length o.hart.regs ≡ 32
+unfolding opened opened_on
+opened_wide core o wide = ap (λ (p : Processor). length p.state.regs) (sym o.is) ∙ wide
+
+opened_count : (core : Processor) (o : IsOpened core) → core.state.retired ≡ o.hart.retired
+unfolding opened opened_on
+opened_count core o = ap (λ (p : Processor). p.state.retired) o.is
+
+-- the machine that the run of an opened processor is one of, with some input
+abbrev pub machine_of : (core : Processor) → IsOpened core → List ℕ → Machine
+machine_of core o rest = machine_on o.hart rest
+
+-- the picks of a policy on an opened processor are a run under the hold rule
+reached-paced : {P : Type 0} (picked : P → List Move → ℕ) (onward : P → List Move → P) (limit : ℕ) (shows : Show) (begin now : Place) (policy : P) (at : Chooser P) → IsAccepted begin.core.plan → length begin.core.state.regs ≡ 32 → (o : IsOpened begin.core) → (h : Reaches limit shows begin now) → Picks picked onward begin.core.plan (fresh policy) begin.core.state h.trace at
+    → (written : List Line) × PacesTo begin.core.plan 0 (start_on begin.core.plan (machine_of begin.core o h.rest)) (moves_of h.trace) h.last written
+reached-paced {P} picked onward limit shows begin now policy at accepted wide o h picks =
+    let plan : Plan = begin.core.plan in
+    let x : Machine = machine_of begin.core o h.rest in
+    let m : Moment = moment_of begin.core h.rest in
+    let same : m ≡ start_on plan x = begins begin.core o.hart h.rest h.rest o.is refl in
+    let leads : Leads plan limit begin.streams.input (start_on plan x) h.trace h.last = subst (λ (q : Moment). Leads plan limit begin.streams.input q h.trace h.last) same h.leads in
+    let first : Picks picked onward plan (fresh policy) (start_on plan x).state h.trace at = subst (λ (q : Moment). Picks picked onward plan (fresh policy) q.state h.trace at) same picks in
+    picks-paced picked onward plan limit begin.streams.input x [] (start_on plan x) h.trace h.last (fresh policy) at accepted (anew_started plan x (opened_wide begin.core o wide)) leads first
+
+-- so it has a bounded number of moves
+counted-moves : (trace : List Made) → (tally_of trace).moves ≡ length (moves_of trace)
+unfolding tally_of
+counted-moves trace = sym (length-map trace (λ made. made.move))
+
+pub reached-bounded : {P : Type 0} (picked : P → List Move → ℕ) (onward : P → List Move → P) (limit : ℕ) (shows : Show) (begin now : Place) (policy : P) (at : Chooser P) → IsAccepted begin.core.plan → length begin.core.state.regs ≡ 32 → IsOpened begin.core → (h : Reaches limit shows begin now) → Picks picked onward begin.core.plan (fresh policy) begin.core.state h.trace at
+    → now.tally.moves ≤ most_moves begin.core.plan (now.core.state.retired - begin.core.state.retired)
+reached-bounded {P} picked onward limit shows begin now policy at accepted wide o h picks =
+    let plan : Plan = begin.core.plan in
+    let x : Machine = machine_of begin.core o h.rest in
+    let paces = reached-paced picked onward limit shows begin now policy at accepted wide o h picks in
+    let bound : length (moves_of h.trace) ≤ most_moves plan (gained x h.last.state) = paced_bounded_anew plan x (moves_of h.trace) h.last paces.0 accepted (opened_wide begin.core o wide) paces.1 in
+    let count : now.tally.moves ≡ length (moves_of h.trace) = ap (λ tally. tally.moves) h.tally ∙ counted-moves h.trace in
+    let retired : h.last.state.retired ≡ now.core.state.retired = ap (λ (p : Processor). p.state.retired) (sym h.core) in
+    let grown : gained x h.last.state ≡ now.core.state.retired - begin.core.state.retired = omega (arith, retired, opened_count begin.core o) in
+    subst (λ (n : ℕ). n ≤ most_moves plan (now.core.state.retired - begin.core.state.retired)) (sym count)
+    (subst (λ (r : ℕ). length (moves_of h.trace) ≤ most_moves plan r) grown bound)
+
+-- and while it goes on the policy is offered a move
+pub reached-offered : {P : Type 0} (picked : P → List Move → ℕ) (onward : P → List Move → P) (limit : ℕ) (shows : Show) (begin now : Place) (policy : P) (at : Chooser P) → IsAccepted begin.core.plan → length begin.core.state.regs ≡ 32 → IsOpened begin.core → (h : Reaches limit shows begin now) → Picks picked onward begin.core.plan (fresh policy) begin.core.state h.trace at
+    → now.core.state.ending ≡ None → (count : ℕ) → 1 ≤ length (offered now.core.plan count now.core.state)
+reached-offered {P} picked onward limit shows begin now policy at accepted wide o h picks unended count =
+    let plan : Plan = begin.core.plan in
+    let x : Machine = machine_of begin.core o h.rest in
+    let paces = reached-paced picked onward limit shows begin now policy at accepted wide o h picks in
+    let holds : HoldsAnew plan x paces.0 h.last = holds_anew plan x (moves_of h.trace) h.last paces.0 accepted (opened_wide begin.core o wide) (paces_leads plan 0 (start_on plan x) h.last (moves_of h.trace) paces.0 paces.1) in
+    let P : Processor → Type 0 = λ p. p.state.ending ≡ None → 1 ≤ length (offered p.plan count p.state) in
+    let there : P (in_state begin.core h.last.state) = offered_some plan x h.last count paces.0 accepted holds in
+    subst P (sym h.core) there unended
+
+-- no siding has more than eight cells
+few_cells : (plan : Plan) (sidings : List SidingPlan) → All (IsSiding plan) sidings → most_cells sidings ≤ 8
+unfolding most_cells
+few_cells plan [] h = omega arith
+few_cells plan (siding ∷ sidings) h =
+    let one : siding.cells ≤ 8 = (h 0 siding (omega arith)).cells.1 in
+    let more = few_cells plan sidings (λ k d inside. h (suc k) d (omega (arith, inside))) in
+    grind (arith, nat_tests, one, more)
+
+-- so the bound is a number that can be counted
+pub bound_small : (plan : Plan) (r : ℕ) → IsAccepted plan → r ≤ 1000000000 → most_moves plan r + 1 < 2 ^ 63
+unfolding moves_per_issue
+bound_small plan r accepted few =
+    let n = accepted.stages.1 in
+    let d = few_cells plan plan.sidings accepted.sidings in
+    let k : moves_per_issue plan ≤ 272 = omega (arith, n, d) in
+    product plan.stages (moves_per_issue plan) (r + 1) n k (omega (arith, few))
+  where
+    times : (a b c d : ℕ) → a ≤ b → c ≤ d → a * c ≤ b * d
+    times a b c d f g = grind (arith, f, g)
+
+    product : (a b c : ℕ) → a ≤ 32 → b ≤ 272 → c ≤ 1000000001 → 4 * a * b * c + 1 < 2 ^ 63
+    product a b c f g h =
+        let one : 4 * a ≤ 128 = omega (arith, f) in
+        let two : 4 * a * b ≤ 128 * 272 = times (4 * a) 128 b 272 one g in
+        let three : 4 * a * b * c ≤ 128 * 272 * 1000000001 = times (4 * a * b) (128 * 272) c 1000000001 two h in
+        omega (arith, three)
+
+-- more retirements allow for more moves
+pub bound_grows : (plan : Plan) (r s : ℕ) → r ≤ s → most_moves plan r ≤ most_moves plan s
+bound_grows plan r s le = times (4 * plan.stages * moves_per_issue plan) (r + 1) (s + 1) (omega (arith, le))
+  where
+    times : (k a b : ℕ) → a ≤ b → k * a ≤ k * b
+    times k a b e = grind (arith, e)

@@ -1,0 +1,29 @@
+-- A count that stops where the candidates are held tells the same of them.
+use Rattle.std.proofs.Common.{◌≡◌, ℕ, ◌+◌, ◌*◌, Bool, true, false, refl, min, arith}
+use Rattle.std.proofs.lemmas.Bool.Decides.{nat_tests}
+use Rattle.std.specs.Prelude.{◌||◌, if◌then◌else◌}
+use Rattle.cf_layout.specs.Layout.{Plan}
+use Rattle.cf_bind.specs.declared.moves.Move.{Move}
+use Rattle.cf_semantics.specs.declared.event.Event.{Event}
+use Rattle.cf_semantics.specs.Holding.{is_held, is_retirement, offered, paced}
+use Rattle.cf_semantics.specs.State.{State}
+use Rattle.cf_semantics.specs.Weight.{is_issue}
+use Rattle.cf_sched.specs.Paces.{stopped}
+
+held_stopped : (plan : Plan) (count : ℕ) → is_held plan (stopped plan.stages count) ≡ is_held plan count
+held_stopped plan count = grind (arith, nat_tests)
+
+-- the same is offered
+pub offered-stopped : (plan : Plan) (count : ℕ) (s : State) → offered plan (stopped plan.stages count) s ≡ offered plan count s
+unfolding offered
+offered-stopped plan count s = rw (held_stopped plan count) refl
+
+-- and it goes on as the count does
+pub paced-stopped : (stages count : ℕ) (mv : Move) (e : Event) (drained : Bool) → stopped stages (paced (stopped stages count) mv e drained) ≡ stopped stages (paced count mv e drained)
+unfolding paced
+paced-stopped stages count mv e drained = go (is_retirement e || drained) (is_issue mv)
+  where
+    go : (b c : Bool) → min (if b then 0 else (if c then min count (2 * stages) + 1 else min count (2 * stages))) (2 * stages) ≡ min (if b then 0 else (if c then count + 1 else count)) (2 * stages)
+    go true c = refl
+    go false true = grind (arith, nat_tests)
+    go false false = grind (arith, nat_tests)

@@ -1,0 +1,75 @@
+use Rattle.std.proofs.Common.{refl, sym, ap, ◌∙◌, arith}
+use Rattle.cf_layout.specs.Layout.{Plan}
+use Rattle.cf_core.specs.Asking.{AsksInput, AsksOutput}
+use Rattle.cf_run.proofs.ByPolicy.{policy-bounded, policy-sequential}
+use Rattle.cf_run.proofs.Coming.{comes-first, comes-offered, comes-counted, comes-more, comes-nearer, comes-runs, comes-unasked, turned-plan, turned-within, unasked-comes}
+use Rattle.cf_run.proofs.Runs.{counts-within}
+use Rattle.cf_run.proofs.policy.run_policy.Goals as goal
+
+pub loop-ran-init : goal.loop-ran-init
+loop-ran-init g c = record {
+  comes = comes-first _ _ _ _ _ _ _ _ c.requires.tally (c.stages.ensures.stages ∙ ap (λ (plan : Plan). plan.stages) c.layout.ensures.layout) c.new-pace.ensures.1;
+  stages = c.new-pace.ensures.0 ∙ c.stages.ensures.stages ∙ ap (λ (plan : Plan). plan.stages) c.layout.ensures.layout;
+  input_asked = λ unasked. refl;
+  output_asked = λ unasked. refl;
+  within = c.requires.retired;
+  input = omega arith;
+  output = omega arith;
+  report = omega arith;
+}
+
+pub advance-end-requires-clause-some : goal.advance-end-requires-clause-some
+advance-end-requires-clause-some g c = comes-offered _ _ _ _ _ _ _ _ _ c.known.ensures.accepted c.known.ensures.registers c.requires.opened c.loop-ran.invariant.comes
+
+pub advance-end-requires-clause-moves : goal.advance-end-requires-clause-moves
+advance-end-requires-clause-moves g c =
+    let few = comes-counted _ _ _ _ _ _ _ _ _ c.known.ensures.accepted c.known.ensures.registers c.requires.opened c.loop-ran.invariant.comes c.loop-ran.invariant.within c.requires.limit in
+    omega (arith, few)
+
+pub advance-end-requires-clause-meets : goal.advance-end-requires-clause-meets
+advance-end-requires-clause-meets g c =
+    let few = comes-counted _ _ _ _ _ _ _ _ _ c.known.ensures.accepted c.known.ensures.registers c.requires.opened c.loop-ran.invariant.comes c.loop-ran.invariant.within c.requires.limit in
+    let within = counts-within _ _ _ _ c.loop-ran.invariant.comes.reached in
+    omega (arith, few, within.0)
+
+pub advance-end-requires-clause-kills : goal.advance-end-requires-clause-kills
+advance-end-requires-clause-kills g c =
+    let few = comes-counted _ _ _ _ _ _ _ _ _ c.known.ensures.accepted c.known.ensures.registers c.requires.opened c.loop-ran.invariant.comes c.loop-ran.invariant.within c.requires.limit in
+    let within = counts-within _ _ _ _ c.loop-ran.invariant.comes.reached in
+    omega (arith, few, within.1)
+
+pub advance-end-requires-clause-dead : goal.advance-end-requires-clause-dead
+advance-end-requires-clause-dead g c =
+    let few = comes-counted _ _ _ _ _ _ _ _ _ c.known.ensures.accepted c.known.ensures.registers c.requires.opened c.loop-ran.invariant.comes c.loop-ran.invariant.within c.requires.limit in
+    let within = counts-within _ _ _ _ c.loop-ran.invariant.comes.reached in
+    omega (arith, few, within.2)
+
+pub returns-in-Some-clause-run : goal.returns-in-Some-clause-run
+returns-in-Some-clause-run g c =
+    let runs = comes-runs _ _ _ _ _ _ _ _ _ _ _ _ c.loop-ran.invariant.comes c.in-Some.ensures.turns in
+    record { moves = _; runs = runs; sequential = policy-sequential _ _ _ _ _ _ _ _ _ _ c.known.ensures.accepted c.known.ensures.registers runs }
+
+pub returns-in-Some-clause-bounded : goal.returns-in-Some-clause-bounded
+returns-in-Some-clause-bounded g c =
+    policy-bounded _ _ _ _ _ _ _ _ _ _ c.known.ensures.accepted c.known.ensures.registers c.requires.opened
+    (comes-runs _ _ _ _ _ _ _ _ _ _ _ _ c.loop-ran.invariant.comes c.in-Some.ensures.turns)
+
+pub returns-in-Some-clause-asked : goal.returns-in-Some-clause-asked
+returns-in-Some-clause-asked g c =
+    comes-unasked _ _ _ _ _ _ _ _ _ _ _ _ _ _ _ _ _ _ c.loop-ran.invariant.comes c.in-Some.ensures.turns
+    c.loop-ran.invariant.input_asked c.in-Some.ensures.input_asked c.loop-ran.invariant.output_asked c.in-Some.ensures.output_asked
+
+pub loop-ran-smaller : goal.loop-ran-smaller
+loop-ran-smaller g c = comes-nearer _ _ _ _ _ _ _ _ _ _ _ c.known.ensures.accepted c.known.ensures.registers c.requires.opened c.loop-ran.invariant.comes c.in_default.ensures.turns
+
+pub loop-ran-preserved : goal.loop-ran-preserved
+loop-ran-preserved g c = record {
+  comes = comes-more _ _ _ _ _ _ _ _ _ _ _ c.loop-ran.invariant.comes c.in_default.ensures.turns;
+  stages = c.in_default.ensures.stages ∙ c.loop-ran.invariant.stages ∙ ap (λ (plan : Plan). plan.stages) (sym (turned-plan _ _ _ _ _ _ _ _ c.in_default.ensures.turns));
+  input_asked = unasked-comes _ _ AsksInput _ _ _ _ _ _ _ _ _ c.loop-ran.invariant.comes c.in_default.ensures.turns _ _ _ c.loop-ran.invariant.input_asked c.in_default.ensures.input_asked;
+  output_asked = unasked-comes _ _ AsksOutput _ _ _ _ _ _ _ _ _ c.loop-ran.invariant.comes c.in_default.ensures.turns _ _ _ c.loop-ran.invariant.output_asked c.in_default.ensures.output_asked;
+  within = turned-within _ _ _ _ _ _ _ _ c.in_default.ensures.turns;
+  input = omega (arith, c.in_default.ensures.input.never_falls, c.loop-ran.invariant.input);
+  output = omega (arith, c.in_default.ensures.output.never_falls, c.loop-ran.invariant.output);
+  report = omega (arith, c.in_default.ensures.report.never_falls, c.loop-ran.invariant.report);
+}

@@ -1,0 +1,30 @@
+use Rattle.std.proofs.Common.{◌≡◌, ◌-◌, ◌≤◌}
+use Rattle.rv_machine.specs.Streams.{streams_of}
+use Rattle.cf_core.specs.Asking.{AsksInput, AsksOutput}
+use Rattle.cf_run.specs.Asking.{SomeAsks}
+use Rattle.cf_run.specs.Moving.{Place, place_of}
+use Rattle.cf_run.specs.Policies.{most_moves}
+use Rattle.cf_run.proofs.Coming.{Comes}
+use Rattle.cf_run.proofs.policy.run_policy.Given as goal
+
+-- the picks that were made so far lead here
+abbrev pub invariant-loop-ran : goal.invariant-loop-ran
+invariant-loop-ran g l =
+    let left = g.S.Source.left in
+    let written = g.K.Sink.written in
+    let reported = g.R.Sink.written in
+    let start : Place = place_of l.initial.core (streams_of (left l.initial.input) (written l.initial.output)) (reported l.initial.report) l.initial.tally in
+    let now : Place = place_of l.core (streams_of (left l.input) (written l.output)) (reported l.report) l.tally in
+    record {
+      comes : Comes g.P.Policy.picked g.P.Policy.onward l.limit l.show start now l.initial.policy l.policy l.pace.count;
+      stages : l.pace.stages ≡ l.core.plan.stages;
+      input_asked : (SomeAsks AsksInput start.core.plan start.core.state comes.reached.trace → ⊥) → l.input ≡ l.initial.input;
+      output_asked : (SomeAsks AsksOutput start.core.plan start.core.state comes.reached.trace → ⊥) → l.output ≡ l.initial.output;
+      within : l.core.state.retired ≤ l.limit;
+      input : g.S.Source.faults l.initial.input ≤ g.S.Source.faults l.input;
+      output : g.K.Sink.faults l.initial.output ≤ g.K.Sink.faults l.output;
+      report : g.R.Sink.faults l.initial.report ≤ g.R.Sink.faults l.report;
+    }
+
+abbrev pub decreases-loop-ran : goal.decreases-loop-ran
+decreases-loop-ran g l = most_moves l.initial.core.plan l.limit - l.tally.moves

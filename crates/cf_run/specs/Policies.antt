@@ -1,0 +1,161 @@
+-- What the run of a policy does: the moves that it picks from what it is offered, why it stops behind them, and what it leaves ("Counterflow Pipeline Processor Architecture", 1994: any schedule of local actions is a run).
+use Rattle.std.specs.Prelude.{◌≡◌, ◌⊎◌, ℕ, ◌+◌, ◌*◌, List, [], ◌∷◌, ◌++◌, slice_get, Option, Some, None, Result, Ok, Err}
+use Rattle.rv_machine.specs.Hart.{Hart}
+use Rattle.cf_layout.specs.Layout.{Plan}
+use Rattle.cf_bind.specs.declared.moves.Move.{Move}
+use Rattle.cf_semantics.specs.declared.event.Event.{Event}
+use Rattle.cf_semantics.specs.Drained.{is_drained}
+use Rattle.cf_semantics.specs.Holding.{offered, paced}
+use Rattle.cf_semantics.specs.State.{State}
+use Rattle.cf_semantics.specs.Weight.{moves_per_issue}
+use Rattle.cf_core.specs.Asking.{AsksInput, AsksOutput}
+use Rattle.cf_core.specs.Processors.{Processor, opened}
+use Rattle.cf_sched.specs.Paces.{stopped}
+use Rattle.cf_run.specs.declared.answer.Ran.{Ran as Answer}
+use Rattle.cf_run.specs.declared.answer.Ran.TheVariants as ran
+use Rattle.cf_run.specs.declared.answer.Scripted.TheVariants.{Ran}
+use Rattle.cf_run.specs.declared.show.Show.{Show}
+use Rattle.cf_run.specs.Asking.{SomeAsks}
+use Rattle.cf_run.specs.Headline.{RunsSequentially}
+use Rattle.cf_run.specs.Made.{Made, moves_of}
+use Rattle.cf_run.specs.Moving.{Place, Does}
+use Rattle.cf_run.specs.Reaching.{Reaches, GoesOn, IsOver}
+
+-- the processor was opened on some hart, and has made no move since
+pub record IsOpened (core : Processor) : Type 0 where
+  pub hart : Hart
+  pub is : core ≡ opened core.plan hart
+
+-- a policy in a run: what it is, and how many Issue moves the hold rule has counted
+pub record Chooser (P : Type 0) : Type 0 where
+  pub policy : P
+  pub count : ℕ
+
+-- the policy with so many counted
+abbrev pub chooser : {P : Type 0} → P → ℕ → Chooser P
+chooser policy count = record { policy = policy; count = count }
+
+-- a policy before its first pick
+abbrev pub fresh : {P : Type 0} → P → Chooser P
+fresh policy = chooser policy 0
+
+-- what it is offered in a state
+abbrev pub offered_to : {P : Type 0} → Plan → Chooser P → State → List Move
+offered_to plan at s = offered plan at.count s
+
+-- the move that it picks there, by its place among those
+abbrev pub choice : {P : Type 0} → (picked : P → List Move → ℕ) → Plan → Chooser P → State → Option Move
+choice picked plan at s = slice_get (offered_to plan at s) (picked at.policy (offered_to plan at s))
+
+-- what it is behind that pick, with the move that was made counted
+abbrev pub behind_choice : {P : Type 0} → (onward : P → List Move → P) → Plan → Chooser P → State → Made → Chooser P
+behind_choice onward plan at s made = record {
+  policy = onward at.policy (offered_to plan at s);
+  count = paced at.count made.move made.event (is_drained made.state);
+}
+
+-- the moves are, one behind the other, the picks of the policy, the first of them in that state; and lead it on to the last
+unfoldable pub Picks : {P : Type 0} → (picked : P → List Move → ℕ) → (onward : P → List Move → P) → Plan → Chooser P → State → List Made → Chooser P → Type 0
+Picks picked onward plan at s [] last = last ≡ at
+Picks picked onward plan at s (made ∷ trace) last =
+    (choice picked plan at s ≡ Some made.move)
+    × Picks picked onward plan (behind_choice onward plan at s made) made.state trace last
+
+-- the run goes on to the move that the policy picks, and it is made
+pub record Takes {P : Type 0} (picked : P → List Move → ℕ) (limit : ℕ) (show : Show) (at : Chooser P) (now new : Place) : Type 0 where
+  pub goes : GoesOn limit now.core.state
+  pub move : Move
+  pub choice_is : choice picked now.core.plan at now.core.state ≡ Some move
+  pub event : Event
+  pub does : Does show move now new (Ok event)
+
+-- the run goes on to the move that the policy picks, which stops it with this answer
+pub record Chooses {P : Type 0} (picked : P → List Move → ℕ) (onward : P → List Move → P) (limit : ℕ) (show : Show) (at : Chooser P) (now new : Place) (later : P) (answer : Answer) : Type 0 where
+  pub goes : GoesOn limit now.core.state
+  pub move : Move
+  pub choice_is : choice picked now.core.plan at now.core.state ≡ Some move
+  pub later_is : later ≡ onward at.policy (offered_to now.core.plan at now.core.state)
+  pub does : Does show move now new (Err answer)
+
+-- the run stops here: it is over, and all stays; or the next move that the policy picks is the last that it comes to
+abbrev pub StopsPolicy : {P : Type 0} → (picked : P → List Move → ℕ) → (onward : P → List Move → P) → ℕ → Show → Chooser P → (now new : Place) → P → Answer → Type 0
+StopsPolicy picked onward limit show at now new later (ran.Exit status) = IsOver limit now.core.state (ran.Exit status) × (new ≡ now) × (later ≡ at.policy)
+StopsPolicy picked onward limit show at now new later (ran.Trap cause pc detail) = IsOver limit now.core.state (ran.Trap cause pc detail) × (new ≡ now) × (later ≡ at.policy)
+StopsPolicy picked onward limit show at now new later ran.Limit = IsOver limit now.core.state ran.Limit × (new ≡ now) × (later ≡ at.policy)
+StopsPolicy picked onward limit show at now new later ran.ReadFault = Chooses picked onward limit show at now new later ran.ReadFault
+StopsPolicy picked onward limit show at now new later ran.WriteFault = Chooses picked onward limit show at now new later ran.WriteFault
+StopsPolicy picked onward limit show at now new later ran.ReportFault = Chooses picked onward limit show at now new later ran.ReportFault
+
+-- one turn of the run, by a pace that counts up to where the candidates are held: the policy picks a move and it is made
+pub record Turned {P : Type 0} (picked : P → List Move → ℕ) (onward : P → List Move → P) (limit : ℕ) (show : Show) (now new : Place) (at later : Chooser P) : Type 0 where
+  pub takes : Takes picked limit show at now new
+  pub policy_is : later.policy ≡ onward at.policy (offered_to now.core.plan at now.core.state)
+  pub count_is : later.count ≡ stopped now.core.plan.stages (paced at.count takes.move takes.event (is_drained new.core.state))
+
+-- or the run stops
+abbrev pub PolicyTurns : {P : Type 0} → (picked : P → List Move → ℕ) → (onward : P → List Move → P) → ℕ → Show → (now new : Place) → (at later : Chooser P) → Option Answer → Type 0
+PolicyTurns picked onward limit show now new at later None = Turned picked onward limit show now new at later
+PolicyTurns picked onward limit show now new at later (Some answer) = StopsPolicy picked onward limit show at now new later.policy answer
+
+-- the last move, where the report failed behind it
+abbrev pub made_last : {P : Type 0} → (picked : P → List Move → ℕ) → (onward : P → List Move → P) → (limit : ℕ) → (show : Show) → (at : Chooser P) → (now new : Place) → (later : P) → (answer : Answer) → StopsPolicy picked onward limit show at now new later answer → List Move
+made_last picked onward limit show at now new later (ran.Exit status) stops = []
+made_last picked onward limit show at now new later (ran.Trap cause pc detail) stops = []
+made_last picked onward limit show at now new later ran.Limit stops = []
+made_last picked onward limit show at now new later ran.ReadFault stops = []
+made_last picked onward limit show at now new later ran.WriteFault stops = []
+made_last picked onward limit show at now new later ran.ReportFault stops = stops.move ∷ []
+
+-- the run makes these moves, the picks of the policy, and stops behind them with this answer
+pub record RunsPolicy {P : Type 0} (picked : P → List Move → ℕ) (onward : P → List Move → P) (limit : ℕ) (show : Show) (start new : Place) (policy later : P) (moves : List Move) (answer : Answer) : Type 0 where
+  pub now : Place
+  pub reaches : Reaches limit show start now
+  pub at : Chooser P
+  pub picks : Picks picked onward start.core.plan (fresh policy) start.core.state reaches.trace at
+  pub stops : StopsPolicy picked onward limit show at now new later answer
+  pub made : moves ≡ moves_of reaches.trace ++ made_last picked onward limit show at now new later answer stops
+
+-- and by these moves it is one of the sequential machine
+pub record RunsRight {P : Type 0} (picked : P → List Move → ℕ) (onward : P → List Move → P) (limit : ℕ) (show : Show) (start new : Place) (policy later : P) (answer : Answer) : Type 0 where
+  pub moves : List Move
+  pub runs : RunsPolicy picked onward limit show start new policy later moves answer
+  pub sequential : RunsSequentially show moves start new (Ran answer)
+
+-- an error where the input failed the run
+abbrev pub input_stopped : Option Answer → Result (Unit {0}) (Unit {0})
+input_stopped (Some ran.ReadFault) = Err tt
+input_stopped answer = Ok tt
+
+-- an error where the output did
+abbrev pub output_stopped : Option Answer → Result (Unit {0}) (Unit {0})
+output_stopped (Some ran.WriteFault) = Err tt
+output_stopped answer = Ok tt
+
+-- an error where the report did
+abbrev pub report_stopped : Option Answer → Result (Unit {0}) (Unit {0})
+report_stopped (Some ran.ReportFault) = Err tt
+report_stopped answer = Ok tt
+
+-- the most moves of a run under the hold rule in which so many instructions retire: 4 N K (r + 1)
+abbrev pub most_moves : Plan → ℕ → ℕ
+most_moves plan r = 4 * plan.stages * moves_per_issue plan * (r + 1)
+
+-- the run goes on to the move that the policy picks, which asks this
+pub record ChoiceAsks {P : Type 0} (asks : Processor → Move → Type 0) (picked : P → List Move → ℕ) (limit : ℕ) (at : Chooser P) (core : Processor) : Type 0 where
+  pub goes : GoesOn limit core.state
+  pub move : Move
+  pub choice_is : choice picked core.plan at core.state ≡ Some move
+  pub asked : asks core move
+
+-- a move of the run asks this: one of those that lead to where it stops, or the next one there
+abbrev pub PolicyAsks : {P : Type 0} (asks : Processor → Move → Type 0) (picked : P → List Move → ℕ) (onward : P → List Move → P) (limit : ℕ) (show : Show) (start new : Place) (policy later : P) (moves : List Move) (answer : Answer) → RunsPolicy picked onward limit show start new policy later moves answer → Type 0
+PolicyAsks asks picked onward limit show start new policy later moves answer runs =
+    SomeAsks asks start.core.plan start.core.state runs.reaches.trace
+    ⊎ ChoiceAsks asks picked limit runs.at runs.now.core
+
+-- a run, with a claim about the input that holds unless a move of the run asks it, and one about the output
+pub record PolicyUnasked {P : Type 0} (picked : P → List Move → ℕ) (onward : P → List Move → P) (limit : ℕ) (show : Show) (start new : Place) (policy later : P) (answer : Answer) (input output : Type 0) : Type 0 where
+  pub moves : List Move
+  pub runs : RunsPolicy picked onward limit show start new policy later moves answer
+  pub input_asked : (PolicyAsks AsksInput picked onward limit show start new policy later moves answer runs → ⊥) → input
+  pub output_asked : (PolicyAsks AsksOutput picked onward limit show start new policy later moves answer runs → ⊥) → output

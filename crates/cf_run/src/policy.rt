@@ -1,0 +1,154 @@
+//! The run of a policy.
+#![tactic(auto)]
+
+ghost use Rattle.std.specs.Prelude.{◌≡◌, ◌+◌, ◌-◌, ◌<◌, ◌≤◌, ◌^◌, None, Some, false, length, slice_get};
+ghost use Rattle.cf_io.specs.Causes.{HasCause};
+ghost use Rattle.rv_machine.specs.Streams.{streams_of};
+ghost use Rattle.cf_semantics.specs.Holding.{offered};
+ghost use Rattle.cf_core.specs.Asking.{AsksInput, AsksOutput};
+ghost use Rattle.cf_run.specs.Moving.{place_of};
+ghost use Rattle.cf_run.specs.Policies.{chooser, input_stopped, output_stopped, report_stopped, IsOpened, ChoiceAsks, PolicyTurns, PolicyUnasked, RunsRight, most_moves};
+ghost use Rattle.cf_run.specs.Reaching.{no_tally};
+
+use crate::answer::Ran;
+use crate::known::known;
+use crate::moving::make;
+use crate::over::over;
+use crate::show::Show;
+use cf_bind::Move;
+use cf_core::Core;
+use cf_index::Candidates;
+use cf_io::{Sink, Source};
+use cf_report::Tally;
+use cf_sched::{Pace, Policy};
+
+/// Fills the candidates with what a policy is offered.
+#[inline(always)]
+#[tactic(auto, unfolding(cf_semantics::specs::Holding::offered))]
+fn offer(core: &Core, candidates: &mut Candidates, pace: &Pace)
+    requires stages { pace.now.stages ≡ core.now.plan.stages }
+    ensures { candidates.new ≡ offered core.now.plan pace.now.count core.now.state }
+{
+    candidates.fill(core);
+    if pace.held() {
+        candidates.hold();
+    }
+}
+
+/// The move that the policy picks from what it is offered.
+#[inline(always)]
+fn choose<P: Policy>(core: &Core, candidates: &mut Candidates, policy: &mut P, pace: &Pace) -> Move
+    requires stages { pace.now.stages ≡ core.now.plan.stages }
+    requires some { 0 < length (offered core.now.plan pace.now.count core.now.state) }
+    ensures choice { Some result ≡ slice_get (offered core.now.plan pace.now.count core.now.state)
+        (P.picked policy.old (offered core.now.plan pace.now.count core.now.state)) }
+    ensures onward { policy.new ≡ P.onward policy.old (offered core.now.plan pace.now.count core.now.state) }
+{
+    offer(core, candidates, pace);
+    let place = policy.pick(candidates);
+    candidates.pick(place)
+}
+
+/// Makes the move that the policy picks, or says why the run stops.
+#[inline(always)]
+fn advance<P: Policy, S: Source, K: Sink, R: Sink>(
+    core: &mut Core,
+    candidates: &mut Candidates,
+    policy: &mut P,
+    pace: &mut Pace,
+    limit: u64,
+    show: Show,
+    input: &mut S,
+    output: &mut K,
+    report: &mut R,
+    tally: &mut Tally,
+) -> Option<Ran>
+    requires limit { limit + 1 < 2 ^ 64 }
+    requires retired { core.old.state.retired ≤ limit }
+    requires stages { pace.old.stages ≡ core.old.plan.stages }
+    requires some { core.old.state.ending ≡ None → 0 < length (offered core.old.plan pace.old.count core.old.state) }
+    requires moves { tally.old.moves + 1 < 2 ^ 64 }
+    requires meets { tally.old.meets + 1 < 2 ^ 64 }
+    requires kills { tally.old.kills + 1 < 2 ^ 64 }
+    requires dead { tally.old.dead + 1 < 2 ^ 64 }
+    ensures turns { PolicyTurns P.picked P.onward limit show
+        (place_of core.old (streams_of (S.left input.old) (K.written output.old))
+        (R.written report.old) tally.old)
+        (place_of core.new (streams_of (S.left input.new) (K.written output.new))
+        (R.written report.new) tally.new)
+        (chooser policy.old pace.old.count) (chooser policy.new pace.new.count) result }
+    ensures stages { pace.new.stages ≡ pace.old.stages }
+    ensures input { HasCause (S.faults input.old) (S.faults input.new) (input_stopped result) }
+    ensures output { HasCause (K.faults output.old) (K.faults output.new) (output_stopped result) }
+    ensures report { HasCause (R.faults report.old) (R.faults report.new) (report_stopped result) }
+    ensures input_asked { (ChoiceAsks AsksInput P.picked limit (chooser policy.old pace.old.count) core.old → ⊥) →
+        input.new ≡ input.old }
+    ensures output_asked { (ChoiceAsks AsksOutput P.picked limit (chooser policy.old pace.old.count) core.old → ⊥) →
+        output.new ≡ output.old }
+{
+    if let Some(ran) = over(core, limit) {
+        return Some(ran);
+    }
+    let mv = choose(core, candidates, policy, pace);
+    match make(core, mv, show, input, output, report, tally) {
+        Ok(event) => {
+            pace.saw(mv, &event, core.drained());
+            None
+        }
+        Err(ran) => Some(ran),
+    }
+}
+
+/// Runs a policy on an opened processor: makes the moves that it picks, one after another, until the program ends, as many
+/// instructions have retired as the limit allows, or a fault comes. These are looked at in this order before each move. The
+/// policy is offered the allowed moves in the order of all moves, but the issue with an address, and under the hold rule no
+/// Issue; what `show` says is put to the report as the run goes on. It takes no memory, and always comes to an end.
+///
+/// `ReadFault` and `WriteFault` come only where the input, the output failed a call of the environment; that move is not
+/// counted. `ReportFault` comes only where the report failed, behind a move that was made and counted. The count of the
+/// faults of that one rose.
+///
+/// Where no move of the run asks the input, the input is left as it was, whatever it tells of itself; the output likewise.
+pub fn run_policy<P: Policy, S: Source, K: Sink, R: Sink>(
+    core: &mut Core,
+    candidates: &mut Candidates,
+    policy: &mut P,
+    limit: u64,
+    show: Show,
+    input: &mut S,
+    output: &mut K,
+    report: &mut R,
+    tally: &mut Tally,
+) -> Ran
+    requires limit { limit ≤ 1000000000 }
+    requires retired { core.old.state.retired ≤ limit }
+    requires opened { IsOpened core.old }
+    requires tally { tally.old ≡ no_tally }
+    ensures run { RunsRight P.picked P.onward limit show
+        (place_of core.old (streams_of (S.left input.old) (K.written output.old))
+        (R.written report.old) tally.old)
+        (place_of core.new (streams_of (S.left input.new) (K.written output.new))
+        (R.written report.new) tally.new)
+        policy.old policy.new result }
+    ensures bounded { tally.new.moves ≤ most_moves core.old.plan (core.new.state.retired - core.old.state.retired) }
+    ensures input { HasCause (S.faults input.old) (S.faults input.new) (input_stopped (Some result)) }
+    ensures output { HasCause (K.faults output.old) (K.faults output.new) (output_stopped (Some result)) }
+    ensures report { HasCause (R.faults report.old) (R.faults report.new) (report_stopped (Some result)) }
+    ensures asked { PolicyUnasked P.picked P.onward limit show
+        (place_of core.old (streams_of (S.left input.old) (K.written output.old))
+        (R.written report.old) tally.old)
+        (place_of core.new (streams_of (S.left input.new) (K.written output.new))
+        (R.written report.new) tally.new)
+        policy.old policy.new result (input.new ≡ input.old) (output.new ≡ output.old) }
+{
+    known(core);
+    let mut pace = Pace::new(core.layout().stages());
+    loop {
+        let end = advance(
+            core, candidates, policy, &mut pace, limit, show, input, output, report, tally,
+        );
+        if let Some(ran) = end {
+            return ran;
+        }
+    }
+}
