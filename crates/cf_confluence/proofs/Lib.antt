@@ -16,6 +16,7 @@ pub mod Laws
 pub mod Effects
 pub mod Touches
 pub mod BytesBack
+pub mod PutBack
 pub mod TakenBack
 pub mod Contents
 pub mod Locals
