@@ -1,5 +1,5 @@
 -- A step by what stands at the program counter.
-use Rattle.std.proofs.Common.{◌≡◌, ◌≢◌, ℕ, ◌%◌, Bool, true, false, Option, Some, None, Result, Ok, Err, find, refl, ap, sym, ◌∙◌, arith}
+use Rattle.std.proofs.Common.{◌≡◌, ◌≢◌, ℕ, ◌%◌, false, Option, Some, None, Result, Ok, Err, find, refl, ap, sym, ◌∙◌, arith}
 use Rattle.std.proofs.lemmas.Bool.Decides.{nat_tests}
 use Rattle.mem_regions.specs.Memory.{Memory}
 use Rattle.mem_regions.specs.Area.{Area}
@@ -11,7 +11,6 @@ use Rattle.rv_inst.specs.declared.instruction.Instr.{Instr}
 use Rattle.rv_inst.specs.declared.instruction.Instr.TheVariants as instr
 use Rattle.rv_inst.specs.Decoding.{decoded_m, decoded_as}
 use Rattle.rv_machine.specs.declared.outcome.Stepped.{Stepped}
-use Rattle.rv_machine.specs.declared.outcome.Stepped.TheVariants as stepped
 use Rattle.rv_machine.specs.declared.decode_cache.Found.{Found}
 use Rattle.rv_machine.specs.declared.decode_cache.Found.TheVariants as found
 use Rattle.rv_machine.specs.Hart.{Hart}

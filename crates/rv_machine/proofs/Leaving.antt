@@ -1,5 +1,5 @@
 -- An environment call leaves the instruction words of memory as they are.
-use Rattle.std.proofs.Common.{◌≡◌, ◌∙◌, ℕ, List, Bool, true, false, not, Option, Some, None, ◌==◌, cond, refl, ap, sym, subst}
+use Rattle.std.proofs.Common.{◌≡◌, ◌∙◌, ℕ, List, Bool, true, false, not, Option, Some, None, ◌==◌, cond, refl, ap, subst}
 use Rattle.mem_regions.specs.Memory.{Memory}
 use Rattle.mem_regions.specs.Fetching.{fetch_at}
 use Rattle.mem_regions.specs.Ranges.{range_of, can_write}

@@ -1,11 +1,11 @@
 -- The instructions of RV32IM that RV32I has too.
-use Rattle.std.proofs.Common.{◌≡◌, ◌∙◌, ℕ, Bool, true, false, not, IsTrue, Option, Some, None, if◌then◌else◌, sym, subst, refl, arith}
+use Rattle.std.proofs.Common.{◌≡◌, ◌∙◌, ℕ, Bool, true, false, IsTrue, Option, Some, None, if◌then◌else◌, sym, subst, refl, arith}
 use Rattle.std.specs.Prelude.{IfSome}
 use Rattle.rv_inst.specs.declared.isa.Isa.{Isa}
 use Rattle.rv_inst.specs.declared.isa.Isa.TheVariants.{Rv32i, Rv32im}
 use Rattle.rv_inst.specs.declared.instruction.Instr.{Instr}
 use Rattle.rv_inst.specs.Decoding.{decoded, decoded_m, decoded_as}
-use Rattle.rv_inst.specs.Encoding.{Encodes, is_base}
+use Rattle.rv_inst.specs.Encoding.{is_base}
 use Rattle.rv_inst.specs.Ranges.{Fits}
 use Rattle.rv_inst.proofs.Table.{decoded_complete, decoded_m_complete}
 use Rattle.rv_inst.proofs.Reading.{decoded-encodes, decoded-is_base, decoded_m-encodes}

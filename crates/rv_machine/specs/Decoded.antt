@@ -59,17 +59,17 @@ in_set isa i = if is_base i then Some i else if_m isa i
 abbrev pub IsEmpty : Decoded → Type 0
 IsEmpty d = 2 ^ 32 ≤ d.address
 
--- what is kept of an address is what stands there
+-- what a place keeps of an address is what stands there
 abbrev pub IsKeptOf : Memory → Decoded → Type 0
 IsKeptOf mem d = d.address < 2 ^ 32 → found_at mem d.address ≡ found.Instruction d.word d.instr
 
--- all that is kept is
+-- all that is kept is what stands there
 unfoldable pub IsCacheOf : Memory → List Decoded → Type 0
 IsCacheOf mem places = All (IsKeptOf mem) places
 
 -- the place of an address
 abbrev pub place_at : ℕ → ℕ
-place_at pc = pc / 4 % 1024
+place_at pc = pc / 4 % 4096
 
 -- what an index out of range would give, which is none of a cache
 abbrev pub nothing_kept : Decoded

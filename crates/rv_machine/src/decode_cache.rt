@@ -8,8 +8,8 @@ ghost use Rattle.rv_machine.specs.Decoded.{IsEmpty, IsCacheOf, found_at, is_inst
 use mem_regions::{MemErr, Regions};
 use rv_inst::{Instr, decode_m};
 
-/// How many instructions are kept: those of 4 KiB of code.
-const PLACES: usize = 1024;
+/// How many instructions are kept: those of 16 KiB of code.
+const PLACES: usize = 4096;
 
 /// What stands at an address.
 #[derive(Clone, Copy)]
@@ -46,14 +46,14 @@ const EMPTY: Decoded = Decoded {
 /// The instructions that were decoded last, each in the place of its address.
 #[derive(Drop)]
 pub(crate) struct DecodeCache {
-    pub(crate) places: [Decoded; 1024],
+    pub(crate) places: [Decoded; 4096],
 }
 
 /// The place of an address.
 #[inline(always)]
 fn place_of(pc: u32) -> usize
     ensures place { result ≡ place_at pc }
-    ensures below { result < 1024 }
+    ensures below { result < 4096 }
 {
     (pc / 4) as usize % PLACES
 }

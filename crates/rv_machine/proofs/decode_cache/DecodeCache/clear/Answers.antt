@@ -4,4 +4,4 @@ use Rattle.rv_machine.specs.Decoded.{IsEmpty}
 use Rattle.rv_machine.proofs.decode_cache.DecodeCache.clear.Goals as goal
 
 pub returns : goal.returns
-returns c = All-replicate IsEmpty 1024 _ (omega arith)
+returns c = All-replicate IsEmpty 4096 _ (omega arith)
