@@ -4,18 +4,15 @@ use cf_bind::Bar;
 use cf_run::{Ran, Scripted};
 use cf_scripts::{ScriptErr, ScriptKind};
 use cf_texts::Page;
+use std::alloc::AllocError;
 use std::test::Fail;
 
-const fn bad(line: u32, kind: ScriptKind) -> Scripted {
+fn bad(line: u32, kind: ScriptKind) -> Scripted {
     Scripted::BadScript(ScriptErr { line, kind })
 }
 
-const fn barred(line: u32, bar: Bar) -> Scripted {
-    Scripted::BarredAt { line, bar }
-}
-
-/// Each way in which a run finishes, each kind of line that tells no move, and each bar.
-const ANSWERS: [Scripted; 33] = [
+/// Each way in which a run finishes of itself.
+const ENDS: [Scripted; 8] = [
     Scripted::Ran(Ran::Exit(0)),
     Scripted::Ran(Ran::Exit(255)),
     Scripted::Ran(Ran::Trap {
@@ -28,31 +25,31 @@ const ANSWERS: [Scripted; 33] = [
     Scripted::Ran(Ran::WriteFault),
     Scripted::Ran(Ran::ReportFault),
     Scripted::ScriptEnd,
-    bad(1, ScriptKind::UnknownMove),
-    bad(20, ScriptKind::BadNumber),
-    bad(3, ScriptKind::ExtraWords),
-    bad(16_777_216, ScriptKind::NotAscii),
-    barred(1, Bar::Halted),
-    barred(2, Bar::Failed),
-    barred(3, Bar::NoSuchSite),
-    barred(4, Bar::NoPassenger),
-    barred(5, Bar::NoPacket),
-    barred(6, Bar::Occupied),
-    barred(7, Bar::NotMet),
-    barred(8, Bar::AlreadyMet),
-    barred(9, Bar::SourceMissing(5)),
-    barred(10, Bar::SourceMissing(31)),
-    barred(11, Bar::NoUnit),
-    barred(12, Bar::NotDone),
-    barred(13, Bar::Owes),
-    barred(14, Bar::OwesNothing),
-    barred(15, Bar::OpNotThere),
-    barred(16, Bar::LaneFull),
-    barred(17, Bar::LaneEmpty),
-    barred(18, Bar::FetchWaiting),
-    barred(19, Bar::BadGuess),
-    barred(20, Bar::Dead),
-    barred(21, Bar::AlreadyDone),
+];
+
+/// Each bar, of the line with its number in this list.
+const BARS: [Bar; 21] = [
+    Bar::Halted,
+    Bar::Failed,
+    Bar::NoSuchSite,
+    Bar::NoPassenger,
+    Bar::NoPacket,
+    Bar::Occupied,
+    Bar::NotMet,
+    Bar::AlreadyMet,
+    Bar::SourceMissing(5),
+    Bar::SourceMissing(31),
+    Bar::NoUnit,
+    Bar::NotDone,
+    Bar::Owes,
+    Bar::OwesNothing,
+    Bar::OpNotThere,
+    Bar::LaneFull,
+    Bar::LaneEmpty,
+    Bar::FetchWaiting,
+    Bar::BadGuess,
+    Bar::Dead,
+    Bar::AlreadyDone,
 ];
 
 /// Their lines under a limit of 500 with 12 moves made. A report that failed has none.
@@ -90,13 +87,32 @@ barred at line 20: Dead
 barred at line 21: AlreadyDone
 ";
 
+/// Adds the first line that tells the answer.
+fn add_line(lines: &mut Vec<u8>, answer: Scripted) -> Result<(), AllocError> {
+    let mut page = Page::new();
+    push_first_line(&mut page, 500, 12, answer);
+    lines.extend_from_slice(page.bytes())
+}
+
+/// Adds the lines of the ways in which a run finishes, and of each kind of line that tells no move.
+fn add_ends(lines: &mut Vec<u8>) -> Result<(), AllocError> {
+    for answer in &ENDS {
+        add_line(lines, *answer)?;
+    }
+    add_line(lines, bad(1, ScriptKind::UnknownMove))?;
+    add_line(lines, bad(20, ScriptKind::BadNumber))?;
+    add_line(lines, bad(3, ScriptKind::ExtraWords))?;
+    add_line(lines, bad(16_777_216, ScriptKind::NotAscii))
+}
+
 #[test]
 fn first_lines(rt: HostRuntime) -> Result<(), Fail> {
     let mut lines = Vec::new(rt.alloc());
-    for answer in &ANSWERS {
-        let mut page = Page::new();
-        push_first_line(&mut page, 500, 12, *answer);
-        lines.extend_from_slice(page.bytes())?;
+    add_ends(&mut lines)?;
+    let mut line = 0u32;
+    for bar in &BARS {
+        line = line.saturating_add(1);
+        add_line(&mut lines, Scripted::BarredAt { line, bar: *bar })?;
     }
     assert_eq!(rt; lines.as_slice(), LINES.as_bytes());
     Ok(())
