@@ -1,9 +1,9 @@
 -- A call that ends the program does so whatever the input has left.
-use Rattle.std.proofs.Common.{◌≡◌, ℕ, List, [], Option, Some, None, Bool, true, false, refl}
+use Rattle.std.proofs.Common.{◌≡◌, ℕ, List, Option, Some, None, Bool, true, false}
 use Rattle.std.specs.Prelude.{if◌then◌else◌, ◌==◌, not}
 use Rattle.mem_regions.specs.Memory.{Memory}
 use Rattle.mem_regions.specs.Ranges.{range_of, can_write}
-use Rattle.rv_machine.specs.Call.{Called, Value, Exit, Answer, call, read, write, brk, exit, answered, write_from, is_exit, is_output, number_in, first_argument, second_argument, third_argument, bad_file, bad_address, no_such_call}
+use Rattle.rv_machine.specs.Call.{Called, Value, Exit, Answer, call, read, write, brk, exit, answered, write_from, is_exit, is_output, number_in, first_argument, second_argument, third_argument, no_such_call}
 
 -- it is no exit
 abbrev IsAnswer : Called → Type 0

@@ -1,5 +1,5 @@
 -- The first test that holds is the one that is found.
-use Rattle.std.proofs.Common.{◌≡◌, List, [], ◌∷◌, Option, None, Some, Bool, true, false, refl, sym, ◌∙◌}
+use Rattle.std.proofs.Common.{◌≡◌, List, [], ◌∷◌, None, Some, Bool, true, false, refl, sym, ◌∙◌}
 use Rattle.std.specs.Prelude.{find}
 use Rattle.cf_bind.specs.declared.moves.Bar.{Bar}
 use Rattle.cf_semantics.specs.Options.{on}

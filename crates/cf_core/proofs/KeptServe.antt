@@ -3,11 +3,10 @@ use Rattle.std.proofs.Common.{◌≡◌, ℕ, List, [], Option, Some, None, Bool
 use Rattle.std.specs.Prelude.{Result, Ok, Err, if◌then◌else◌, ◌==◌, not}
 use Rattle.mem_regions.specs.Memory.{Memory}
 use Rattle.mem_regions.specs.Access.{bounds_of}
-use Rattle.mem_regions.specs.Fetching.{synced}
 use Rattle.mem_regions.specs.Ranges.{range_of, can_write}
 use Rattle.mem_regions.proofs.Kept.{bounds-memory_with, bounds-synced}
 use Rattle.rv_inst.specs.declared.instruction.Instr.{Instr}
-use Rattle.rv_machine.specs.Call.{Called, Value, Exit, Answer, call, read, write, brk, exit, answered, write_from, with_break, is_break, is_exit, is_output, number_in, first_argument, second_argument, third_argument, bad_file, bad_address, no_such_call}
+use Rattle.rv_machine.specs.Call.{Called, Value, Exit, call, read, write, brk, write_from, with_break, is_break, is_exit, is_output, number_in, second_argument, third_argument}
 use Rattle.rv_machine.specs.Step.{synchronizes}
 use Rattle.rv_machine.specs.Streams.{Streams}
 use Rattle.cf_layout.specs.Layout.{Plan}
@@ -26,7 +25,7 @@ use Rattle.cf_semantics.specs.Passengers.{instruction}
 use Rattle.cf_semantics.specs.State.{State, Moment, cell_at, with_cell}
 use Rattle.cf_passengers.specs.Facts.{IsPassenger}
 use Rattle.cf_passengers.proofs.Kept.{answered-passenger, quitting-passenger}
-use Rattle.cf_core.specs.Processors.{Processor, IsProcessor, IsStage, in_state}
+use Rattle.cf_core.specs.Processors.{Processor, IsProcessor, IsStage}
 use Rattle.cf_core.specs.Stepping.{Makes, FailsToRead, FailsToWrite, MakesOrFails}
 use Rattle.cf_core.specs.declared.fault.Fault.{Fault}
 use Rattle.cf_core.specs.declared.fault.Fault.TheVariants as fault
@@ -123,7 +122,7 @@ write_kept : (old new : Processor) (before after : Streams) → FailsToWrite old
 write_kept old new before after h k = subst (λ (p : Processor). IsProcessor p.plan p.state) (sym h.processor) (failed_kept old.plan old.state k)
 
 -- nothing that bars a move bars its row
-unbarred : (plan : Plan) (s : State) (mv : Move) → bar plan s mv ≡ None → row_bar plan s mv ≡ None
+pub unbarred : (plan : Plan) (s : State) (mv : Move) → bar plan s mv ≡ None → row_bar plan s mv ≡ None
 unfolding bar
 unbarred plan s mv e = grind arith
 

@@ -22,3 +22,9 @@ pub mod Empty
 pub mod Weights
 pub mod Sameness
 pub mod Entries
+pub mod Bits
+pub mod SameMarks
+pub mod Touched
+pub mod Sites
+pub mod Masked
+pub mod KeptMarks

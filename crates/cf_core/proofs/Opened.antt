@@ -1,5 +1,5 @@
 -- A processor in which nothing stands is one.
-use Rattle.std.proofs.Common.{◌≡◌, ℕ, zero, suc, List, [], ◌∷◌, Option, Some, None, Bool, map, length, All, refl, ap}
+use Rattle.std.proofs.Common.{◌≡◌, ℕ, zero, suc, List, [], ◌∷◌, Option, Some, None, Bool, false, map, length, refl, sym, ap, ◌∙◌}
 use Rattle.std.specs.Prelude.{replicate, IfSome, slice_get}
 use Rattle.std.proofs.lemmas.List.{length-replicate}
 use Rattle.std.proofs.lemmas.List.Elements.{All-nil, All-replicate}
@@ -13,10 +13,20 @@ use Rattle.cf_bind.specs.declared.passenger.End.{End}
 use Rattle.cf_semantics.specs.Layouts.{isa_of}
 use Rattle.cf_semantics.specs.Options.{on}
 use Rattle.cf_semantics.specs.Runs.{empty_cell, empty_siding}
-use Rattle.cf_semantics.specs.State.{State}
+use Rattle.cf_bind.specs.declared.cell.Cell.{Cell}
+use Rattle.cf_semantics.specs.State.{State, cell_at}
+use Rattle.cf_stages.specs.Words.{word_of}
+use Rattle.cf_stages.proofs.Bits.{word-agrees}
+use Rattle.cf_stages.proofs.Empty.{word-none}
+use Rattle.cf_core.specs.Marks.{mark_at, marks_of}
+use Rattle.cf_core.specs.declared.marks.Mark.{Mark}
 use Rattle.cf_passengers.specs.Facts.{IsWritable}
 use Rattle.cf_sidings.specs.Sidings.{empty_sidings}
 use Rattle.cf_core.specs.Processors.{AreOps, IsOp, IsProcessor, IsStage}
+
+-- nothing holds
+abbrev no_mark : Mark
+no_mark = record { owes = false; stops = false; execute = false; launch = false; recover = false }
 
 -- a cell in which no operation stands
 no_op : Option Op
@@ -53,3 +63,31 @@ pub opened-is : (plan : Plan) (s : State) → IsAccepted plan → s.cells ≡ re
 opened-is plan s acc stages sidings lane = rw (← stages, ← sidings, ← lane) at (opened-processor plan s.fetch s.cache s.regs s.mem s.retired s.ending s.failed acc)
 
 pub ruleset opening = (opened-processor)
+
+-- nothing holds of an empty stage
+nothing_at : (plan : Plan) (s : State) (n i : ℕ) (o : Option Cell) → s.cells ≡ replicate n empty_cell → cell_at s.cells i ≡ o → mark_at plan s i ≡ no_mark
+unfolding mark_at
+nothing_at plan s n i None e here = rw here refl
+nothing_at plan s n i (Some c) e here =
+    let empty : c ≡ empty_cell = only_empty n i c (rw e at here) in
+    rw (here, empty) refl
+  where
+    only_empty : (n i : ℕ) (c : Cell) → cell_at (replicate n empty_cell) i ≡ Some c → c ≡ empty_cell
+    only_empty n zero c g = absurd (cc)
+    only_empty zero (suc k) c g = absurd (cc)
+    only_empty (suc n) (suc zero) c g = cc
+    only_empty (suc n) (suc (suc k)) c g = only_empty n (suc k) c g
+
+nowhere : (plan : Plan) (s : State) (field : Mark → Bool) → field no_mark ≡ false → s.cells ≡ replicate plan.stages empty_cell → 0 ≡ word_of (λ i. field (mark_at plan s i)) plan.stages
+nowhere plan s field off e =
+    sym (word-agrees (λ i. field (mark_at plan s i)) (λ i. false) plan.stages (λ i low high. ap field (nothing_at plan s plan.stages i (cell_at s.cells i) e refl) ∙ off) ∙ word-none plan.stages)
+
+pub opened-marks : (plan : Plan) (s : State) → s.cells ≡ replicate plan.stages empty_cell → record { owes = 0; stops = 0; execute = 0; launch = 0; recover = 0 } ≡ marks_of plan s
+unfolding marks_of
+opened-marks plan s e =
+    let owes = nowhere plan s (λ m. m.owes) refl e in
+    let stops = nowhere plan s (λ m. m.stops) refl e in
+    let execute = nowhere plan s (λ m. m.execute) refl e in
+    let launch = nowhere plan s (λ m. m.launch) refl e in
+    let recover = nowhere plan s (λ m. m.recover) refl e in
+    λ x. record { owes = owes x; stops = stops x; execute = execute x; launch = launch x; recover = recover x }

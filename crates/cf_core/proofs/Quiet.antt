@@ -1,12 +1,11 @@
 -- A move that asks nothing of the outside is made whatever the input has left.
-use Rattle.std.proofs.Common.{◌≡◌, List, [], ℕ, None, refl, ap, ◌∙◌}
-use Rattle.std.specs.Prelude.{Option}
+use Rattle.std.proofs.Common.{◌≡◌, List, [], ℕ}
 use Rattle.rv_machine.specs.Streams.{Streams}
 use Rattle.rv_machine.proofs.Told.{some_rest, rest-told, rest-spent, stays}
 use Rattle.cf_bind.specs.declared.moves.Move.{Move}
 use Rattle.cf_semantics.specs.State.{Moment}
 use Rattle.cf_semantics.specs.Moves.{next}
-use Rattle.cf_core.specs.Processors.{Processor, in_state}
+use Rattle.cf_core.specs.Processors.{Processor}
 use Rattle.cf_core.specs.Stepping.{Makes}
 
 -- the moment of a processor with this rest of the input, and no output yet

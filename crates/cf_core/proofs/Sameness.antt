@@ -1,5 +1,5 @@
 -- What `==` answers decides whether two contents of the processor are the same.
-use Rattle.std.proofs.Common.{◌≡◌, arith, refl}
+use Rattle.std.proofs.Common.{◌≡◌, refl}
 use Rattle.std.proofs.lemmas.Bool.Decides.{Decides-and, Decides-eqb}
 use Rattle.std.specs.Bool.{Decides}
 use Rattle.cf_bind.specs.declared.cell.Op.{Op}

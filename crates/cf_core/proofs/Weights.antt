@@ -1,12 +1,11 @@
 -- The most cells of a siding, and the weight of the sidings, from one siding to the next.
 use Rattle.std.proofs.Common.{◌≡◌, ℕ, zero, suc, ◌+◌, ◌<◌, ◌≤◌, List, [], ◌∷◌, All, Option, Some, length, map, drop, max, refl, sym, subst, ap, arith}
-use Rattle.std.specs.Prelude.{slice_get, unwrap_or, nat_lt}
+use Rattle.std.specs.Prelude.{slice_get, unwrap_or}
 use Rattle.std.proofs.lemmas.Bool.Decides.{nat_tests}
 use Rattle.std.proofs.lemmas.List.Elements.{All-tail}
 use Rattle.cf_layout.specs.Layout.{Plan, SidingPlan, no_siding, cells_of}
 use Rattle.cf_layout.specs.Accepted.{IsAccepted, IsSiding}
 use Rattle.cf_bind.specs.declared.cell.Op.{Op}
-use Rattle.cf_semantics.specs.Options.{on}
 use Rattle.cf_bind.specs.declared.cell.Cell.{Cell}
 use Rattle.cf_semantics.specs.State.{State, cell_at}
 use Rattle.cf_semantics.specs.Weight.{cell_weight, cells_weight, larger, most_cells, siding_weight, sidings_weight}

@@ -3,3 +3,5 @@ pub mod Seen
 pub mod Stepping
 pub mod Asking
 pub mod Ends
+pub mod Masks
+pub mod Marks

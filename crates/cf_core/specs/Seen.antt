@@ -1,5 +1,5 @@
 -- What is seen from outside of a meeting, by what stood in the stage before and what stands there after it.
-use Rattle.std.specs.Prelude.{Option, Some, None, Bool, false, not, ◌&&◌, if◌then◌else◌}
+use Rattle.std.specs.Prelude.{Option, Bool, false, not, ◌&&◌, if◌then◌else◌}
 use Rattle.cf_bind.specs.declared.cell.Cell.{Cell}
 use Rattle.cf_bind.specs.declared.passenger.Passenger.{Passenger}
 use Rattle.cf_semantics.specs.declared.event.Event.{Event}

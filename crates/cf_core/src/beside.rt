@@ -53,7 +53,7 @@ impl Processor {
     /// The number of Memory's siding, at whose end the port to memory is.
     #[inline(always)]
     #[tactic(auto, unfolding(cf_semantics::specs::Layouts::port))]
-    fn port(&self) -> u32
+    pub(crate) fn port(&self) -> u32
         ensures { result ≡ port_of self.now.plan }
     {
         self.layout.siding_of(Class::Memory).unwrap_or(0)

@@ -14,6 +14,7 @@ ghost use Rattle.cf_core.specs.Processors.{opened, IsOp, IsProcessor, IsStage};
 ghost use Rattle.cf_core.specs.Stepping.{MakesOrFails, Steps, input_made, input_stepped, output_made, output_stepped};
 
 use crate::fault::Fault;
+use crate::marks::Marks;
 use crate::processor::Processor;
 use crate::step::Step;
 use cf_bind::{Bar, Cell, End, Fetch, Move, Op};
@@ -38,16 +39,19 @@ use std::marker::Model;
 #[derive(Drop)]
 pub struct Core {
     pub(crate) processor: Processor,
+    pub(crate) marks: Marks,
 }
 
 impl Model for Core {
+    ghost use Rattle.std.specs.Prelude.{◌≡◌};
+    ghost use Rattle.cf_core.specs.Marks.{marks_of};
     ghost use Rattle.cf_core.specs.Processors.{Processor as Whole, IsProcessor};
 
     ghost Value = { Whole };
 
     ghost view = { λ c. c.processor };
 
-    ghost invariant = { λ c. IsProcessor c.processor.plan c.processor.state };
+    ghost invariant = { λ c. IsProcessor c.processor.plan c.processor.state × (c.marks ≡ marks_of c.processor.plan c.processor.state) };
 }
 
 impl Core {
@@ -72,6 +76,7 @@ impl Core {
                 ending: None,
                 failed: false,
             },
+            marks: Marks::none(),
         })
     }
 
@@ -231,7 +236,10 @@ impl Core {
         ensures input_asked { (AsksInput self.old m → ⊥) → input.new ≡ input.old }
         ensures output_asked { (AsksOutput self.old m → ⊥) → output.new ≡ output.old }
     {
-        self.processor.make(m, input, output)
+        let touched = self.processor.touched(m);
+        let made = self.processor.make(m, input, output);
+        self.marks = self.processor.remarked(self.marks, touched);
+        made
     }
 
     /// Makes a move, if nothing bars it.

@@ -7,6 +7,8 @@ mod counterflow;
 mod draining;
 mod fault;
 pub mod laws;
+mod marks;
+mod masks;
 mod moving;
 mod pipes;
 mod processor;
@@ -15,6 +17,7 @@ mod same;
 mod serving;
 mod step;
 mod top;
+mod touching;
 mod units;
 mod weighing;
 
@@ -22,6 +25,7 @@ pub use cf_bind::{Cell, Op};
 pub use cf_semantics::Event;
 pub use counterflow::Core;
 pub use fault::Fault;
+pub use masks::Masks;
 pub use step::Step;
 
 #[cfg(test)]

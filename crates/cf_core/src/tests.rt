@@ -87,3 +87,22 @@ fn a_source_is_missing(rt: HostRuntime) -> Result<(), Fail> {
     assert!(rt; !core.drained());
     Ok(())
 }
+
+/// The words of `addi x10, x0, 7` on its way: a unit for it stands in stage 2, and it has no source.
+#[test]
+fn the_words_keep_up_with_the_moves(rt: HostRuntime) -> Result<(), Fail> {
+    let mut core = core_of(&rt, &[0x0070_0513])?;
+    assert!(rt; make(&mut core, &[Move::Issue(Guess::Next)]).is_none());
+    assert_eq!(rt; core.masks().passengers, 0b1);
+    assert_eq!(rt; core.masks().execute, 0);
+    assert!(rt; make(&mut core, &[Move::Climb(1)]).is_none());
+    assert_eq!(rt; core.masks().passengers, 0b10);
+    assert_eq!(rt; core.masks().execute, 0b10);
+    assert!(rt; make(&mut core, &[Move::Execute(2)]).is_none());
+    assert_eq!(rt; core.masks().execute, 0);
+    assert_eq!(rt; core.masks().owes, 0b10);
+    assert!(rt; make(&mut core, &[Move::Send(2)]).is_none());
+    assert_eq!(rt; core.masks().packets, 0b10);
+    assert_eq!(rt; core.masks().met, 0b10);
+    Ok(())
+}

@@ -27,10 +27,10 @@ empty_cells k zero = refl
 empty_cells k (suc n) = rw (no_bits k, empty_cells (suc k) n) refl
 
 -- a test that holds nowhere gives the word 0
-word_none : (n : ℕ) → word_of (λ i. false) n ≡ 0
+pub word-none : (n : ℕ) → word_of (λ i. false) n ≡ 0
 unfolding word_of
-word_none zero = refl
-word_none (suc n) = rw (word_none n) (omega arith)
+word-none zero = refl
+word-none (suc n) = rw (word-none n) (omega arith)
 
 nowhere : (test : Cell → Bool) (n : ℕ) → test empty_cell ≡ false → (j : ℕ) → on (cell_at (replicate n empty_cell) j) false test ≡ false
 nowhere test n e zero = refl
@@ -39,7 +39,7 @@ nowhere test (suc n) e (suc zero) = e
 nowhere test (suc n) e (suc (suc k)) = nowhere test n e (suc k)
 
 word_empty : (test : Cell → Bool) (n : ℕ) → test empty_cell ≡ false → 0 ≡ word_where test (replicate n empty_cell)
-word_empty test n e = sym (word-agrees (λ i. on (cell_at (replicate n empty_cell) i) false test) (λ i. false) (length (replicate n empty_cell)) (λ j low high. nowhere test n e j) ∙ word_none (length (replicate n empty_cell)))
+word_empty test n e = sym (word-agrees (λ i. on (cell_at (replicate n empty_cell) i) false test) (λ i. false) (length (replicate n empty_cell)) (λ j low high. nowhere test n e j) ∙ word-none (length (replicate n empty_cell)))
 
 all_empty : (n : ℕ) → All IsCell (replicate n empty_cell)
 all_empty n = λ k d within. rw (get_or-replicate n k empty_cell d (rw length-replicate at within)) (λ g. absurd (cc))
@@ -82,7 +82,7 @@ nowhere_from test (c ∷ cells) e (suc zero) = grind arith
 nowhere_from test (c ∷ cells) e (suc (suc k)) = nowhere_from test cells (grind arith) (suc k)
 
 word_nowhere : (test : Cell → Bool) (cells : List Cell) → list_any test cells ≡ false → word_where test cells ≡ 0
-word_nowhere test cells e = word-agrees (λ i. on (cell_at cells i) false test) (λ i. false) (length cells) (λ j low high. nowhere_from test cells e j) ∙ word_none (length cells)
+word_nowhere test cells e = word-agrees (λ i. on (cell_at cells i) false test) (λ i. false) (length cells) (λ j low high. nowhere_from test cells e j) ∙ word-none (length cells)
 
 either_none : (cells : List Cell) → list_any is_occupied cells ≡ false → (list_any (λ c. is_some c.passenger) cells ≡ false) × (list_any (λ c. is_some c.packet) cells ≡ false)
 either_none [] e = (refl, refl)

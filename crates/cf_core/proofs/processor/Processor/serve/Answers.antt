@@ -1,5 +1,5 @@
 -- FENCE.I asks nothing of the outside.
-use Rattle.std.proofs.Common.{◌≡◌, refl, arith}
+use Rattle.std.proofs.Common.{refl, arith}
 use Rattle.cf_core.proofs.Served.{fence-takes}
 use Rattle.cf_core.proofs.processor.Processor.serve.Goals as goal
 

@@ -1,0 +1,62 @@
+-- The words of all stages after something else holds of two of them.
+use Rattle.std.proofs.Common.{◌≡◌, ◌≢◌, ◌∙◌, ℕ, zero, suc, ◌-◌, ◌<◌, ◌≤◌, Bool, true, false, refl, ap, arith}
+use Rattle.std.specs.Prelude.{nat_eq, if◌then◌else◌}
+use Rattle.std.proofs.lemmas.Bool.Decides.{nat_tests}
+use Rattle.cf_layout.specs.Layout.{Plan}
+use Rattle.cf_semantics.specs.State.{State}
+use Rattle.cf_stages.specs.Words.{with_bit, word_of}
+use Rattle.cf_stages.proofs.Bits.{word-with-bit}
+use Rattle.cf_core.specs.declared.marks.Mark.{Mark}
+use Rattle.cf_core.specs.Marks.{mark_at, marked, marks_of}
+
+-- one test says something else at one stage
+word_at : (test other : ℕ → Bool) (n i : ℕ) → n ≤ 32 → 0 < i → i ≤ n → ((k : ℕ) → k ≢ i → other k ≡ test k) → word_of other n ≡ with_bit (word_of test n) (i - 1) (other i)
+word_at test other n zero few low within same = absurd (omega arith)
+word_at test other n (suc k) few low within same =
+    let z : suc k - 1 ≡ k = omega arith in
+    rw z (word-with-bit test other n k few (omega arith) same)
+
+-- a test that is changed at one stage first
+between : (ℕ → Bool) → (ℕ → Bool) → ℕ → ℕ → Bool
+between test other i k = if nat_eq k i then other k else test k
+
+between_same : (test other : ℕ → Bool) (i k : ℕ) (b : Bool) → nat_eq k i ≡ b → k ≢ i → between test other i k ≡ test k
+unfolding between
+between_same test other i k true e off = let at : k ≡ i = grind (arith, nat_tests) in absurd (off at)
+between_same test other i k false e off = rw e refl
+
+between_here : (test other : ℕ → Bool) (i : ℕ) (b : Bool) → nat_eq i i ≡ b → between test other i i ≡ other i
+unfolding between
+between_here test other i true e = rw e refl
+between_here test other i false e = let off : i ≢ i = grind (arith, nat_tests) in absurd (off refl)
+
+between_rest : (test other : ℕ → Bool) (i j : ℕ) → ((k : ℕ) → k ≢ i → k ≢ j → other k ≡ test k) → (k : ℕ) (b : Bool) → nat_eq k i ≡ b → k ≢ j → other k ≡ between test other i k
+unfolding between
+between_rest test other i j same k true e off = rw e refl
+between_rest test other i j same k false e off = let far : k ≢ i = grind (arith, nat_tests) in rw e (same k far off)
+
+-- it says something else at two
+pub word-two : (test other : ℕ → Bool) (n i j : ℕ) → n ≤ 32 → 0 < i → i ≤ n → 0 < j → j ≤ n → ((k : ℕ) → k ≢ i → k ≢ j → other k ≡ test k) →
+    word_of other n ≡ with_bit (with_bit (word_of test n) (i - 1) (other i)) (j - 1) (other j)
+word-two test other n i j few low within low2 within2 same =
+    let first = word_at test (between test other i) n i few low within (λ k off. between_same test other i k (nat_eq k i) refl off) in
+    let here = between_here test other i (nat_eq i i) refl in
+    word_at (between test other i) other n j few low2 within2 (λ k off. between_rest test other i j same k (nat_eq k i) refl off)
+    ∙ ap (λ (w : ℕ). with_bit w (j - 1) (other j)) (first ∙ ap (with_bit (word_of test n) (i - 1)) here)
+
+-- the same holds of every stage but two
+abbrev pub SameBut : Plan → State → State → ℕ → ℕ → Type 0
+SameBut plan s t i j = (k : ℕ) → k ≢ i → k ≢ j → mark_at plan t k ≡ mark_at plan s k
+
+-- so the words have the new bits of the two
+pub marks-two : (plan : Plan) (s t : State) (i j : ℕ) → plan.stages ≤ 32 → 0 < i → i ≤ plan.stages → 0 < j → j ≤ plan.stages → SameBut plan s t i j →
+    marks_of plan t ≡ marked (marked (marks_of plan s) i (mark_at plan t i)) j (mark_at plan t j)
+unfolding marks_of
+marks-two plan s t i j few low within low2 within2 same =
+    let two = λ (field : Mark → Bool). word-two (λ k. field (mark_at plan s k)) (λ k. field (mark_at plan t k)) plan.stages i j few low within low2 within2 (λ k a b. ap field (same k a b)) in
+    let owes = two (λ m. m.owes) in
+    let stops = two (λ m. m.stops) in
+    let execute = two (λ m. m.execute) in
+    let launch = two (λ m. m.launch) in
+    let recover = two (λ m. m.recover) in
+    λ x. record { owes = owes x; stops = stops x; execute = execute x; launch = launch x; recover = recover x }

@@ -1,0 +1,28 @@
+-- The words are kept up to date with the two stages that the move touches.
+use Rattle.std.proofs.Common.{◌≡◌, ◌∙◌, None, subst, sym}
+use Rattle.rv_machine.specs.Streams.{streams_of}
+use Rattle.cf_semantics.specs.Bars.{bar}
+use Rattle.cf_core.specs.Processors.{Processor}
+use Rattle.cf_core.proofs.KeptMarks.{made-marks, made-within}
+use Rattle.cf_core.proofs.KeptServe.{made-kept, unbarred}
+use Rattle.cf_core.proofs.counterflow.Core.make.Goals as goal
+
+pub touched-touched-requires-clause-allowed : goal.touched-touched-requires-clause-allowed
+touched-touched-requires-clause-allowed g c =
+    unbarred c.self.inside.processor.plan c.self.inside.processor.state c.args.m (subst (λ (p : Processor). bar p.plan p.state c.args.m ≡ None) (sym c.self.view_is) c.requires.allowed)
+
+pub remarked-self-inside-requires-clause-within : goal.remarked-self-inside-requires-clause-within
+remarked-self-inside-requires-clause-within g c =
+    let before = streams_of (g.S.Source.left c.args.input.now) (g.K.Sink.written c.args.output.now) in
+    let after = streams_of (g.S.Source.left c.make-made.new.input) (g.K.Sink.written c.make-made.new.output) in
+    made-within c.self.inside.processor c.make-made.new.self c.args.m before after c.make-made.result c.touched-touched.result c.self.invariant.0
+    (subst (λ (p : Processor). bar p.plan p.state c.args.m ≡ None) (sym c.self.view_is) c.requires.allowed) c.make-made.ensures.makes c.touched-touched.ensures
+
+pub invariant_of-self : goal.invariant_of-self
+invariant_of-self g c =
+    let before = streams_of (g.S.Source.left c.args.input.now) (g.K.Sink.written c.args.output.now) in
+    let after = streams_of (g.S.Source.left c.make-made.new.input) (g.K.Sink.written c.make-made.new.output) in
+    let free = subst (λ (p : Processor). bar p.plan p.state c.args.m ≡ None) (sym c.self.view_is) c.requires.allowed in (
+      made-kept c.self.inside.processor c.make-made.new.self c.args.m before after c.make-made.result free c.make-made.ensures.makes c.self.invariant.0,
+      c.remarked-self-inside.ensures ∙ made-marks c.self.inside.processor c.make-made.new.self c.self.inside.marks c.args.m before after c.make-made.result c.touched-touched.result c.self.invariant.0 free c.make-made.ensures.makes c.self.invariant.1 c.touched-touched.ensures,
+    )

@@ -1,0 +1,90 @@
+-- What is kept of each stage from one move to the next, and which stages a move can change.
+use Rattle.std.specs.Prelude.{ℕ, ◌+◌, ◌-◌, ◌<◌, ◌≤◌, Bool, Option, None, not}
+use Rattle.cf_layout.specs.Layout.{Plan, launch_stage, recover_stage, siding_of}
+use Rattle.cf_bind.specs.declared.moves.Move.{Move}
+use Rattle.cf_bind.specs.declared.moves.Move.TheVariants.{Issue, Emit, Climb, Fall, Meet, Execute, Send, Launch, Slide, Access, Recover, Leave, Exit, Serve}
+use Rattle.cf_semantics.specs.Options.{on, is_some}
+use Rattle.cf_semantics.specs.State.{State}
+use Rattle.cf_semantics.specs.Bars.{row_bar}
+use Rattle.cf_semantics.specs.Layouts.{port}
+use Rattle.cf_semantics.specs.Passengers.{kind}
+use Rattle.cf_stages.specs.Changes.{passenger_at}
+use Rattle.cf_stages.specs.Words.{with_bit, word_of}
+use Rattle.cf_core.specs.Masks.{owes_at, stops_there}
+use Rattle.cf_core.specs.declared.marks.Mark.{Mark}
+use Rattle.cf_core.specs.declared.marks.Marks.{Marks}
+use Rattle.cf_core.specs.declared.touching.Touched.{Touched}
+
+-- nothing in the move's own row bars it
+abbrev pub is_free : Plan → State → Move → Bool
+is_free plan s mv = not (is_some (row_bar plan s mv))
+
+-- what holds of a stage
+unfoldable pub mark_at : Plan → State → ℕ → Mark
+mark_at plan s i = record {
+  owes = owes_at s i;
+  stops = stops_there plan s i;
+  execute = is_free plan s (Execute i);
+  launch = is_free plan s (Launch i);
+  recover = is_free plan s (Recover i);
+}
+
+-- what holds of all of them, as words
+unfoldable pub marks_of : Plan → State → Marks
+marks_of plan s = record {
+  owes = word_of (λ i. (mark_at plan s i).owes) plan.stages;
+  stops = word_of (λ i. (mark_at plan s i).stops) plan.stages;
+  execute = word_of (λ i. (mark_at plan s i).execute) plan.stages;
+  launch = word_of (λ i. (mark_at plan s i).launch) plan.stages;
+  recover = word_of (λ i. (mark_at plan s i).recover) plan.stages;
+}
+
+-- the words with the bits of a stage
+abbrev pub marked : Marks → ℕ → Mark → Marks
+marked marks i mark = record {
+  owes = with_bit marks.owes (i - 1) mark.owes;
+  stops = with_bit marks.stops (i - 1) mark.stops;
+  execute = with_bit marks.execute (i - 1) mark.execute;
+  launch = with_bit marks.launch (i - 1) mark.launch;
+  recover = with_bit marks.recover (i - 1) mark.recover;
+}
+
+-- one stage, twice
+abbrev pub alone : ℕ → Touched
+alone i = record { low = i; high = i }
+
+-- the stage from which a siding launches, and the one at which it recovers
+abbrev pub sites : Plan → ℕ → Touched
+sites plan k = record { low = launch_stage plan k; high = recover_stage plan k }
+
+-- the siding of the passenger in a stage
+abbrev pub home_at : Plan → State → ℕ → Option ℕ
+home_at plan s i = on (passenger_at s.cells i) None (λ p. siding_of plan (kind p))
+
+-- the stages of which something else can hold after the move: where the contents changed, and where the siding launches and recovers whose first or last cell may have changed
+unfoldable pub touched : Plan → State → Move → Touched
+touched plan s (Issue g) = alone 1
+touched plan s Emit = alone plan.stages
+touched plan s (Climb i) = record { low = i; high = i + 1 }
+touched plan s (Fall i) = record { low = i - 1; high = i }
+touched plan s (Meet i) = alone i
+touched plan s (Execute i) = alone i
+touched plan s (Send i) = alone i
+touched plan s (Launch i) = on (home_at plan s i) (alone i) (sites plan)
+touched plan s (Slide k c) = sites plan k
+touched plan s Access = sites plan (port plan)
+touched plan s (Recover i) = on (home_at plan s i) (alone i) (sites plan)
+touched plan s Leave = alone plan.stages
+touched plan s Exit = alone 1
+touched plan s Serve = alone plan.stages
+
+-- both are stages of the pipeline
+pub record Within (plan : Plan) (t : Touched) : Type 0 where
+  pub low : 0 < t.low
+  pub low_in : t.low ≤ plan.stages
+  pub high : 0 < t.high
+  pub high_in : t.high ≤ plan.stages
+
+-- the words with what holds of the two stages now
+abbrev pub remarked : Plan → State → Marks → Touched → Marks
+remarked plan s marks t = marked (marked marks t.low (mark_at plan s t.low)) t.high (mark_at plan s t.high)

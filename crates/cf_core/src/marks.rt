@@ -1,0 +1,132 @@
+//! What is kept of each stage from one move to the next.
+
+ghost use Rattle.std.specs.Prelude.{◌≡◌, ◌<◌, ◌≤◌};
+ghost use Rattle.cf_core.specs.Marks.{Within, mark_at, marked, remarked as remarked_by};
+ghost use Rattle.cf_core.specs.Masks.{owes_at, stops_there};
+ghost use Rattle.cf_core.specs.Processors.{IsProcessor};
+
+use crate::processor::Processor;
+use crate::touching::Touched;
+use cf_passengers::stops_at;
+use cf_stages::with_bit;
+
+/// What holds of one stage.
+#[derive(Clone, Copy)]
+pub(crate) struct Mark {
+    /// The instruction there owes a result.
+    pub(crate) owes: bool,
+
+    /// It stops there.
+    pub(crate) stops: bool,
+
+    /// No test in the row of Execute bars it.
+    pub(crate) execute: bool,
+
+    /// The same of Launch.
+    pub(crate) launch: bool,
+
+    /// The same of Recover.
+    pub(crate) recover: bool,
+}
+
+/// What holds of all stages: bit i - 1 for stage i.
+#[derive(Clone, Copy)]
+pub(crate) struct Marks {
+    pub(crate) owes: u32,
+    pub(crate) stops: u32,
+    pub(crate) execute: u32,
+    pub(crate) launch: u32,
+    pub(crate) recover: u32,
+}
+
+impl Marks {
+    /// The words of stages in which nothing stands.
+    pub(crate) fn none() -> Marks
+        ensures { result ≡ record { owes = 0; stops = 0; execute = 0; launch = 0; recover = 0 } }
+    {
+        Marks {
+            owes: 0,
+            stops: 0,
+            execute: 0,
+            launch: 0,
+            recover: 0,
+        }
+    }
+
+    /// The words with the bits of one stage.
+    #[inline(always)]
+    pub(crate) fn with(self, i: u32, mark: Mark) -> Marks
+        requires above { 0 < i }
+        requires within { i ≤ 32 }
+        ensures { result ≡ marked self i mark }
+    {
+        Marks {
+            owes: with_bit(self.owes, i, mark.owes),
+            stops: with_bit(self.stops, i, mark.stops),
+            execute: with_bit(self.execute, i, mark.execute),
+            launch: with_bit(self.launch, i, mark.launch),
+            recover: with_bit(self.recover, i, mark.recover),
+        }
+    }
+}
+
+impl Processor {
+    /// Whether the instruction of the stage owes a result.
+    #[inline(always)]
+    fn owes(&self, i: u32) -> bool
+        requires above { 0 < i }
+        requires within { i ≤ self.now.plan.stages }
+        requires facts { IsProcessor self.now.plan self.now.state }
+        ensures { result ≡ owes_at self.now.state i }
+    {
+        match self.stages.passenger(i) {
+            Some(passenger) => passenger.owes.is_some(),
+            None => false,
+        }
+    }
+
+    /// Whether the instruction of the stage stops there.
+    #[inline(always)]
+    fn stops(&self, i: u32) -> bool
+        requires above { 0 < i }
+        requires within { i ≤ self.now.plan.stages }
+        requires facts { IsProcessor self.now.plan self.now.state }
+        ensures { result ≡ stops_there self.now.plan self.now.state i }
+    {
+        match self.stages.passenger(i) {
+            Some(passenger) => stops_at(&self.layout, passenger, i),
+            None => false,
+        }
+    }
+
+    /// What holds of the stage.
+    #[inline(always)]
+    #[tactic(auto, unfolding(crate::specs::Marks::mark_at))]
+    pub(crate) fn mark(&self, i: u32) -> Mark
+        requires above { 0 < i }
+        requires within { i ≤ self.now.plan.stages }
+        requires facts { IsProcessor self.now.plan self.now.state }
+        ensures { result ≡ mark_at self.now.plan self.now.state i }
+    {
+        Mark {
+            owes: self.owes(i),
+            stops: self.stops(i),
+            execute: self.execute_bar(i).is_none(),
+            launch: self.launch_bar(i).is_none(),
+            recover: self.recover_bar(i).is_none(),
+        }
+    }
+
+    /// The words with what holds of the two stages now.
+    #[inline(always)]
+    pub(crate) fn remarked(&self, marks: Marks, touched: Touched) -> Marks
+        requires within { Within self.now.plan touched }
+        requires facts { IsProcessor self.now.plan self.now.state }
+        ensures { result ≡ remarked_by self.now.plan self.now.state marks touched }
+    {
+        let _stages = self.layout.stages();
+        marks
+            .with(touched.low, self.mark(touched.low))
+            .with(touched.high, self.mark(touched.high))
+    }
+}

@@ -1,0 +1,76 @@
+//! Words of what stands at each stage and of what can be done there.
+
+ghost use Rattle.std.specs.Prelude.{◌≡◌, ◌&&◌, if◌then◌else◌, not};
+ghost use Rattle.cf_semantics.specs.Options.{is_some};
+ghost use Rattle.cf_core.specs.Masks.{masks_of};
+
+use crate::counterflow::Core;
+use crate::processor::Processor;
+
+/// Words of what stands at each stage and of what can be done there: bit i - 1 stands for stage i.
+#[derive(Clone, Copy, PartialEq, Eq)]
+pub struct Masks {
+    /// An instruction is there.
+    pub passengers: u32,
+
+    /// A result is there.
+    pub packets: u32,
+
+    /// Both are there, and have met.
+    pub met: u32,
+
+    /// The instruction there owes a result.
+    pub owes: u32,
+
+    /// The instruction there must not climb on yet.
+    pub stops: u32,
+
+    /// Execute is allowed there.
+    pub execute: u32,
+
+    /// Launch is allowed there.
+    pub launch: u32,
+
+    /// Recover is allowed there.
+    pub recover: u32,
+}
+
+/// The word where the processor goes on, and no stage where it does not.
+#[inline(always)]
+fn where_on(goes_on: bool, word: u32) -> u32
+    ensures { result ≡ (if goes_on then word else 0) }
+{
+    if goes_on { word } else { 0 }
+}
+
+impl Processor {
+    /// Whether the program has not ended, and neither the input nor the output has failed.
+    #[inline(always)]
+    fn goes_on(&self) -> bool
+        ensures { result ≡ (not (is_some self.now.state.ending) && not self.now.state.failed) }
+    {
+        self.ending.is_none() && !self.failed
+    }
+}
+
+impl Core {
+    /// The words of the present state. They are kept up to date move by move, so that no call walks the stages.
+    #[inline(always)]
+    pub fn masks(&self) -> Masks
+        ensures { result ≡ masks_of self.now.plan self.now.state }
+    {
+        let processor = &self.processor;
+        let marks = self.marks;
+        let goes_on = processor.goes_on();
+        Masks {
+            passengers: processor.stages.passengers(),
+            packets: processor.stages.packets(),
+            met: processor.stages.met(),
+            owes: marks.owes,
+            stops: marks.stops,
+            execute: where_on(goes_on, marks.execute),
+            launch: where_on(goes_on, marks.launch),
+            recover: where_on(goes_on, marks.recover),
+        }
+    }
+}
