@@ -42,6 +42,7 @@ run-untold limit shows hart begin new moves answer accepted wide opens none c =
       at = a.at;
       written = a.written;
       last = a.last;
+      rises = a.rises;
       goes = a.goes;
       refines = refines_held plan a.at a.last accepted a.arrives.kept.held a.count;
       settles = settles plan a.at a.last accepted a.arrives.kept;

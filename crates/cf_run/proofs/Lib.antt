@@ -7,6 +7,7 @@ pub mod Fronts
 pub mod Settling
 pub mod Arrived
 pub mod Untold
+pub mod Ending
 pub mod Stopping
 pub mod ByScript
 pub mod Picking

@@ -19,7 +19,7 @@ use Rattle.cf_semantics.specs.Options.{on}
 use Rattle.cf_semantics.specs.State.{State, Moment, cell_at}
 use Rattle.cf_refinement.proofs.Kept.{bar_row}
 use Rattle.cf_refinement.proofs.Leave.{Leaves, leave_ready, next-leave}
-use Rattle.cf_refinement.proofs.Runs.{access_counts, climb_counts, emit_counts, execute_counts, exit_counts, fall_counts, issue_counts, launch_counts, meet_counts, recover_counts, send_counts, serve_counts, slide_counts}
+use Rattle.cf_refinement.proofs.Runs.{going, access_counts, climb_counts, emit_counts, execute_counts, exit_counts, fall_counts, issue_counts, launch_counts, meet_counts, recover_counts, send_counts, serve_counts, slide_counts}
 use Rattle.cf_report.specs.Lines.{retired_line}
 use Rattle.cf_run.specs.declared.show.Show.TheVariants as show
 use Rattle.cf_run.specs.Made.{Made, moves_of, retirement, shown, all_shown}
@@ -40,6 +40,7 @@ record Retires (plan : Plan) (m : Moment) (mv : Move) (e : Event) : Type 0 where
   shows : Shows line shown
   text : (k : ℕ) → retirement k e ≡ retired_line k shown
   count : (next plan m mv).state.retired ≡ m.state.retired + 1
+  ending : (next plan m mv).state.ending ≡ m.state.ending
 
 abbrev Tells : Plan → Moment → Move → Event → Type 0
 Tells plan m mv e = Keeps plan m mv e ⊎ Retires plan m mv e
@@ -71,6 +72,9 @@ left_ended s n c p e d f = rw (d, f) refl
 left_retired : (s : State) (n : ℕ) (c : Cell) (p : Passenger) → p.dead ≡ false → p.ending ≡ None → (left s n c p).retired ≡ s.retired + 1
 left_retired s n c p d f = rw (d, f) refl
 
+left_going : (s : State) (n : ℕ) (c : Cell) (p : Passenger) → p.dead ≡ false → p.ending ≡ None → (left s n c p).ending ≡ s.ending
+left_going s n c p d f = rw (d, f) refl
+
 leaving : (plan : Plan) (m : Moment) (c : Cell) (p : Passenger) (e : Event) → retires plan m.state Leave ≡ retired_by p → (next plan m Leave).state ≡ left m.state plan.stages c p → IsLeaving p e → Tells plan m Leave e
 leaving plan m c p (event.Retired shown) lines is h = inr (record {
   line = line_of p;
@@ -79,6 +83,7 @@ leaving plan m c p (event.Retired shown) lines is h = inr (record {
   shows = h.2;
   text = λ k. refl;
   count = ap (λ (s : State). s.retired) is ∙ left_retired m.state plan.stages c p h.0 h.1;
+  ending = ap (λ (s : State). s.ending) is ∙ left_going m.state plan.stages c p h.0 h.1;
 })
 leaving plan m c p (event.Ended end) lines is h = inl (record {
   lines = lines ∙ rw (h.0, h.1) refl;
@@ -120,6 +125,14 @@ tells plan m (Recover i) e free is = quiet plan m (Recover i) e refl (recover_co
 tells plan m Leave e free is = leaves plan m e free is
 tells plan m Exit e free is = quiet plan m Exit e refl (exit_counts plan m.state).retired is
 tells plan m Serve e free is = quiet plan m Serve e refl (serve_counts plan m).retired is
+
+-- a move that ends the program retires nothing
+pub ended-kept : (plan : Plan) (m : Moment) (mv : Move) (e : Event) (end : End) → bar plan m.state mv ≡ None → IsEvent plan m.state mv e → (next plan m mv).state.ending ≡ Some end → (next plan m mv).state.retired ≡ m.state.retired
+ended-kept plan m mv e end free is ended = of (tells plan m mv e free is)
+  where
+    of : Tells plan m mv e → (next plan m mv).state.retired ≡ m.state.retired
+    of (inl h) = h.count
+    of (inr h) = absurd (let none : Some end ≡ None = sym ended ∙ h.ending ∙ going plan m.state mv free in cc)
 
 -- the texts of a move's lines and of those behind it
 joined : (plan : Plan) (m : Moment) (mv : Move) (e : Event) (k : ℕ) (more : List Line) (text : List ℕ) → Tells plan m mv e → k ≡ (next plan m mv).state.retired → AreTexts ((next plan m mv).state.retired + 1) more text

@@ -1,5 +1,5 @@
 -- A count that stops where the candidates are held tells the same of them.
-use Rattle.std.proofs.Common.{◌≡◌, ℕ, ◌+◌, ◌*◌, Bool, true, false, refl, min, arith}
+use Rattle.std.proofs.Common.{◌≡◌, ℕ, ◌+◌, ◌*◌, Bool, true, false, refl, ap, min, nat_le, arith}
 use Rattle.std.proofs.lemmas.Bool.Decides.{nat_tests}
 use Rattle.std.specs.Prelude.{◌||◌, if◌then◌else◌}
 use Rattle.cf_layout.specs.Layout.{Plan}
@@ -8,7 +8,8 @@ use Rattle.cf_semantics.specs.declared.event.Event.{Event}
 use Rattle.cf_semantics.specs.Holding.{is_held, is_retirement, offered, paced}
 use Rattle.cf_semantics.specs.State.{State}
 use Rattle.cf_semantics.specs.Weight.{is_issue}
-use Rattle.cf_sched.specs.Paces.{stopped}
+use Rattle.cf_semantics.specs.Candidates.{candidates, held_back}
+use Rattle.cf_sched.specs.Paces.{Count, offers, stopped}
 
 held_stopped : (plan : Plan) (count : ℕ) → is_held plan (stopped plan.stages count) ≡ is_held plan count
 held_stopped plan count = grind (arith, nat_tests)
@@ -27,3 +28,10 @@ paced-stopped stages count mv e drained = go (is_retirement e || drained) (is_is
     go true c = refl
     go false true = grind (arith, nat_tests)
     go false false = grind (arith, nat_tests)
+
+-- by the count that stops the same is offered as by a count, beside the stages of the layout
+pub offers-offered : (c : Count) (plan : Plan) (s : State) → c.stages ≡ plan.stages → offers c plan s ≡ offered plan c.count s
+unfolding offered offers
+offers-offered c plan s beside = ap (λ (n : ℕ). if nat_le (2 * n) c.count then held_back (candidates plan s) else candidates plan s) beside
+
+pub ruleset offering = (offers-offered)

@@ -1,5 +1,5 @@
 -- Where a run has come to over an input that does not tell what it has left: at a machine to which as many steps lead as have retired, each of which finds some input.
-use Rattle.std.proofs.Common.{◌≡◌, ℕ, zero, suc, ◌+◌, List, [], ◌∷◌, ◌++◌, Option, Some, None, refl, subst, length, ◌≤◌}
+use Rattle.std.proofs.Common.{◌≡◌, ℕ, zero, suc, ◌+◌, List, [], ◌∷◌, ◌++◌, Option, Some, None, refl, subst, length, ◌≤◌, arith}
 use Rattle.rv_inst.specs.declared.isa.Isa.{Isa}
 use Rattle.rv_machine.specs.Hart.{Hart}
 use Rattle.rv_machine.specs.Machine.{Machine}
@@ -31,13 +31,13 @@ use Rattle.cf_run.proofs.Arrived.{Arrives, begins}
 use Rattle.cf_run.proofs.Retirements.{made-texts}
 
 -- the moves lead to the moment over such an input, with lines whose texts are shown
-record LeadsAnew (plan : Plan) (m : Moment) (k : ℕ) (trace : List Made) (last : Moment) : Type 0 where
-  written : List Line
-  leads : LeadsTo plan m (moves_of trace) last written
-  texts : AreTexts (m.state.retired + 1) written (all_shown show.Retired plan k trace)
+pub record LeadsAnew (plan : Plan) (m : Moment) (k : ℕ) (trace : List Made) (last : Moment) : Type 0 where
+  pub written : List Line
+  pub leads : LeadsTo plan m (moves_of trace) last written
+  pub texts : AreTexts (m.state.retired + 1) written (all_shown show.Retired plan k trace)
 
 -- moves that lead so over it have such lines
-leads-anew : (plan : Plan) (limit : ℕ) (m : Moment) (k : ℕ) (trace : List Made) (last : Moment) → Leads plan limit None m trace last → LeadsAnew plan m k trace last
+pub leads-anew : (plan : Plan) (limit : ℕ) (m : Moment) (k : ℕ) (trace : List Made) (last : Moment) → Leads plan limit None m trace last → LeadsAnew plan m k trace last
 unfolding Leads LeadsTo all_shown shown
 leads-anew plan limit m k [] last h = record { written = []; leads = (h, refl); texts = refl }
 leads-anew plan limit m k (made ∷ trace) last (rest, finds, is, h) =
@@ -50,7 +50,7 @@ leads-anew plan limit m k (made ∷ trace) last (rest, finds, is, h) =
     }
 
 -- steps that find some input start on any input
-goes-anew : (isa : Isa) (hart : Hart) (rest : List ℕ) (n : ℕ) (at : Machine) (written : List Line) → GoesTo isa (machine_on hart rest) n at written → GoesTo isa (machine_on hart []) n at written
+pub goes-anew : (isa : Isa) (hart : Hart) (rest : List ℕ) (n : ℕ) (at : Machine) (written : List Line) → GoesTo isa (machine_on hart rest) n at written → GoesTo isa (machine_on hart []) n at written
 unfolding GoesTo
 goes-anew isa hart rest zero at written (same, none) = (record { hart = same.hart; output = same.output }, none)
 goes-anew isa hart rest (suc n) at written (before, next, earlier, goes, step, same, is) =
@@ -62,7 +62,7 @@ untold-input None after rest none = tt
 untold-input (Some told) after rest none = absurd (cc)
 
 -- so the same was left with any rest
-left-untold : (before after : Streams) (found rest output : List ℕ) → before.input ≡ None → Leaves before after found output → Leaves before after rest output
+pub left-untold : (before after : Streams) (found rest output : List ℕ) → before.input ≡ None → Leaves before after found output → Leaves before after rest output
 left-untold before after found rest output none h = record { input = untold-input before.input after.input rest none; output = h.output }
 
 -- where a run has come to over an input that does not tell
@@ -70,6 +70,7 @@ pub record ArrivesAnew (shows : Show) (hart : Hart) (begin now : Place) : Type 0
   pub at : Machine
   pub written : List Line
   pub last : Moment
+  pub rises : hart.retired ≤ last.state.retired
   pub goes : GoesTo (isa_of begin.core.plan) (machine_on hart []) (gained (machine_on hart []) last.state) at written
   pub count : last.state.retired ≡ at.hart.retired
   pub bounded : (moves : List Move) (t : Moment) (more : List Line) → LeadsTo begin.core.plan last moves t more → issues moves ≡ 0 → length moves ≤ weight begin.core.plan last.state
@@ -89,6 +90,7 @@ arrives-anew limit shows hart begin now accepted wide opens none h =
       at = holds.at;
       written = leads.written;
       last = finding holds.rest h.last;
+      rises = let c = holds.count in omega (arith, c);
       goes = goes-anew (isa_of plan) hart h.rest (gained x h.last.state) holds.at leads.written holds.goes;
       count = holds.level;
       bounded = λ moves t more behind held. drain_bounded_anew plan x (finding holds.rest h.last) t moves leads.written more accepted (left_open plan x leads.written h.last holds.rest holds) behind held;

@@ -132,6 +132,7 @@ pub record RunsAnew (shows : Show) (hart : Hart) (begin new : Place) (answer : S
   pub at : Machine
   pub written : List Line
   pub last : Moment
+  pub rises : hart.retired ≤ last.state.retired
   pub goes : GoesTo (isa_of begin.core.plan) (machine_on hart []) (gained (machine_on hart []) last.state) at written
   pub refines : Refines begin.core.plan at [] last
   pub settles : Settles begin.core.plan at last

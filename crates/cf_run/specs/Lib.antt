@@ -5,4 +5,5 @@ pub mod Reaching
 pub mod Scripts
 pub mod Asking
 pub mod Headline
+pub mod Ending
 pub mod Policies

@@ -1,5 +1,5 @@
 -- What the run of a policy does: the moves that it picks from what it is offered, why it stops behind them, and what it leaves ("Counterflow Pipeline Processor Architecture", 1994: any schedule of local actions is a run).
-use Rattle.std.specs.Prelude.{◌≡◌, ◌⊎◌, ℕ, ◌+◌, ◌*◌, List, [], ◌∷◌, ◌++◌, slice_get, Option, Some, None, Result, Ok, Err}
+use Rattle.std.specs.Prelude.{◌≡◌, ◌⊎◌, ℕ, ◌+◌, ◌*◌, List, [], ◌∷◌, ◌++◌, slice_get, drop, Option, Some, None, Result, Ok, Err}
 use Rattle.rv_machine.specs.Hart.{Hart}
 use Rattle.cf_layout.specs.Layout.{Plan}
 use Rattle.cf_bind.specs.declared.moves.Move.{Move}
@@ -60,6 +60,14 @@ Picks picked onward plan at s [] last = last ≡ at
 Picks picked onward plan at s (made ∷ trace) last =
     (choice picked plan at s ≡ Some made.move)
     × Picks picked onward plan (behind_choice onward plan at s made) made.state trace last
+
+-- a policy may be told by the list of its picks: the first of them, and those behind it
+abbrev pub first_pick : List ℕ → List Move → ℕ
+first_pick [] moves = 0
+first_pick (place ∷ places) moves = place
+
+abbrev pub later_picks : List ℕ → List Move → List ℕ
+later_picks places moves = drop 1 places
 
 -- the run goes on to the move that the policy picks, and it is made
 pub record Takes {P : Type 0} (picked : P → List Move → ℕ) (limit : ℕ) (show : Show) (at : Chooser P) (now new : Place) : Type 0 where

@@ -4,6 +4,7 @@
 mod answer;
 mod counting;
 mod known;
+pub mod laws;
 mod moving;
 mod over;
 mod policy;

@@ -22,21 +22,9 @@ use cf_io::{Sink, Source};
 use cf_report::Tally;
 use cf_sched::{Pace, Policy};
 
-/// Fills the candidates with what a policy is offered.
-#[inline(always)]
-#[tactic(auto, unfolding(cf_semantics::specs::Holding::offered))]
-fn offer(core: &Core, candidates: &mut Candidates, pace: &Pace)
-    requires stages { pace.now.stages ≡ core.now.plan.stages }
-    ensures { candidates.new ≡ offered core.now.plan pace.now.count core.now.state }
-{
-    candidates.fill(core);
-    if pace.held() {
-        candidates.hold();
-    }
-}
-
 /// The move that the policy picks from what it is offered.
 #[inline(always)]
+#[tactic(auto, using(crate::proofs::Stopped::offering))]
 fn choose<P: Policy>(core: &Core, candidates: &mut Candidates, policy: &mut P, pace: &Pace) -> Move
     requires stages { pace.now.stages ≡ core.now.plan.stages }
     requires some { 0 < length (offered core.now.plan pace.now.count core.now.state) }
@@ -44,7 +32,7 @@ fn choose<P: Policy>(core: &Core, candidates: &mut Candidates, policy: &mut P, p
         (P.picked policy.old (offered core.now.plan pace.now.count core.now.state)) }
     ensures onward { policy.new ≡ P.onward policy.old (offered core.now.plan pace.now.count core.now.state) }
 {
-    offer(core, candidates, pace);
+    pace.offer(core, candidates);
     let place = policy.pick(candidates);
     candidates.pick(place)
 }

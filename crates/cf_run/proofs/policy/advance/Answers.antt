@@ -11,7 +11,7 @@ pub returns-in-Ok-clause-turns : goal.returns-in-Ok-clause-turns
 returns-in-Ok-clause-turns g c = record {
   takes = record { goes = c.in_default.ensures; move = _; choice_is = sym c.choose-mv.ensures.choice; event = _; does = c.in-Ok.ensures.does };
   policy_is = c.choose-mv.ensures.onward;
-  count_is = seen-count _ _ _ _ _ _ _ c.saw.ensures c.drained.ensures c.requires.stages;
+  count_is = seen-count _ _ _ _ _ _ _ c.saw.ensures.value c.drained.ensures c.requires.stages;
 }
 
 pub returns-in-Ok-clause-input_asked : goal.returns-in-Ok-clause-input_asked

@@ -1,0 +1,242 @@
+-- A run that ends with the program's end or at the limit ends as the sequential machine does.
+use Rattle.std.proofs.Common.{◌≡◌, ℕ, ◌+◌, ◌-◌, ◌<◌, List, [], ◌∷◌, Option, Some, None, refl, sym, ap, subst, ◌∙◌, length, arith}
+use Rattle.rv_inst.specs.declared.isa.Isa.{Isa}
+use Rattle.rv_machine.specs.After.{after}
+use Rattle.rv_machine.specs.Hart.{Hart}
+use Rattle.rv_machine.specs.Machine.{Machine}
+use Rattle.rv_machine.specs.Outcome as outcome
+use Rattle.rv_machine.specs.Step.{step}
+use Rattle.rv_machine.specs.Streams.{Leaves, IsTold}
+use Rattle.cf_layout.specs.Accepted.{IsAccepted}
+use Rattle.cf_layout.specs.Layout.{Plan}
+use Rattle.cf_bind.specs.declared.moves.Move.{Move}
+use Rattle.cf_bind.specs.declared.passenger.End.{End}
+use Rattle.cf_bind.specs.declared.passenger.End.TheVariants as ending
+use Rattle.cf_semantics.specs.Ahead.{served_count}
+use Rattle.cf_semantics.specs.Determined.{IsSame}
+use Rattle.cf_semantics.specs.Instructions.{Stops, step_at, step_here, stepped}
+use Rattle.cf_semantics.specs.Layouts.{isa_of}
+use Rattle.cf_semantics.specs.Lines.{Line, lines}
+use Rattle.cf_semantics.specs.Moves.{next}
+use Rattle.cf_semantics.specs.Refines.{Refines, gained}
+use Rattle.cf_semantics.specs.Runs.{IsRun, opened as opened_on, run, start as start_on}
+use Rattle.cf_semantics.specs.State.{State, Moment}
+use Rattle.cf_confluence.proofs.Counted.{after_counts}
+use Rattle.cf_confluence.proofs.Rested.{drained_is}
+use Rattle.cf_refinement.proofs.Level.{retired_unserved}
+use Rattle.cf_refinement.proofs.Theorems.{run_refines}
+use Rattle.cf_untold.specs.Anew.{finding, GoesTo}
+use Rattle.cf_untold.specs.Invariant.{HoldsAnew}
+use Rattle.cf_untold.proofs.Theorems.{holds_anew, refines_held}
+use Rattle.cf_core.specs.Processors.{Processor, in_state, opened}
+use Rattle.cf_run.specs.declared.answer.Ran.{Ran as Answer}
+use Rattle.cf_run.specs.declared.answer.Ran.TheVariants as ran
+use Rattle.cf_run.specs.declared.answer.Scripted.{Scripted}
+use Rattle.cf_run.specs.declared.answer.Scripted.TheVariants.{Ran, ScriptEnd, BadScript, BarredAt}
+use Rattle.cf_run.specs.declared.show.Show.{Show}
+use Rattle.cf_run.specs.Ending.{IsAfter, Ends, EndsAsMachine, EndsAlike}
+use Rattle.cf_run.specs.Going.{Leads}
+use Rattle.cf_run.specs.Headline.{machine_on}
+use Rattle.cf_run.specs.Made.{Made, moves_of}
+use Rattle.cf_run.specs.Moving.{Place}
+use Rattle.cf_run.specs.Policies.{RunsPolicy}
+use Rattle.cf_run.specs.Reaching.{Reaches, IsOver}
+use Rattle.cf_run.specs.Scripts.{Stand, RunsScript, Stops as ScriptStops}
+use Rattle.cf_run.proofs.Arrived.{begins}
+use Rattle.cf_run.proofs.Retirements.{ended-kept}
+use Rattle.cf_run.proofs.Runs.{leads-run}
+use Rattle.cf_run.proofs.Untold.{LeadsAnew, leads-anew, goes-anew, left-untold}
+
+-- at the limit no call is ahead of the count: the last move retired an instruction
+level_last : (plan : Plan) (limit : ℕ) (told : Option (List ℕ)) (m : Moment) (trace : List Made) (last : Moment) → (m.state.retired ≡ limit → served_count plan m.state ≡ 0) → Leads plan limit told m trace last → last.state.retired ≡ limit → served_count plan last.state ≡ 0
+unfolding Leads
+level_last plan limit told m [] last level leads full = subst (λ (q : Moment). q.state.retired ≡ limit → served_count plan q.state ≡ 0) (sym leads) level full
+level_last plan limit told m (made ∷ trace) last level (rest, finds, is, leads) full =
+    let t : Moment = next plan (finding rest m) made.move in
+    level_last plan limit told t trace last (λ there. retired_unserved plan (finding rest m) made.move is.allowed (let b = is.below in omega (arith, b, there))) leads full
+
+-- the program ends below the limit
+ends_below : (plan : Plan) (limit : ℕ) (told : Option (List ℕ)) (m : Moment) (trace : List Made) (last : Moment) (e : End) → ((o : End) → m.state.ending ≡ Some o → m.state.retired < limit) → Leads plan limit told m trace last → last.state.ending ≡ Some e → last.state.retired < limit
+unfolding Leads
+ends_below plan limit told m [] last e below leads ended = subst (λ (q : Moment). q.state.ending ≡ Some e → q.state.retired < limit) (sym leads) (below e) ended
+ends_below plan limit told m (made ∷ trace) last e below (rest, finds, is, leads) ended =
+    let t : Moment = next plan (finding rest m) made.move in
+    ends_below plan limit told t trace last e (λ o there. let same = ended-kept plan (finding rest m) made.move made.event o is.allowed is.event there in let b = is.below in omega (arith, same, b)) leads ended
+
+-- the step of a machine that ends the program so
+step_ends : (isa : Isa) (at : Machine) (e : End) → step_here isa at ≡ Stops e → stepped (step isa at) ≡ Stops e
+unfolding step_at
+step_ends isa at e is = is
+
+exits : (o : outcome.Outcome Machine) (status : ℕ) → stepped o ≡ Stops (ending.Exit status) → o ≡ outcome.Exit status
+exits (outcome.Next m line) status e = absurd (cc)
+exits (outcome.Trap cause pc detail) status e = absurd (cc)
+exits (outcome.Exit other) status e = cc
+
+traps : (o : outcome.Outcome Machine) (cause pc detail : ℕ) → stepped o ≡ Stops (ending.Trap cause pc detail) → o ≡ outcome.Trap cause pc detail
+traps (outcome.Next m line) cause pc detail e = absurd (cc)
+traps (outcome.Trap other at with) cause pc detail e = cc
+traps (outcome.Exit other) cause pc detail e = absurd (cc)
+
+-- what is seen of a moment that is level with the count
+record Level (plan : Plan) (limit : ℕ) (begin new : Place) (m : Moment) (answer : Answer) (at : Machine) : Type 0 where
+  ends : Ends (isa_of plan) limit at answer
+  retired : new.core.state.retired ≡ at.hart.retired
+  regs : new.core.state.regs ≡ at.hart.regs
+  streams : Leaves begin.streams new.streams at.rest at.output
+
+-- no call is ahead where a run is over
+unserved : (plan : Plan) (limit : ℕ) (x : Machine) (written : List Line) (m : Moment) (answer : Answer) → Refines plan x written m → (m.state.retired ≡ limit → served_count plan m.state ≡ 0) → IsOver limit m.state answer → served_count plan m.state ≡ 0
+unserved plan limit x written m (ran.Exit status) r full over = (r.level (ending.Exit status) over).0
+unserved plan limit x written m (ran.Trap cause pc detail) r full over = (r.level (ending.Trap cause pc detail) over).0
+unserved plan limit x written m ran.Limit r full over = full over.1
+unserved plan limit x written m ran.ReadFault r full over = absurd over
+unserved plan limit x written m ran.WriteFault r full over = absurd over
+unserved plan limit x written m ran.ReportFault r full over = absurd over
+
+over_ends : (plan : Plan) (limit : ℕ) (x : Machine) (written : List Line) (m : Moment) (answer : Answer) (r : Refines plan x written m) → r.at.hart.retired ≡ m.state.retired → ((e : End) → m.state.ending ≡ Some e → m.state.retired < limit) → IsOver limit m.state answer → Ends (isa_of plan) limit r.at answer
+over_ends plan limit x written m (ran.Exit status) r count below over =
+    (subst (λ (n : ℕ). n < limit) (sym count) (below (ending.Exit status) over), exits (step (isa_of plan) r.at) status (step_ends (isa_of plan) r.at (ending.Exit status) (r.ends (ending.Exit status) over)))
+over_ends plan limit x written m (ran.Trap cause pc detail) r count below over =
+    (subst (λ (n : ℕ). n < limit) (sym count) (below (ending.Trap cause pc detail) over), traps (step (isa_of plan) r.at) cause pc detail (step_ends (isa_of plan) r.at (ending.Trap cause pc detail) (r.ends (ending.Trap cause pc detail) over)))
+over_ends plan limit x written m ran.Limit r count below over = count ∙ over.1
+over_ends plan limit x written m ran.ReadFault r count below over = absurd over
+over_ends plan limit x written m ran.WriteFault r count below over = absurd over
+over_ends plan limit x written m ran.ReportFault r count below over = absurd over
+
+-- there is one machine after so many steps
+one_after : (o : Option Machine) (a b : Machine) → o ≡ Some a → o ≡ Some b → a ≡ b
+one_after o a b e f = cc
+
+leveled : (plan : Plan) (limit : ℕ) (x : Machine) (written : List Line) (begin new : Place) (m : Moment) (answer : Answer) (r : Refines plan x written m) → r.at.hart.retired ≡ m.state.retired → (m.state.retired ≡ limit → served_count plan m.state ≡ 0) → ((e : End) → m.state.ending ≡ Some e → m.state.retired < limit)
+    → new.core ≡ in_state begin.core m.state → Leaves begin.streams new.streams m.rest m.output → IsOver limit m.state answer → Level plan limit begin new m answer r.at
+leveled plan limit x written begin new m answer r count full below core streams over =
+    let none : served_count plan m.state ≡ 0 = unserved plan limit x written m answer r full over in
+    let steps : gained x m.state + served_count plan m.state ≡ gained x m.state = omega (arith, none) in
+    let here : after (isa_of plan) x (gained x m.state) ≡ Some r.spoke.at = subst (λ (n : ℕ). after (isa_of plan) x n ≡ Some r.spoke.at) steps r.spoke.count in
+    let same : r.spoke.at ≡ r.at = one_after (after (isa_of plan) x (gained x m.state)) r.spoke.at r.at here r.count in
+    let rest : m.rest ≡ r.at.rest = r.spoke.rest ∙ ap (λ (k : Machine). k.rest) same in
+    let output : m.output ≡ r.at.output = r.spoke.output ∙ ap (λ (k : Machine). k.output) same in
+    record {
+      ends = over_ends plan limit x written m answer r count below over;
+      retired = ap (λ (p : Processor). p.state.retired) core ∙ sym count;
+      regs = ap (λ (p : Processor). p.state.regs) core ∙ r.regs;
+      streams = subst (λ (o : List ℕ). Leaves begin.streams new.streams r.at.rest o) output (subst (λ (i : List ℕ). Leaves begin.streams new.streams i m.output) rest streams);
+    }
+
+-- the processor as it starts on a machine: nothing is served, and the program has not ended
+started_level : (plan : Plan) (x : Machine) → IsAccepted plan → length x.hart.regs ≡ 32 → served_count plan (opened_on plan x) ≡ 0
+unfolding IsRun run
+started_level plan x accepted wide = ((run_refines plan x [] accepted wide tt).level_drained (drained_is plan x (opened_on plan x) same)).0
+  where
+    same : IsSame (opened_on plan x) (opened_on plan x)
+    same = record { cells = refl; sidings = refl; lane = refl; fetch = refl; regs = refl; mem = refl; retired = refl; ending = refl; failed = refl }
+
+started_going : (plan : Plan) (x : Machine) → (opened_on plan x).ending ≡ None
+unfolding opened_on
+started_going plan x = refl
+
+-- where a run from the start of a machine leads, it is level with the count at the limit, and the program ends below that
+record Over (plan : Plan) (limit : ℕ) (last : Moment) : Type 0 where
+  full : last.state.retired ≡ limit → served_count plan last.state ≡ 0
+  below : (e : End) → last.state.ending ≡ Some e → last.state.retired < limit
+
+over_here : (plan : Plan) (limit : ℕ) (told : Option (List ℕ)) (x : Machine) (trace : List Made) (last : Moment) → IsAccepted plan → length x.hart.regs ≡ 32 → Leads plan limit told (start_on plan x) trace last → Over plan limit last
+over_here plan limit told x trace last accepted wide leads = record {
+  full = level_last plan limit told (start_on plan x) trace last (λ full. started_level plan x accepted wide) leads;
+  below = λ e ended. ends_below plan limit told (start_on plan x) trace last e (λ o there. absurd (let none = started_going plan x in cc)) leads ended;
+}
+
+-- over an input that tells
+ends_told : (limit : ℕ) (shows : Show) (begin now : Place) (hart : Hart) (rest : List ℕ) (answer : Answer) → IsAccepted begin.core.plan → length hart.regs ≡ 32 → begin.core ≡ opened begin.core.plan hart → begin.streams.input ≡ Some rest → Reaches limit shows begin now → IsOver limit now.core.state answer
+    → (at : Machine) × (after (isa_of begin.core.plan) (machine_on hart rest) (now.core.state.retired - hart.retired) ≡ Some at) × Level begin.core.plan limit begin now (record { state = now.core.state; rest = at.rest; output = at.output }) answer at
+ends_told limit shows begin now hart rest answer accepted wide opens tells h over =
+    let plan : Plan = begin.core.plan in
+    let x : Machine = machine_on hart rest in
+    let leads : Leads plan limit (Some rest) (start_on plan x) h.trace h.last =
+    subst (λ (m : Moment). Leads plan limit (Some rest) m h.trace h.last) (begins begin.core hart rest h.rest opens (subst (λ (o : Option (List ℕ)). IsTold o h.rest) tells h.told))
+    (subst (λ (o : Option (List ℕ)). Leads plan limit o (record { state = begin.core.state; rest = h.rest; output = [] }) h.trace h.last) tells h.leads) in
+    let runs = leads-run plan limit rest (start_on plan x) h.trace h.last leads in
+    let r : Refines plan x (lines plan (start_on plan x) (moves_of h.trace)) h.last = subst (λ (m : Moment). Refines plan x (lines plan (start_on plan x) (moves_of h.trace)) m) (sym runs.1) (run_refines plan x (moves_of h.trace) accepted wide runs.0) in
+    let c = after_counts (isa_of plan) x r.at (gained x h.last.state) r.count in
+    let count : r.at.hart.retired ≡ h.last.state.retired = let rises = r.rises in omega (arith, c, rises) in
+    let o : Over plan limit h.last = over_here plan limit (Some rest) x h.trace h.last accepted wide leads in
+    let state : now.core.state ≡ h.last.state = ap (λ (p : Processor). p.state) h.core in
+    let l : Level plan limit begin now h.last answer r.at = leveled plan limit x (lines plan (start_on plan x) (moves_of h.trace)) begin now h.last answer r count o.full o.below h.core h.streams (subst (λ (s : State). IsOver limit s answer) state over) in
+    (r.at, subst (λ (s : State). after (isa_of plan) x (s.retired - hart.retired) ≡ Some r.at) (sym state) r.count, record { ends = l.ends; retired = l.retired; regs = l.regs; streams = l.streams })
+
+-- over one that does not
+ends_untold : (limit : ℕ) (shows : Show) (begin now : Place) (hart : Hart) (answer : Answer) → IsAccepted begin.core.plan → length hart.regs ≡ 32 → begin.core ≡ opened begin.core.plan hart → begin.streams.input ≡ None → Reaches limit shows begin now → IsOver limit now.core.state answer
+    → (at : Machine) × ((written : List Line) × GoesTo (isa_of begin.core.plan) (machine_on hart []) (now.core.state.retired - hart.retired) at written) × Level begin.core.plan limit begin now (record { state = now.core.state; rest = at.rest; output = at.output }) answer at
+unfolding after
+ends_untold limit shows begin now hart answer accepted wide opens none h over =
+    let plan : Plan = begin.core.plan in
+    let x : Machine = machine_on hart h.rest in
+    let there : Leads plan limit None (start_on plan x) h.trace h.last =
+    subst (λ (m : Moment). Leads plan limit None m h.trace h.last) (begins begin.core hart h.rest h.rest opens refl)
+    (subst (λ (o : Option (List ℕ)). Leads plan limit o (record { state = begin.core.state; rest = h.rest; output = [] }) h.trace h.last) none h.leads) in
+    let leads : LeadsAnew plan (start_on plan x) 1 h.trace h.last = leads-anew plan limit (start_on plan x) 1 h.trace h.last there in
+    let holds : HoldsAnew plan x leads.written h.last = holds_anew plan x (moves_of h.trace) h.last leads.written accepted wide leads.leads in
+    let m : Moment = finding holds.rest h.last in
+    let r : Refines plan holds.at [] m = refines_held plan holds.at m accepted holds.held holds.level in
+    let level = holds.level in
+    let still : gained holds.at m.state ≡ 0 = omega (arith, level) in
+    let same : holds.at ≡ r.at = one_after (Some holds.at) holds.at r.at refl (subst (λ (n : ℕ). after (isa_of plan) holds.at n ≡ Some r.at) still r.count) in
+    let count : r.at.hart.retired ≡ h.last.state.retired = ap (λ (k : Machine). k.hart.retired) (sym same) ∙ sym level in
+    let o : Over plan limit h.last = over_here plan limit None x h.trace h.last accepted wide there in
+    let state : now.core.state ≡ h.last.state = ap (λ (p : Processor). p.state) h.core in
+    let l : Level plan limit begin now m answer r.at = leveled plan limit holds.at [] begin now m answer r count o.full o.below h.core (left-untold begin.streams now.streams h.last.rest holds.rest h.last.output none h.streams) (subst (λ (s : State). IsOver limit s answer) state over) in
+    let goes : GoesTo (isa_of plan) (machine_on hart []) (gained x h.last.state) r.at leads.written = subst (λ (k : Machine). GoesTo (isa_of plan) (machine_on hart []) (gained x h.last.state) k leads.written) same (goes-anew (isa_of plan) hart h.rest (gained x h.last.state) holds.at leads.written holds.goes) in
+    (r.at, (leads.written, subst (λ (s : State). GoesTo (isa_of plan) (machine_on hart []) (s.retired - hart.retired) r.at leads.written) (sym state) goes), record { ends = l.ends; retired = l.retired; regs = l.regs; streams = l.streams })
+
+-- a run that is over ends as the machine does
+pub ends-sequentially : (limit : ℕ) (shows : Show) (begin now : Place) (hart : Hart) (answer : Answer) → IsAccepted begin.core.plan → length hart.regs ≡ 32 → begin.core ≡ opened begin.core.plan hart → Reaches limit shows begin now → IsOver limit now.core.state answer → EndsAsMachine limit hart begin now answer
+ends-sequentially limit shows begin now hart answer accepted wide opens h over = go begin.streams.input refl
+  where
+    go : (o : Option (List ℕ)) → begin.streams.input ≡ o → EndsAsMachine limit hart begin now answer
+    go (Some rest) tells =
+        let e = ends_told limit shows begin now hart rest answer accepted wide opens tells h over in
+        record {
+          at = e.0;
+          comes = subst (λ (o : Option (List ℕ)). IsAfter (isa_of begin.core.plan) o hart (now.core.state.retired - hart.retired) e.0) (sym tells) e.1;
+          ends = e.2.ends;
+          retired = e.2.retired;
+          regs = e.2.regs;
+          streams = e.2.streams;
+        }
+    go None none =
+        let e = ends_untold limit shows begin now hart answer accepted wide opens none h over in
+        record {
+          at = e.0;
+          comes = subst (λ (o : Option (List ℕ)). IsAfter (isa_of begin.core.plan) o hart (now.core.state.retired - hart.retired) e.0) (sym none) e.1;
+          ends = e.2.ends;
+          retired = e.2.retired;
+          regs = e.2.regs;
+          streams = e.2.streams;
+        }
+
+-- a run whose last place it is
+same_place : (limit : ℕ) (hart : Hart) (begin now new : Place) (answer : Answer) → new ≡ now → EndsAsMachine limit hart begin now answer → EndsAsMachine limit hart begin new answer
+same_place limit hart begin now new answer same e = subst (λ (p : Place). EndsAsMachine limit hart begin p answer) (sym same) e
+
+-- so does the run of a script
+pub script-ends : (limit : ℕ) (shows : Show) (begin new : Stand) (hart : Hart) (answer : Scripted) → IsAccepted begin.place.core.plan → length hart.regs ≡ 32 → begin.place.core ≡ opened begin.place.core.plan hart → RunsScript limit shows begin new answer → EndsAlike limit hart begin.place new.place answer
+unfolding ScriptStops
+script-ends limit shows begin new hart (Ran (ran.Exit status)) accepted wide opens r = same_place limit hart begin.place r.now.place new.place (ran.Exit status) (ap (λ (s : Stand). s.place) r.stops.1) (ends-sequentially limit shows begin.place r.now.place hart (ran.Exit status) accepted wide opens r.follows.reaches r.stops.0)
+script-ends limit shows begin new hart (Ran (ran.Trap cause pc detail)) accepted wide opens r = same_place limit hart begin.place r.now.place new.place (ran.Trap cause pc detail) (ap (λ (s : Stand). s.place) r.stops.1) (ends-sequentially limit shows begin.place r.now.place hart (ran.Trap cause pc detail) accepted wide opens r.follows.reaches r.stops.0)
+script-ends limit shows begin new hart (Ran ran.Limit) accepted wide opens r = same_place limit hart begin.place r.now.place new.place ran.Limit (ap (λ (s : Stand). s.place) r.stops.1) (ends-sequentially limit shows begin.place r.now.place hart ran.Limit accepted wide opens r.follows.reaches r.stops.0)
+script-ends limit shows begin new hart (Ran ran.ReadFault) accepted wide opens r = tt
+script-ends limit shows begin new hart (Ran ran.WriteFault) accepted wide opens r = tt
+script-ends limit shows begin new hart (Ran ran.ReportFault) accepted wide opens r = tt
+script-ends limit shows begin new hart ScriptEnd accepted wide opens r = tt
+script-ends limit shows begin new hart (BadScript refusal) accepted wide opens r = tt
+script-ends limit shows begin new hart (BarredAt line bar) accepted wide opens r = tt
+
+-- and of a policy
+pub policy-ends : {P : Type 0} (picked : P → List Move → ℕ) (onward : P → List Move → P) (limit : ℕ) (shows : Show) (begin new : Place) (policy later : P) (moves : List Move) (hart : Hart) (answer : Answer) → IsAccepted begin.core.plan → length hart.regs ≡ 32 → begin.core ≡ opened begin.core.plan hart → RunsPolicy picked onward limit shows begin new policy later moves answer → EndsAlike limit hart begin new (Ran answer)
+policy-ends picked onward limit shows begin new policy later moves hart (ran.Exit status) accepted wide opens r = same_place limit hart begin r.now new (ran.Exit status) r.stops.1 (ends-sequentially limit shows begin r.now hart (ran.Exit status) accepted wide opens r.reaches r.stops.0)
+policy-ends picked onward limit shows begin new policy later moves hart (ran.Trap cause pc detail) accepted wide opens r = same_place limit hart begin r.now new (ran.Trap cause pc detail) r.stops.1 (ends-sequentially limit shows begin r.now hart (ran.Trap cause pc detail) accepted wide opens r.reaches r.stops.0)
+policy-ends picked onward limit shows begin new policy later moves hart ran.Limit accepted wide opens r = same_place limit hart begin r.now new ran.Limit r.stops.1 (ends-sequentially limit shows begin r.now hart ran.Limit accepted wide opens r.reaches r.stops.0)
+policy-ends picked onward limit shows begin new policy later moves hart ran.ReadFault accepted wide opens r = tt
+policy-ends picked onward limit shows begin new policy later moves hart ran.WriteFault accepted wide opens r = tt
+policy-ends picked onward limit shows begin new policy later moves hart ran.ReportFault accepted wide opens r = tt

@@ -1,0 +1,53 @@
+-- How a run ends as the sequential machine does under the same limit ("Counterflow Pipeline Processor Architecture", 1994: the order of the local actions is free).
+use Rattle.std.specs.Prelude.{◌≡◌, ℕ, ◌<◌, ◌-◌, List, [], Option, Some, None}
+use Rattle.rv_inst.specs.declared.isa.Isa.{Isa}
+use Rattle.rv_machine.specs.After.{after}
+use Rattle.rv_machine.specs.Hart.{Hart}
+use Rattle.rv_machine.specs.Machine.{Machine}
+use Rattle.rv_machine.specs.Outcome.{Exit, Trap}
+use Rattle.rv_machine.specs.Step.{step}
+use Rattle.rv_machine.specs.Streams.{Leaves}
+use Rattle.cf_semantics.specs.Layouts.{isa_of}
+use Rattle.cf_semantics.specs.Lines.{Line}
+use Rattle.cf_untold.specs.Anew.{GoesTo}
+use Rattle.cf_run.specs.declared.answer.Ran.{Ran as Answer}
+use Rattle.cf_run.specs.declared.answer.Ran.TheVariants as ran
+use Rattle.cf_run.specs.declared.answer.Scripted.{Scripted}
+use Rattle.cf_run.specs.declared.answer.Scripted.TheVariants.{Ran, ScriptEnd, BadScript, BarredAt}
+use Rattle.cf_run.specs.Headline.{machine_on}
+use Rattle.cf_run.specs.Moving.{Place}
+
+-- n steps lead to this machine from the one that starts on the hart with what the input tells; where it does not tell that, each step finds some input
+abbrev pub IsAfter : Isa → Option (List ℕ) → Hart → ℕ → Machine → Type 0
+IsAfter isa (Some rest) hart n at = after isa (machine_on hart rest) n ≡ Some at
+IsAfter isa None hart n at = (written : List Line) × GoesTo isa (machine_on hart []) n at written
+
+-- the machine ends so under the limit: by its next step, below the limit; or it has come to the limit
+abbrev pub Ends : Isa → ℕ → Machine → Answer → Type 0
+Ends isa limit at (ran.Exit status) = (at.hart.retired < limit) × (step isa at ≡ Exit status)
+Ends isa limit at (ran.Trap cause pc detail) = (at.hart.retired < limit) × (step isa at ≡ Trap cause pc detail)
+Ends isa limit at ran.Limit = at.hart.retired ≡ limit
+Ends isa limit at ran.ReadFault = ⊥
+Ends isa limit at ran.WriteFault = ⊥
+Ends isa limit at ran.ReportFault = ⊥
+
+-- the run of a processor that was opened on this hart ends as that machine does: in its ending, the retired count, the registers, what is left of the input and what was written to the output; it multiplies and divides where the layout does
+pub record EndsAsMachine (limit : ℕ) (hart : Hart) (begin new : Place) (answer : Answer) : Type 0 where
+  pub at : Machine
+  pub comes : IsAfter (isa_of begin.core.plan) begin.streams.input hart (new.core.state.retired - hart.retired) at
+  pub ends : Ends (isa_of begin.core.plan) limit at answer
+  pub retired : new.core.state.retired ≡ at.hart.retired
+  pub regs : new.core.state.regs ≡ at.hart.regs
+  pub streams : Leaves begin.streams new.streams at.rest at.output
+
+-- so it does where it ends with Exit, Trap or Limit
+abbrev pub EndsAlike : ℕ → Hart → (begin new : Place) → Scripted → Type 0
+EndsAlike limit hart begin new (Ran (ran.Exit status)) = EndsAsMachine limit hart begin new (ran.Exit status)
+EndsAlike limit hart begin new (Ran (ran.Trap cause pc detail)) = EndsAsMachine limit hart begin new (ran.Trap cause pc detail)
+EndsAlike limit hart begin new (Ran ran.Limit) = EndsAsMachine limit hart begin new ran.Limit
+EndsAlike limit hart begin new (Ran ran.ReadFault) = Unit {0}
+EndsAlike limit hart begin new (Ran ran.WriteFault) = Unit {0}
+EndsAlike limit hart begin new (Ran ran.ReportFault) = Unit {0}
+EndsAlike limit hart begin new ScriptEnd = Unit {0}
+EndsAlike limit hart begin new (BadScript refusal) = Unit {0}
+EndsAlike limit hart begin new (BarredAt line bar) = Unit {0}
