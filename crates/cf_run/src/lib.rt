@@ -18,6 +18,4 @@ pub use script::run_script;
 pub use show::Show;
 
 #[cfg(test)]
-mod drain_tests;
-#[cfg(test)]
 mod tests;
