@@ -34,7 +34,7 @@ use Rattle.cf_run.specs.declared.answer.Ran.TheVariants as ran
 use Rattle.cf_run.specs.declared.answer.Scripted.{Scripted}
 use Rattle.cf_run.specs.declared.answer.Scripted.TheVariants.{Ran, ScriptEnd, BadScript, BarredAt}
 use Rattle.cf_run.specs.declared.show.Show.{Show}
-use Rattle.cf_run.specs.Ending.{IsAfter, Ends, EndsAsMachine, EndsAlike}
+use Rattle.cf_run.specs.Ending.{IsAfter, Ends, EndsAsMachine, EndsAlike, EndsSequentially}
 use Rattle.cf_run.specs.Going.{Leads}
 use Rattle.cf_run.specs.Headline.{machine_on}
 use Rattle.cf_run.specs.Made.{Made, moves_of}
@@ -43,6 +43,7 @@ use Rattle.cf_run.specs.Policies.{RunsPolicy}
 use Rattle.cf_run.specs.Reaching.{Reaches, IsOver}
 use Rattle.cf_run.specs.Scripts.{Stand, RunsScript, Stops as ScriptStops}
 use Rattle.cf_run.proofs.Arrived.{begins}
+use Rattle.cf_run.proofs.Headline.{opened_here, opened_regs}
 use Rattle.cf_run.proofs.Retirements.{ended-kept}
 use Rattle.cf_run.proofs.Runs.{leads-run}
 use Rattle.cf_run.proofs.Untold.{LeadsAnew, leads-anew, goes-anew, left-untold}
@@ -240,3 +241,14 @@ policy-ends picked onward limit shows begin new policy later moves hart ran.Limi
 policy-ends picked onward limit shows begin new policy later moves hart ran.ReadFault accepted wide opens r = tt
 policy-ends picked onward limit shows begin new policy later moves hart ran.WriteFault accepted wide opens r = tt
 policy-ends picked onward limit shows begin new policy later moves hart ran.ReportFault accepted wide opens r = tt
+
+-- on whatever hart the processor was opened
+pub script-ends-sequentially : (limit : ℕ) (shows : Show) (begin new : Stand) (answer : Scripted) → IsAccepted begin.place.core.plan → length begin.place.core.state.regs ≡ 32 → RunsScript limit shows begin new answer → EndsSequentially limit begin.place new.place answer
+unfolding EndsSequentially
+script-ends-sequentially limit shows begin new answer accepted wide r plan hart opens =
+    script-ends limit shows begin new hart answer accepted (ap length (sym (opened_regs begin.place.core plan hart opens)) ∙ wide) (opened_here begin.place.core plan hart opens) r
+
+pub policy-ends-sequentially : {P : Type 0} (picked : P → List Move → ℕ) (onward : P → List Move → P) (limit : ℕ) (shows : Show) (begin new : Place) (policy later : P) (moves : List Move) (answer : Answer) → IsAccepted begin.core.plan → length begin.core.state.regs ≡ 32 → RunsPolicy picked onward limit shows begin new policy later moves answer → EndsSequentially limit begin new (Ran answer)
+unfolding EndsSequentially
+policy-ends-sequentially picked onward limit shows begin new policy later moves answer accepted wide r plan hart opens =
+    policy-ends picked onward limit shows begin new policy later moves hart answer accepted (ap length (sym (opened_regs begin.core plan hart opens)) ∙ wide) (opened_here begin.core plan hart opens) r

@@ -52,12 +52,12 @@ run-untold limit shows hart begin new moves answer accepted wide opens none c =
     }
 
 -- a processor that was opened under a layout has it
-opened_here : (core : Processor) (plan : Plan) (hart : Hart) → core ≡ opened plan hart → core ≡ opened core.plan hart
+pub opened_here : (core : Processor) (plan : Plan) (hart : Hart) → core ≡ opened plan hart → core ≡ opened core.plan hart
 unfolding opened
 opened_here core plan hart is = is ∙ ap (λ (l : Plan). opened l hart) (sym (ap (λ (p : Processor). p.plan) is))
 
 -- and the registers of the hart
-opened_regs : (core : Processor) (plan : Plan) (hart : Hart) → core ≡ opened plan hart → core.state.regs ≡ hart.regs
+pub opened_regs : (core : Processor) (plan : Plan) (hart : Hart) → core ≡ opened plan hart → core.state.regs ≡ hart.regs
 unfolding opened opened_on
 opened_regs core plan hart is = ap (λ (p : Processor). p.state.regs) is
 

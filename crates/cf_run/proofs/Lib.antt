@@ -7,7 +7,6 @@ pub mod Fronts
 pub mod Settling
 pub mod Arrived
 pub mod Untold
-pub mod Ending
 pub mod Stopping
 pub mod ByScript
 pub mod Picking
@@ -16,3 +15,4 @@ pub mod ByPolicy
 pub mod Stopped
 pub mod Coming
 pub mod Headline
+pub mod Ending

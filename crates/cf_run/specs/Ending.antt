@@ -7,9 +7,11 @@ use Rattle.rv_machine.specs.Machine.{Machine}
 use Rattle.rv_machine.specs.Outcome.{Exit, Trap}
 use Rattle.rv_machine.specs.Step.{step}
 use Rattle.rv_machine.specs.Streams.{Leaves}
+use Rattle.cf_layout.specs.Layout.{Plan}
 use Rattle.cf_semantics.specs.Layouts.{isa_of}
 use Rattle.cf_semantics.specs.Lines.{Line}
 use Rattle.cf_untold.specs.Anew.{GoesTo}
+use Rattle.cf_core.specs.Processors.{opened}
 use Rattle.cf_run.specs.declared.answer.Ran.{Ran as Answer}
 use Rattle.cf_run.specs.declared.answer.Ran.TheVariants as ran
 use Rattle.cf_run.specs.declared.answer.Scripted.{Scripted}
@@ -51,3 +53,8 @@ EndsAlike limit hart begin new (Ran ran.ReportFault) = Unit {0}
 EndsAlike limit hart begin new ScriptEnd = Unit {0}
 EndsAlike limit hart begin new (BadScript refusal) = Unit {0}
 EndsAlike limit hart begin new (BarredAt line bar) = Unit {0}
+
+-- on whatever hart the processor was opened, the run ends as the machine does that starts on it
+unfoldable pub EndsSequentially : ℕ → (begin new : Place) → Scripted → Type 0
+EndsSequentially limit begin new answer =
+    (plan : Plan) (hart : Hart) → begin.core ≡ opened plan hart → EndsAlike limit hart begin new answer

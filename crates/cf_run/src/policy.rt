@@ -6,6 +6,8 @@ ghost use Rattle.cf_io.specs.Causes.{HasCause};
 ghost use Rattle.rv_machine.specs.Streams.{streams_of};
 ghost use Rattle.cf_semantics.specs.Holding.{offered};
 ghost use Rattle.cf_core.specs.Asking.{AsksInput, AsksOutput};
+ghost use Rattle.cf_run.specs.declared.answer.Scripted.TheVariants as scripted;
+ghost use Rattle.cf_run.specs.Ending.{EndsSequentially};
 ghost use Rattle.cf_run.specs.Moving.{place_of};
 ghost use Rattle.cf_run.specs.Policies.{chooser, input_stopped, output_stopped, report_stopped, IsOpened, ChoiceAsks, PolicyTurns, PolicyUnasked, RunsRight, most_moves};
 ghost use Rattle.cf_run.specs.Reaching.{no_tally};
@@ -118,6 +120,12 @@ pub fn run_policy<P: Policy, S: Source, K: Sink, R: Sink>(
         (place_of core.new (streams_of (S.left input.new) (K.written output.new))
         (R.written report.new) tally.new)
         policy.old policy.new result }
+    ensures ends { EndsSequentially limit
+        (place_of core.old (streams_of (S.left input.old) (K.written output.old))
+        (R.written report.old) tally.old)
+        (place_of core.new (streams_of (S.left input.new) (K.written output.new))
+        (R.written report.new) tally.new)
+        (scripted.Ran result) }
     ensures bounded { tally.new.moves ≤ most_moves core.old.plan (core.new.state.retired - core.old.state.retired) }
     ensures input { HasCause (S.faults input.old) (S.faults input.new) (input_stopped (Some result)) }
     ensures output { HasCause (K.faults output.old) (K.faults output.new) (output_stopped (Some result)) }

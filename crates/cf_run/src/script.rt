@@ -7,6 +7,7 @@ ghost use Rattle.rv_machine.specs.Streams.{streams_of};
 ghost use Rattle.cf_core.specs.Asking.{AsksInput, AsksOutput};
 ghost use Rattle.cf_run.specs.Asking.{NextAsks, RunsUnasked};
 ghost use Rattle.cf_run.specs.Moving.{place_of};
+ghost use Rattle.cf_run.specs.Ending.{EndsSequentially};
 ghost use Rattle.cf_run.specs.Headline.{RunsSequentially};
 ghost use Rattle.cf_run.specs.Reaching.{no_tally};
 ghost use Rattle.cf_run.specs.Scripts.{stand_of, first_moves, DoesLine, RunsScript, Turns, input_scripted, output_scripted, report_scripted};
@@ -117,7 +118,8 @@ fn advance<S: Source, K: Sink, R: Sink>(
 ///
 /// Where the processor was opened on a machine, the run is one of that machine, in whatever order the script
 /// makes its moves: over what the input tells that it has left, and where it does not tell, with each call
-/// finding some input.
+/// finding some input. Where it ends with Exit, Trap or Limit, its ending, the retired count, the registers, and what it took
+/// and wrote are those of that machine under the same limit.
 pub fn run_script<S: Source, K: Sink, R: Sink>(
     core: &mut Core,
     script: &mut Script<'_>,
@@ -139,6 +141,12 @@ pub fn run_script<S: Source, K: Sink, R: Sink>(
         (R.written report.new) tally.new) script.new)
         result }
     ensures sequential { RunsSequentially show (first_moves script.old tally.new)
+        (place_of core.old (streams_of (S.left input.old) (K.written output.old))
+        (R.written report.old) tally.old)
+        (place_of core.new (streams_of (S.left input.new) (K.written output.new))
+        (R.written report.new) tally.new)
+        result }
+    ensures ends { EndsSequentially limit
         (place_of core.old (streams_of (S.left input.old) (K.written output.old))
         (R.written report.old) tally.old)
         (place_of core.new (streams_of (S.left input.new) (K.written output.new))

@@ -3,6 +3,7 @@ use Rattle.cf_layout.specs.Layout.{Plan}
 use Rattle.cf_core.specs.Asking.{AsksInput, AsksOutput}
 use Rattle.cf_run.proofs.ByPolicy.{policy-bounded, policy-sequential}
 use Rattle.cf_run.proofs.Coming.{comes-first, comes-offered, comes-counted, comes-more, comes-nearer, comes-runs, comes-unasked, turned-plan, turned-within, unasked-comes}
+use Rattle.cf_run.proofs.Ending.{policy-ends-sequentially}
 use Rattle.cf_run.proofs.Runs.{counts-within}
 use Rattle.cf_run.proofs.policy.run_policy.Goals as goal
 
@@ -73,3 +74,8 @@ loop-ran-preserved g c = record {
   output = omega (arith, c.in_default.ensures.output.never_falls, c.loop-ran.invariant.output);
   report = omega (arith, c.in_default.ensures.report.never_falls, c.loop-ran.invariant.report);
 }
+
+pub returns-in-Some-clause-ends : goal.returns-in-Some-clause-ends
+returns-in-Some-clause-ends g c =
+    policy-ends-sequentially _ _ _ _ _ _ _ _ _ _ c.known.ensures.accepted c.known.ensures.registers
+    (comes-runs _ _ _ _ _ _ _ _ _ _ _ _ c.loop-ran.invariant.comes c.in-Some.ensures.turns)

@@ -3,6 +3,7 @@ use Rattle.cf_core.specs.Asking.{AsksInput, AsksOutput}
 use Rattle.cf_report.specs.declared.tally.Tally.{Tally}
 use Rattle.cf_run.proofs.Runs.{followed-none, followed-more, tried-within, tried-left, tried-counted, counts-within, few-made, few-more}
 use Rattle.cf_run.proofs.Asked.{unasked-more}
+use Rattle.cf_run.proofs.Ending.{script-ends-sequentially}
 use Rattle.cf_run.proofs.Headline.{runs-sequentially}
 use Rattle.cf_run.proofs.script.run_script.Goals as goal
 
@@ -57,3 +58,7 @@ returns-in-Some-clause-asked g c = record {
 pub returns-in-Some-clause-sequential : goal.returns-in-Some-clause-sequential
 returns-in-Some-clause-sequential g c =
     runs-sequentially _ _ _ _ _ c.known.ensures.accepted c.known.ensures.registers (record { now = _; follows = c.loop-end.invariant.followed; stops = c.in-Some.ensures.turns })
+
+pub returns-in-Some-clause-ends : goal.returns-in-Some-clause-ends
+returns-in-Some-clause-ends g c =
+    script-ends-sequentially _ _ _ _ _ c.known.ensures.accepted c.known.ensures.registers (record { now = _; follows = c.loop-end.invariant.followed; stops = c.in-Some.ensures.turns })
