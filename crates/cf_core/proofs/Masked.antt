@@ -17,11 +17,11 @@ use Rattle.cf_core.specs.Processors.{Processor}
 use Rattle.cf_core.specs.declared.marks.Marks.{Marks}
 
 -- a move is allowed where the processor goes on and its row is free
-allowed_as : (plan : Plan) (s : State) (mv : Move) (ended failed : Bool) → is_some s.ending ≡ ended → s.failed ≡ failed → is_allowed plan s mv ≡ ((not ended && not failed) && is_free plan s mv)
+pub allowed-as : (plan : Plan) (s : State) (mv : Move) (ended failed : Bool) → is_some s.ending ≡ ended → s.failed ≡ failed → is_allowed plan s mv ≡ ((not ended && not failed) && is_free plan s mv)
 unfolding bar
-allowed_as plan s mv true f e g = rw e refl
-allowed_as plan s mv false true e g = rw (e, g) refl
-allowed_as plan s mv false false e g = rw (e, g) refl
+allowed-as plan s mv true f e g = rw e refl
+allowed-as plan s mv false true e g = rw (e, g) refl
+allowed-as plan s mv false false e g = rw (e, g) refl
 
 -- the word of a test where the processor goes on
 chosen : (plan : Plan) (s : State) (kind : ℕ → Move) (n : ℕ) (goes_on : Bool) → ((i : ℕ) → is_allowed plan s (kind i) ≡ (goes_on && is_free plan s (kind i))) → word_of (λ i. is_allowed plan s (kind i)) n ≡ (if goes_on then word_of (λ i. is_free plan s (kind i)) n else 0)
@@ -42,7 +42,7 @@ pub masks-are : (plan : Plan) (s : State) (marks : Marks) (goes_on : Bool) → m
     } ≡ masks_of plan s
 unfolding marks_of mark_at masks_of
 masks-are plan s marks goes_on is on =
-    let word = λ (kind : ℕ → Move). chosen plan s kind plan.stages goes_on (λ i. rw on (allowed_as plan s (kind i) (is_some s.ending) s.failed refl refl)) in
+    let word = λ (kind : ℕ → Move). chosen plan s kind plan.stages goes_on (λ i. rw on (allowed-as plan s (kind i) (is_some s.ending) s.failed refl refl)) in
     let execute = sym (word Execute) in
     let launch = sym (word Launch) in
     let recover = sym (word Recover) in
