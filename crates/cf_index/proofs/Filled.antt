@@ -1,12 +1,11 @@
 -- The words that are filled bit by bit, and the moves that they stand for.
-use Rattle.std.proofs.Common.{◌≡◌, ◌∙◌, sym, refl, ap, ℕ, zero, suc, ◌+◌, ◌-◌, ◌*◌, ◌/◌, ◌%◌, ◌<◌, ◌≤◌, List, [], ◌∷◌, ◌++◌, length, get_or, map, All, Option, Bool, true, false, cond, nat_eq, nat_lt, arith}
-use Rattle.std.specs.Prelude.{◌&&◌, ◌||◌, filter, slice_get, unwrap_or}
+use Rattle.std.proofs.Common.{◌≡◌, ◌∙◌, sym, refl, ap, ℕ, zero, suc, ◌+◌, ◌-◌, ◌*◌, ◌/◌, ◌%◌, ◌<◌, ◌≤◌, List, [], ◌∷◌, ◌++◌, length, get_or, map, All, Option, Bool, true, false, nat_lt, arith}
+use Rattle.std.specs.Prelude.{◌&&◌, filter, slice_get, unwrap_or}
 use Rattle.std.proofs.lemmas.Bool.Decides.{nat_tests}
 use Rattle.std.proofs.lemmas.List.{map-append, append_assoc}
 use Rattle.std.proofs.lemmas.List.Elements.{filter-append, All-tail}
 use Rattle.std.proofs.lemmas.Option.{unwrap_or-slice_get, slice_get_past}
 use Rattle.cf_layout.specs.Layout.{Plan, SidingPlan, no_siding, siding_at, cells_of}
-use Rattle.cf_layout.specs.Accepted.{IsAccepted, IsSiding}
 use Rattle.cf_layout.specs.Words.{has_bit}
 use Rattle.cf_layout.proofs.Words.{no_bits}
 use Rattle.cf_bind.specs.declared.moves.Move.{Move}
@@ -22,9 +21,6 @@ use Rattle.cf_index.specs.Allowed.{is_allowed, HasStages, all_entering, all_pass
 use Rattle.cf_index.proofs.Counted.{counted_split, filter_none, filter_chosen}
 
 -- before any was gone over the word has none
-pub none_yet : (i : ℕ) (b : Bool) → has_bit 0 i ≡ (nat_lt i 0 && b)
-none_yet i b = let e : nat_lt i 0 ≡ false = grind (arith, nat_tests) in rw (no_bits i, e) refl
-
 pub none_of_any : (j : ℕ) (b : Bool) → has_bit 0 j ≡ (nat_lt (j / 8) 0 && b)
 none_of_any j b = let e : nat_lt (j / 8) 0 ≡ false = grind (arith, nat_tests) in rw (no_bits j, e) refl
 

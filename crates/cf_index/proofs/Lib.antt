@@ -8,3 +8,5 @@ pub mod Passed
 pub mod PassedStages
 pub mod PassedEnds
 pub mod PassedAll
+pub mod WordBits
+pub mod Rows

@@ -9,22 +9,10 @@ use Rattle.cf_semantics.specs.Options.{is_some}
 use Rattle.cf_semantics.specs.State.{State}
 use Rattle.cf_semantics.specs.Bars.{bar}
 use Rattle.cf_semantics.specs.Candidates.{at_stages}
-use Rattle.cf_index.specs.declared.kind.Kind.{Kind}
-use Rattle.cf_index.specs.declared.kind.Kind.TheVariants as over
 
 -- nothing bars the move
 abbrev pub is_allowed : Plan → State → Move → Bool
 is_allowed plan s mv = not (is_some (bar plan s mv))
-
--- the move of a kind at a stage
-abbrev pub kind_at : Kind → ℕ → Move
-kind_at over.Climb i = Climb i
-kind_at over.Fall i = Fall i
-kind_at over.Meet i = Meet i
-kind_at over.Execute i = Execute i
-kind_at over.Send i = Send i
-kind_at over.Launch i = Launch i
-kind_at over.Recover i = Recover i
 
 -- the word has bit i - 1 exactly where the move of this kind is allowed at stage i of the layout
 abbrev pub HasStages : Plan → State → (ℕ → Move) → ℕ → Type 0

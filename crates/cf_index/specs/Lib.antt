@@ -2,3 +2,4 @@ pub mod Places
 pub mod Listed
 pub mod Order
 pub mod Allowed
+pub mod Words

@@ -43,16 +43,6 @@ pub(crate) fn nth(word: u64, i: usize) -> u32
     rest.trailing_zeros()
 }
 
-/// The word of 32 bits with the number k, where it is set.
-#[inline(always)]
-#[tactic(auto, using(crate::proofs::Setting::with_bit_32))]
-pub(crate) fn with_stage(word: u32, k: u32, set: bool) -> u32
-    requires { k < 32 }
-    ensures { (i : ℕ) → has_bit result i ≡ ((nat_eq i k && set) || has_bit word i) }
-{
-    word | (set as u32) << k
-}
-
 /// The word of 64 bits with the number k, where it is set.
 #[inline(always)]
 #[tactic(auto, using(crate::proofs::Setting::with_bit_64))]

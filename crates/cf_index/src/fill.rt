@@ -1,20 +1,22 @@
 //! The candidates of a processor.
 
-ghost use Rattle.std.specs.Prelude.{◌≡◌, ℕ, ◌+◌, ◌-◌, ◌*◌, ◌/◌, ◌%◌, ◌<◌, ◌≤◌, ◌&&◌, ◌||◌, filter, length, nat_eq, nat_lt};
+ghost use Rattle.std.specs.Prelude.{◌≡◌, ℕ, ◌+◌, ◌-◌, ◌*◌, ◌/◌, ◌%◌, ◌<◌, ◌≤◌, ◌&&◌, ◌||◌, filter, if◌then◌else◌, length, nat_eq, nat_lt};
 ghost use Rattle.cf_layout.specs.Layout.{cells_of};
 ghost use Rattle.cf_layout.specs.Words.{has_bit};
 ghost use Rattle.cf_semantics.specs.Candidates.{candidates, slides_from};
-ghost use Rattle.cf_index.specs.Allowed.{HasStages, all_entering, all_leaving, all_passing, is_allowed, kind_at};
+ghost use Rattle.cf_core.specs.Masks.{masks_of};
+ghost use Rattle.cf_index.specs.Allowed.{all_entering, all_leaving, all_passing, is_allowed};
 ghost use Rattle.cf_index.specs.Listed.{entering_moves, leaving_moves, passing_moves, slide_at, slides_of};
+ghost use Rattle.cf_index.specs.Words.{goes_on};
 
-use crate::bits::{with_slide, with_stage};
+use crate::bits::with_slide;
 use crate::candidates::Candidates;
 use crate::entering::Entering;
-use crate::kind::Kind;
 use crate::leaving::Leaving;
 use crate::passing::Passing;
+use crate::words::{climbing, falling, full, sending};
 use cf_bind::{Guess, Move};
-use cf_core::Core;
+use cf_core::{Core, Masks};
 
 /// Whether nothing bars the move.
 #[inline(always)]
@@ -24,17 +26,27 @@ fn is_allowed(core: &Core, mv: Move) -> bool
     core.allowed(mv).is_none()
 }
 
-/// The stages where the move of this kind is allowed: bit i - 1 for stage i.
+/// The word where the processor goes on, and no stage where it does not.
 #[inline(always)]
-fn stages(core: &Core, kind: Kind) -> u32
-    ensures stages { HasStages core.now.plan core.now.state (kind_at kind) result }
-    ensures few { core.now.plan.stages ≤ 32 }
+fn where_on(core: &Core, word: u32) -> u32
+    ensures { result ≡ (if goes_on core.now.state then word else 0) }
 {
-    let mut word = 0;
-    for k in 0..core.layout().stages() {
-        word = with_stage(word, k, is_allowed(core, kind.at(k + 1)));
+    if core.ending().is_none() && !core.failed() {
+        word
+    } else {
+        0
     }
-    word
+}
+
+/// How many stages there are.
+#[inline(always)]
+fn stages(core: &Core) -> u32
+    ensures stages { result ≡ core.now.plan.stages }
+    ensures some { 1 ≤ result }
+    ensures few { result ≤ 32 }
+    ensures cells { length core.now.state.cells ≡ result }
+{
+    core.layout().stages()
 }
 
 /// How many cells a siding has: 1 to 8. There are 8 sidings at most.
@@ -90,27 +102,30 @@ fn entering(core: &Core) -> Entering
 
 /// What is allowed in the stages.
 #[inline(always)]
-fn passing(core: &Core) -> Passing
+fn passing(core: &Core, masks: &Masks) -> Passing
+    requires { masks.now ≡ masks_of core.now.plan core.now.state }
     ensures { passing_moves result ≡ filter (is_allowed core.now.plan core.now.state) (all_passing core.now.plan) }
 {
     Passing {
-        climb: stages(core, Kind::Climb),
-        fall: stages(core, Kind::Fall),
-        meet: stages(core, Kind::Meet),
-        execute: stages(core, Kind::Execute),
-        send: stages(core, Kind::Send),
-        launch: stages(core, Kind::Launch),
+        climb: where_on(core, climbing(masks, stages(core))),
+        fall: where_on(core, falling(masks)),
+        meet: where_on(core, full(masks)),
+        execute: masks.execute,
+        send: where_on(core, sending(masks)),
+        launch: masks.launch,
     }
 }
 
 /// What is allowed to leave.
 #[inline(always)]
-fn leaving(core: &Core) -> Leaving
+fn leaving(core: &Core, masks: &Masks) -> Leaving
+    requires { masks.now ≡ masks_of core.now.plan core.now.state }
     ensures { leaving_moves result ≡ filter (is_allowed core.now.plan core.now.state) (all_leaving core.now.plan) }
 {
+    let _stages = stages(core);
     Leaving {
         access: is_allowed(core, Move::Access),
-        recover: stages(core, Kind::Recover),
+        recover: masks.recover,
         leave: is_allowed(core, Move::Leave),
         exit: is_allowed(core, Move::Exit),
         serve: is_allowed(core, Move::Serve),
@@ -123,9 +138,10 @@ impl Candidates {
     pub fn fill(&mut self, core: &Core)
         ensures { self.new ≡ candidates core.now.plan core.now.state }
     {
+        let masks = core.masks();
         self.entering = entering(core);
-        self.passing = passing(core);
+        self.passing = passing(core, &masks);
         self.slides = slides(core);
-        self.leaving = leaving(core);
+        self.leaving = leaving(core, &masks);
     }
 }

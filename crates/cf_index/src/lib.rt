@@ -6,9 +6,9 @@ mod bits;
 mod candidates;
 mod entering;
 mod fill;
-mod kind;
 mod leaving;
 mod passing;
+mod words;
 
 pub use candidates::Candidates;
 

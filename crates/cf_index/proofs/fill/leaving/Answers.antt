@@ -1,5 +1,11 @@
+use Rattle.std.proofs.Common.{◌≤◌, arith}
 use Rattle.cf_index.proofs.Filled.{leaving_chosen}
+use Rattle.cf_index.proofs.Rows.{recover-stages}
 use Rattle.cf_index.proofs.fill.leaving.Goals as goal
 
 pub returns : goal.returns
-returns c = leaving_chosen c.args.core.now.plan c.args.core.now.state _ c.stages.ensures.few c.is_allowed.ensures c.stages.ensures.stages c.is_allowed-2.ensures c.is_allowed-3.ensures c.is_allowed-4.ensures
+returns c =
+    let plan = c.args.core.now.plan in
+    let s = c.args.core.now.state in
+    let few : plan.stages ≤ 32 = omega (arith, c.stages-stages.ensures.few, c.stages-stages.ensures.stages) in
+    leaving_chosen plan s _ few c.is_allowed.ensures (recover-stages plan s c.args.masks.now c.requires) c.is_allowed-2.ensures c.is_allowed-3.ensures c.is_allowed-4.ensures

@@ -1,0 +1,26 @@
+-- What the words of a processor say of the moves at a stage, bit by bit: bit k stands for stage k + 1.
+use Rattle.std.specs.Prelude.{ℕ, ◌+◌, ◌-◌, Bool, ◌&&◌, not, nat_lt}
+use Rattle.cf_layout.specs.Words.{has_bit}
+use Rattle.cf_semantics.specs.Options.{is_some}
+use Rattle.cf_semantics.specs.State.{State}
+use Rattle.cf_core.specs.declared.masks.Masks.{Masks}
+
+-- both are there, and have not met
+abbrev pub full_bit : Masks → ℕ → Bool
+full_bit m k = has_bit m.passengers k && (has_bit m.packets k && not (has_bit m.met k))
+
+-- the passenger can climb, under so many stages: the stage is not full, it owes nothing and stops nowhere, and the stage above is there and has none
+abbrev pub climb_bit : Masks → ℕ → ℕ → Bool
+climb_bit m n k = has_bit m.passengers k && (not (full_bit m k) && (not (has_bit m.owes k) && (not (has_bit m.stops k) && (not (has_bit m.passengers (k + 1)) && nat_lt (k + 1) n))))
+
+-- the packet can fall: the stage is not full, and the one below is there and has none
+abbrev pub fall_bit : Masks → ℕ → Bool
+fall_bit m k = has_bit m.packets k && (not (full_bit m k) && (nat_lt 0 k && not (has_bit m.packets (k - 1))))
+
+-- what the passenger owes can be sent: the stage has no packet
+abbrev pub send_bit : Masks → ℕ → Bool
+send_bit m k = has_bit m.owes k && not (has_bit m.packets k)
+
+-- the program has not ended, and neither the input nor the output has failed
+abbrev pub goes_on : State → Bool
+goes_on s = not (is_some s.ending) && not s.failed

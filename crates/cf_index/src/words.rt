@@ -1,0 +1,92 @@
+//! The moves over the stages, by shifts and logic from the words of a processor.
+
+ghost use Rattle.std.specs.Prelude.{◌≡◌, ℕ, ◌+◌, ◌-◌, ◌<◌, ◌≤◌, ◌&&◌, not, nat_lt};
+ghost use Rattle.cf_layout.specs.Words.{has_bit};
+ghost use Rattle.cf_index.specs.Words.{climb_bit, fall_bit, full_bit, send_bit};
+
+use cf_core::Masks;
+
+/// The bits of the first word that the second has not.
+#[inline(always)]
+#[tactic(auto, using(crate::proofs::WordBits::without_other))]
+fn without(word: u32, other: u32) -> u32
+    ensures { (k : ℕ) → has_bit result k ≡ (has_bit word k && not (has_bit other k)) }
+{
+    word & !other
+}
+
+/// The bits that both words have.
+#[inline(always)]
+#[tactic(auto, using(crate::proofs::WordBits::of_both))]
+fn common(word: u32, other: u32) -> u32
+    ensures { (k : ℕ) → has_bit result k ≡ (has_bit word k && has_bit other k) }
+{
+    word & other
+}
+
+/// For each stage, what the word says of the one above.
+#[inline(always)]
+#[tactic(auto, using(crate::proofs::WordBits::of_next))]
+fn above(word: u32) -> u32
+    ensures { (k : ℕ) → has_bit result k ≡ has_bit word (k + 1) }
+{
+    word >> 1
+}
+
+/// For each stage, what the word says of the one below.
+#[inline(always)]
+#[tactic(auto, using(crate::proofs::WordBits::of_last))]
+fn below(word: u32) -> u32
+    ensures { (k : ℕ) → has_bit result k ≡ (nat_lt k 32 && (nat_lt 0 k && has_bit word (k - 1))) }
+{
+    word << 1
+}
+
+/// The lowest stages, this many.
+#[inline(always)]
+#[tactic(auto, using(crate::proofs::WordBits::of_low))]
+fn lowest(count: u32) -> u32
+    requires { count < 32 }
+    ensures { (k : ℕ) → has_bit result k ≡ nat_lt k count }
+{
+    (1 << count) - 1
+}
+
+/// The stages where an instruction and a result are and have not met.
+#[inline(always)]
+pub(crate) fn full(masks: &Masks) -> u32
+    ensures { (k : ℕ) → has_bit result k ≡ full_bit masks.now k }
+{
+    without(common(masks.passengers, masks.packets), masks.met)
+}
+
+/// The stages where the instruction can climb, among so many stages.
+#[inline(always)]
+pub(crate) fn climbing(masks: &Masks, stages: u32) -> u32
+    requires some { 1 ≤ stages }
+    requires few { stages ≤ 32 }
+    ensures { (k : ℕ) → has_bit result k ≡ climb_bit masks.now stages k }
+{
+    let met = without(masks.passengers, full(masks));
+    let done = without(without(met, masks.owes), masks.stops);
+    let clear = without(done, above(masks.passengers));
+    common(clear, lowest(stages - 1))
+}
+
+/// The stages where the result can fall.
+#[inline(always)]
+pub(crate) fn falling(masks: &Masks) -> u32
+    ensures { (k : ℕ) → has_bit result k ≡ fall_bit masks.now k }
+{
+    let met = without(masks.packets, full(masks));
+    let clear = without(met, below(masks.packets));
+    without(clear, lowest(1))
+}
+
+/// The stages where what the instruction owes can be sent.
+#[inline(always)]
+pub(crate) fn sending(masks: &Masks) -> u32
+    ensures { (k : ℕ) → has_bit result k ≡ send_bit masks.now k }
+{
+    without(masks.owes, masks.packets)
+}
