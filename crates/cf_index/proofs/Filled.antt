@@ -1,12 +1,11 @@
 -- The words that are filled bit by bit, and the moves that they stand for.
-use Rattle.std.proofs.Common.{◌≡◌, ◌∙◌, sym, refl, ap, ℕ, zero, suc, ◌+◌, ◌-◌, ◌*◌, ◌/◌, ◌%◌, ◌<◌, ◌≤◌, List, [], ◌∷◌, ◌++◌, length, get_or, map, All, Option, Bool, true, false, cond, nat_eq, nat_lt, arith}
-use Rattle.std.specs.Prelude.{◌&&◌, ◌||◌, filter, slice_get, unwrap_or}
+use Rattle.std.proofs.Common.{◌≡◌, ◌∙◌, sym, refl, ap, ℕ, zero, suc, ◌+◌, ◌-◌, ◌*◌, ◌/◌, ◌%◌, ◌<◌, ◌≤◌, List, [], ◌∷◌, ◌++◌, length, get_or, map, All, Option, Bool, true, false, nat_lt, arith}
+use Rattle.std.specs.Prelude.{◌&&◌, filter, slice_get, unwrap_or}
 use Rattle.std.proofs.lemmas.Bool.Decides.{nat_tests}
 use Rattle.std.proofs.lemmas.List.{map-append, append_assoc}
 use Rattle.std.proofs.lemmas.List.Elements.{filter-append, All-tail}
 use Rattle.std.proofs.lemmas.Option.{unwrap_or-slice_get, slice_get_past}
 use Rattle.cf_layout.specs.Layout.{Plan, SidingPlan, no_siding, siding_at, cells_of}
-use Rattle.cf_layout.specs.Accepted.{IsAccepted, IsSiding}
 use Rattle.cf_layout.specs.Words.{has_bit}
 use Rattle.cf_layout.proofs.Words.{no_bits}
 use Rattle.cf_bind.specs.declared.moves.Move.{Move}

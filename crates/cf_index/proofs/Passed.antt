@@ -1,17 +1,15 @@
 -- How many moves come before the first that stands behind another.
-use Rattle.std.proofs.Common.{◌≡◌, ◌∙◌, sym, refl, ap, ℕ, zero, suc, ◌+◌, ◌-◌, ◌*◌, ◌/◌, ◌%◌, ◌<◌, ◌≤◌, List, [], ◌∷◌, ◌++◌, length, map, Bool, true, false, cond, nat_eq, nat_lt, arith}
+use Rattle.std.proofs.Common.{◌≡◌, ◌∙◌, refl, ℕ, zero, suc, ◌+◌, ◌<◌, ◌≤◌, List, [], ◌∷◌, ◌++◌, length, map, Bool, true, false, cond, nat_lt, arith}
 use Rattle.std.specs.Prelude.{filter, not}
 use Rattle.std.specs.List.{prefix_len}
 use Rattle.std.proofs.lemmas.Bool.Decides.{nat_tests}
 use Rattle.std.proofs.lemmas.List.{length-append, length-map}
 use Rattle.cf_bind.specs.declared.moves.Move.{Move}
-use Rattle.cf_bind.specs.declared.moves.Move.TheVariants.{Climb, Fall, Meet, Execute, Send, Launch, Slide, Access, Recover, Leave, Exit, Serve}
 use Rattle.cf_layout.specs.Words.{has_bit}
 use Rattle.cf_semantics.specs.Candidates.{counted_from}
 use Rattle.cf_index.specs.Places.{places}
-use Rattle.cf_index.specs.Listed.{flagged, at_word, slide_at, slides_of}
+use Rattle.cf_index.specs.Listed.{flagged, at_word}
 use Rattle.cf_index.specs.Order.{kind_place, below_or, stands_behind, passed}
-use Rattle.cf_index.proofs.Parts.{length-at_word}
 
 -- a move of an earlier kind does not stand behind, and one of a later kind does
 pub earlier : (last mv : Move) → kind_place mv < kind_place last → stands_behind last mv ≡ false

@@ -1,5 +1,5 @@
 -- How many candidates come before the first that stands behind another.
-use Rattle.std.proofs.Common.{◌≡◌, ◌∙◌, sym, refl, ap, ℕ, ◌+◌, ◌<◌, ◌≤◌, ◌++◌, List, [], ◌∷◌, length, Option, None, Bool, true, nat_lt, arith}
+use Rattle.std.proofs.Common.{◌≡◌, ◌∙◌, refl, ap, ℕ, ◌+◌, ◌<◌, ◌++◌, List, [], ◌∷◌, length, None, true, nat_lt, arith}
 use Rattle.std.proofs.lemmas.Bool.Decides.{nat_tests}
 use Rattle.cf_bind.specs.declared.moves.Move.{Move}
 use Rattle.cf_index.specs.declared.entering.Entering.{Entering}

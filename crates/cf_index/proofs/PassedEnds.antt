@@ -1,8 +1,7 @@
 -- How many of the moves that enter, that stand within the sidings and that leave come before the first that stands behind another.
-use Rattle.std.proofs.Common.{◌≡◌, ◌∙◌, sym, refl, ap, ℕ, ◌+◌, ◌*◌, ◌/◌, ◌%◌, ◌<◌, ◌≤◌, ◌++◌, List, length, map, Bool, true, false, nat_lt, arith}
+use Rattle.std.proofs.Common.{◌≡◌, ◌∙◌, sym, refl, ap, ℕ, ◌+◌, ◌*◌, ◌/◌, ◌%◌, ◌<◌, ◌≤◌, ◌++◌, List, length, Bool, false, nat_lt, arith}
 use Rattle.std.specs.Prelude.{filter, not, if◌then◌else◌}
 use Rattle.std.proofs.lemmas.Bool.Decides.{nat_tests}
-use Rattle.std.proofs.lemmas.List.{length-map}
 use mir.Val.{bool_byte}
 use Rattle.cf_layout.specs.Words.{has_bit}
 use Rattle.cf_bind.specs.declared.passenger.Guess.TheVariants.{Next, Taken, Wait}
@@ -12,7 +11,7 @@ use Rattle.cf_semantics.specs.Candidates.{counted_from}
 use Rattle.cf_index.specs.declared.entering.Entering.{Entering}
 use Rattle.cf_index.specs.declared.leaving.Leaving.{Leaving}
 use Rattle.cf_index.specs.Places.{places}
-use Rattle.cf_index.specs.Listed.{flagged, at_word, slide_at, slides_of, entering_moves, leaving_moves}
+use Rattle.cf_index.specs.Listed.{flagged, slide_at, slides_of, entering_moves, leaving_moves}
 use Rattle.cf_index.specs.Order.{kind_place, below_or, stands_behind, passed}
 use Rattle.cf_index.proofs.Parts.{length_flag}
 use Rattle.cf_index.proofs.Passed.{earlier, later, map_all, map_none, map_part, ascending, passed_all, passed_part, step_all, step_part, word_all, word_none, flag_all, flag_none, both_none, both_all, up_to}

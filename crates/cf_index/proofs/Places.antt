@@ -1,12 +1,11 @@
 -- The numbers of a word.
-use Rattle.std.proofs.Common.{◌≡◌, ◌∙◌, sym, refl, ap, ℕ, zero, suc, ◌+◌, ◌-◌, ◌*◌, ◌/◌, ◌%◌, ◌^◌, ◌<◌, ◌≤◌, List, [], ◌∷◌, ◌++◌, length, drop, map, Bool, true, false, cond, nat_lt, Option, Some, None, arith}
+use Rattle.std.proofs.Common.{◌≡◌, ◌∙◌, sym, refl, ap, ℕ, zero, suc, ◌+◌, ◌-◌, ◌*◌, ◌/◌, ◌%◌, ◌^◌, ◌<◌, ◌≤◌, List, [], ◌∷◌, ◌++◌, length, drop, map, Bool, true, false, cond, nat_lt, Some, arith}
 use Rattle.std.specs.Prelude.{filter, slice_get, not}
 use Rattle.std.specs.Int.{trailing_zeros}
 use Rattle.std.specs.Int.Bits.{and_self}
 use Rattle.std.specs.Int.RustNames.{count_ones, bit_and}
 use mir.Syntax.{w64}
 use Rattle.cf_layout.proofs.Words.{no_bits}
-use Rattle.std.proofs.lemmas.Bool.Decides.{nat_tests}
 use Rattle.std.proofs.lemmas.Nat.{ones_cat, shr_split, shr-shr, shr_below, and_block, and_mask, one_shl, mod_below, pow_pos}
 use Rattle.std.proofs.lemmas.Nat.Bits.{bit_at_cat_low, bit_at-trailing_zeros}
 use Rattle.std.proofs.lemmas.List.{length-append, length-map, append-nil, length-drop, drop-drop, drop-map}

@@ -1,4 +1,4 @@
-use Rattle.std.proofs.Common.{◌≡◌, ◌<◌, ◌∙◌, sym, arith}
+use Rattle.std.proofs.Common.{◌<◌, ◌∙◌, sym, arith}
 use Rattle.cf_index.specs.Order.{kind_place}
 use Rattle.cf_index.proofs.PassedStages.{passing_none, passing_all}
 use Rattle.cf_index.proofs.passing.Passing.passed.Goals as goal
