@@ -7,4 +7,5 @@ pub mod Segments
 pub mod Tops
 pub mod FileFronts
 pub mod RunFiles
-pub mod ScriptRuns
+pub mod ProcessorRuns
+pub mod Machines

@@ -13,7 +13,8 @@ use Rattle.cfpp_cli.specs.Files.{FilesAt}
 use Rattle.cfpp_cli.specs.Layouts.{HasNoLayout, LacksLayout}
 use Rattle.cfpp_cli.specs.Outside.{Outside, files_of}
 use Rattle.cfpp_cli.specs.RunFiles.{RunAsked, IsReady, LacksFile}
-use Rattle.cfpp_cli.specs.Run.{ComesOf, BreaksCore, AnswersRun, BreaksRun}
+use Rattle.cfpp_cli.specs.Run.{chosen_by, ComesOf, BreaksCore, AnswersRun, BreaksRun}
+use Rattle.cfpp_cli.specs.Schedules.{ReadySchedule}
 use Rattle.cfpp_cli.specs.Scripts.{LacksScript}
 use Rattle.cfpp_cli.specs.declared.answer.Answer.{Answer}
 use Rattle.cfpp_cli.specs.declared.status.Status.{Status}
@@ -75,7 +76,7 @@ lacks-says asked before after answer report (inr (inl h)) = record {
   output = lacks-program-output h.between after asked.program answer report h.lacks;
 }
 lacks-says asked before after answer report (inr (inr h)) =
-    lacks-script-says asked.script h.between after answer report h.lacks
+    lacks-script-says h.lacks.file h.between after answer report h.lacks.lacks
 
 -- so neither count has to have risen
 pub lacks-input : (n : ℕ) (asked : RunAsked) (before after : FilesAt) (answer : Status) (report : List ℕ) →
@@ -90,13 +91,13 @@ lacks-output n asked before after answer report h =
 
 -- what comes of the files is what `run` decides
 pub decides-run : (asked : RunAsked) (before after : Outside) (plan : Plan) (hart : Hart)
-    (text : List ℕ) (blank full : Option (List ℕ)) (result : Result Answer Failed) →
-    IsReady asked (files_of before) (files_of after) plan hart text →
-    Decides (ComesOf asked.limit asked.show plan hart text before.streams after.streams blank)
-    (BreaksCore asked.limit asked.show (opened plan hart) text before.streams after.streams blank full)
+    (schedule : ReadySchedule) (blank full : Option (List ℕ)) (result : Result Answer Failed) →
+    IsReady asked (files_of before) (files_of after) plan hart schedule →
+    Decides (ComesOf asked.limit asked.show plan hart schedule before.streams after.streams blank)
+    (BreaksCore asked.limit asked.show (opened plan hart) (chosen_by asked.limit asked.show schedule) before.streams after.streams blank full)
     blank full result →
     Decides (AnswersRun asked before after blank) (BreaksRun asked before after blank full) blank full result
-decides-run asked before after plan hart text blank full (Ok answer) ready (lines, put, comes) =
-    (lines, put, inl (record { plan = plan; hart = hart; text = text; ready = ready; comes = comes }))
-decides-run asked before after plan hart text blank full (Err failed) ready breaks =
-    record { plan = plan; hart = hart; text = text; ready = ready; breaks = breaks }
+decides-run asked before after plan hart schedule blank full (Ok answer) ready (lines, put, comes) =
+    (lines, put, inl (record { plan = plan; hart = hart; schedule = schedule; ready = ready; comes = comes }))
+decides-run asked before after plan hart schedule blank full (Err failed) ready breaks =
+    record { plan = plan; hart = hart; schedule = schedule; ready = ready; breaks = breaks }

@@ -16,6 +16,7 @@ pub mod Causes
 pub mod Layouts
 pub mod Check
 pub mod Scripts
+pub mod Schedules
 pub mod RunFiles
 pub mod Run
 pub mod Top

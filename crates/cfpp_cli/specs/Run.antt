@@ -1,30 +1,41 @@
 -- What the command `run` answers, and what it leaves of the outside.
-use Rattle.std.specs.Prelude.{◌≡◌, ◌⊎◌, ℕ, List, ◌++◌, true, false, codes, Option, Some}
+use Rattle.std.specs.Prelude.{◌≡◌, ◌≤◌, ◌-◌, ◌⊎◌, ℕ, List, ◌++◌, true, false, codes, Option, Some, None}
 use Rattle.cf_io.specs.Puts.{WritesFront}
 use Rattle.rv_machine.specs.Hart.{Hart}
 use Rattle.rv_machine.specs.Streams.{Streams}
-use Rattle.cf_texts.specs.Texts.{line}
-use Rattle.cf_layout.specs.Layout.{Plan}
+use Rattle.cf_texts.specs.Texts.{line, counted_line}
+use Rattle.cf_layout.specs.Layout.{Plan, has_mul}
+use Rattle.cf_bind.specs.declared.moves.Move.{Move}
 use Rattle.cf_core.specs.Processors.{Processor, opened}
 use Rattle.cf_report.specs.declared.tally.Tally.{Tally}
+use Rattle.cf_report.specs.Lines.{registers_text}
+use Rattle.cf_sched.specs.Policies.{drawn, drawn_pick, drawn_on, round_pick, round_on}
 use Rattle.cf_scripts.specs.Scripts.{Told, script_of}
+use Rattle.cf_run.specs.declared.answer.Ran.{Ran as Answer}
 use Rattle.cf_run.specs.declared.answer.Ran.TheVariants as ran
 use Rattle.cf_run.specs.declared.answer.Scripted.{Scripted}
 use Rattle.cf_run.specs.declared.answer.Scripted.TheVariants.{Ran, ScriptEnd, BadScript, BarredAt}
 use Rattle.cf_run.specs.declared.show.Show.{Show}
+use Rattle.cf_run.specs.Ending.{EndsSequentially}
 use Rattle.cf_run.specs.Headline.{RunsSequentially}
-use Rattle.cf_run.specs.Made.{all_shown}
-use Rattle.cf_run.specs.Moving.{place_of}
-use Rattle.cf_run.specs.Scripts.{Stand, stand_of, no_tally, RunsScript}
+use Rattle.cf_run.specs.Made.{Made, all_shown}
+use Rattle.cf_run.specs.Moving.{Place, place_of}
+use Rattle.cf_run.specs.Policies.{RunsPolicy, most_moves}
+use Rattle.cf_run.specs.Reaching.{no_tally}
+use Rattle.cf_run.specs.Scripts.{stand_of, first_moves, RunsScript}
 use Rattle.cf_closing.specs.Closing.{closing, is_report_fault}
+use Rattle.cf_closing.specs.Lines.{first_line}
+use Rattle.cfpp_cli.specs.Machine.{RunsHart}
+use Rattle.cfpp_cli.specs.Options.{chosen_of}
 use Rattle.cfpp_cli.specs.Outside.{Outside, files_of}
 use Rattle.cfpp_cli.specs.RunFiles.{RunAsked, IsReady, LacksFile}
+use Rattle.cfpp_cli.specs.Schedules.{ReadySchedule, in_script, drawn_from, in_turn}
 use Rattle.cfpp_cli.specs.declared.status.ScriptFault.TheVariants as fault
 use Rattle.cfpp_cli.specs.declared.status.Status.{Status}
 use Rattle.cfpp_cli.specs.declared.status.Status.TheVariants as status
 use Rattle.cfpp_cli.specs.declared.status.Which.TheVariants as which
 
--- the status of the run of a script that finished so under this limit, with so many moves made
+-- the status of a run that finished so under this limit, with so many moves made
 abbrev pub status_of : (limit moves : ℕ) → Scripted → Status
 status_of limit moves (Ran (ran.Exit code)) = status.Exit code
 status_of limit moves (Ran (ran.Trap cause pc detail)) = status.Trap cause pc detail
@@ -36,36 +47,101 @@ status_of limit moves ScriptEnd = status.ScriptEnd moves
 status_of limit moves (BadScript refusal) = status.BadScript (fault.Line refusal)
 status_of limit moves (BarredAt number bar) = status.BarredAt number bar
 
--- where the run begins: before the first move of the script
-abbrev pub start_of : Processor → List ℕ → Streams → Option (List ℕ) → Stand
-start_of core text streams report = stand_of (place_of core streams report no_tally) (script_of text)
+-- where the run begins: before its first move
+abbrev pub start_of : Processor → Streams → Option (List ℕ) → Place
+start_of core streams report = place_of core streams report no_tally
 
--- a run by the script and where it ends: the processor, what was counted, how it finished, and what the report tells before and behind it; where the input tells what it has left, the run is one of the sequential machine on which the processor was opened
-pub record ScriptRun (limit : ℕ) (show : Show) (core : Processor) (text : List ℕ)
+-- a run from one place to another, by whatever chose its moves: how it finished, what was shown of, and the moves
+abbrev pub Chooses : Type 1
+Chooses = (start new : Place) → Scripted → List Made → List Move → Type 0
+
+-- by a script of this text, which makes its first moves
+pub record ByScript (limit : ℕ) (show : Show) (text : List ℕ) (start new : Place) (finish : Scripted)
+    (trace : List Made) (moves : List Move) : Type 0 where
+  pub left : Told
+  pub runs : RunsScript limit show (stand_of start (script_of text)) (stand_of new left) finish
+  pub trace_is : trace ≡ runs.follows.reaches.trace
+  pub moves_are : moves ≡ first_moves (script_of text) new.tally
+
+-- by a policy, whose picks are at most 4 N K (r + 1) moves where r instructions retire
+pub record ByPolicy {P : Type 0} (picked : P → List Move → ℕ) (onward : P → List Move → P) (limit : ℕ)
+    (show : Show) (policy : P) (start new : Place) (finish : Scripted) (trace : List Made)
+    (moves : List Move) : Type 0 where
+  pub answer : Answer
+  pub finish_is : finish ≡ Ran answer
+  pub later : P
+  pub runs : RunsPolicy picked onward limit show start new policy later moves answer
+  pub trace_is : trace ≡ runs.reaches.trace
+  pub bounded : new.tally.moves ≤ most_moves start.core.plan (new.core.state.retired - start.core.state.retired)
+
+-- by what was read: the moves of the text, those that are drawn from the seed, or those of the fixed rule
+abbrev pub chosen_by : ℕ → Show → ReadySchedule → Chooses
+chosen_by limit show (in_script text) = ByScript limit show text
+chosen_by limit show (drawn_from seed) = ByPolicy drawn_pick (λ g moves. drawn_on g) limit show (drawn seed)
+chosen_by limit show in_turn = ByPolicy round_pick round_on limit show None
+
+-- a run and where it ends: the processor, what was counted, how it finished, and what the report tells before and behind it; by its moves it is one of the sequential machine on which the processor was opened, and ends as that does
+pub record ProcessorRun (limit : ℕ) (show : Show) (core : Processor) (by : Chooses)
     (before after : Streams) (blank : Option (List ℕ)) : Type 0 where
   pub last : Processor
   pub tally : Tally
   pub told : Option (List ℕ)
-  pub left : Told
   pub finish : Scripted
-  pub runs : RunsScript limit show (start_of core text before blank)
-      (stand_of (place_of last after told tally) left) finish
-  pub sequential : RunsSequentially show (start_of core text before blank)
-      (place_of last after told tally) finish
+  pub trace : List Made
+  pub moves : List Move
+  pub runs : by (start_of core before blank) (place_of last after told tally) finish trace moves
+  pub sequential : RunsSequentially show moves (start_of core before blank) (place_of last after told tally) finish
+  pub ends : EndsSequentially limit (start_of core before blank) (place_of last after told tally) finish
 
 -- the lines that close its report
-abbrev pub closing_of : {show : Show} {core : Processor} {text : List ℕ} {before after : Streams}
-    {blank : Option (List ℕ)} (limit : ℕ) → ScriptRun limit show core text before after blank → List ℕ
-closing_of limit scripted =
-    closing limit scripted.finish scripted.last.plan scripted.last.state scripted.tally
+abbrev pub closing_of : {show : Show} {core : Processor} {by : Chooses} {before after : Streams}
+    {blank : Option (List ℕ)} (limit : ℕ) → ProcessorRun limit show core by before after blank → List ℕ
+closing_of limit run = closing limit run.finish run.last.plan run.last.state run.tally
 
--- the processor was run by the script; the status says how the run finished, and this is the whole report: what was shown of the moves, then the closing lines
-pub record RunsCore (limit : ℕ) (show : Show) (core : Processor) (text : List ℕ)
+-- the processor was run so; the status says how the run finished, and this is the whole report: what was shown of the moves, then the closing lines
+pub record RunsCore (limit : ℕ) (show : Show) (core : Processor) (by : Chooses)
     (before after : Streams) (blank : Option (List ℕ)) (answer : Status) (report : List ℕ) : Type 0 where
-  pub scripted : ScriptRun limit show core text before after blank
-  pub reported : is_report_fault scripted.finish ≡ false
-  pub status_is : answer ≡ status_of limit scripted.tally.moves scripted.finish
-  pub reports : report ≡ all_shown show core.plan 1 scripted.runs.reaches.trace ++ closing_of limit scripted
+  pub run : ProcessorRun limit show core by before after blank
+  pub reported : is_report_fault run.finish ≡ false
+  pub status_is : answer ≡ status_of limit run.tally.moves run.finish
+  pub reports : report ≡ all_shown show core.plan 1 run.trace ++ closing_of limit run
+
+-- the answer is that of `machine` on the hart, under the same limit and with multiplication where the layout has it; it takes the same of the input and writes the same to the output, and this text closes its report
+pub record IsMachines (limit : ℕ) (plan : Plan) (hart : Hart) (before after : Streams) (answer : Status)
+    (text : List ℕ) : Type 0 where
+  pub runs : RunsHart (chosen_of limit false (has_mul plan)) hart before after answer text
+
+-- the first line of the report, the line of the retired count and the registers
+abbrev pub head_of : (limit : ℕ) → Scripted → Processor → Tally → List ℕ
+head_of limit finish last tally =
+    first_line limit tally.moves finish ++ counted_line (codes "retired ") last.state.retired ++ registers_text last.state.regs
+
+-- where a run ends with Exit, Trap or Limit, its status, its output, its first line, its `retired` line and its registers are those of `machine`
+abbrev pub AgreesWithMachine : (limit : ℕ) → Plan → Hart → (before after : Streams) → Scripted → Processor → Tally → Status → Type 0
+AgreesWithMachine limit plan hart before after (Ran (ran.Exit code)) last tally answer =
+    IsMachines limit plan hart before after answer (head_of limit (Ran (ran.Exit code)) last tally)
+AgreesWithMachine limit plan hart before after (Ran (ran.Trap cause pc detail)) last tally answer =
+    IsMachines limit plan hart before after answer (head_of limit (Ran (ran.Trap cause pc detail)) last tally)
+AgreesWithMachine limit plan hart before after (Ran ran.Limit) last tally answer =
+    IsMachines limit plan hart before after answer (head_of limit (Ran ran.Limit) last tally)
+AgreesWithMachine limit plan hart before after finish last tally answer = Unit {0}
+
+-- under a policy a run ends with Exit, Trap or Limit, or with a fault, whose count rose
+abbrev pub IsComplete : ReadySchedule → Status → Type 0
+IsComplete (in_script text) answer = Unit {0}
+IsComplete schedule (status.Exit code) = Unit {0}
+IsComplete schedule (status.Trap cause pc detail) = Unit {0}
+IsComplete schedule (status.Limit limit) = Unit {0}
+IsComplete schedule (status.ReadFault which.Input) = Unit {0}
+IsComplete schedule status.WriteFault = Unit {0}
+IsComplete schedule answer = ⊥
+
+-- the processor of the layout, opened on the hart, was run
+pub record RunsOpened (limit : ℕ) (show : Show) (plan : Plan) (hart : Hart) (schedule : ReadySchedule)
+    (before after : Streams) (blank : Option (List ℕ)) (answer : Status) (report : List ℕ) : Type 0 where
+  pub runs : RunsCore limit show (opened plan hart) (chosen_by limit show schedule) before after blank answer report
+  pub agrees : AgreesWithMachine limit plan hart before after runs.run.finish runs.run.last runs.run.tally answer
+  pub complete : IsComplete schedule answer
 
 -- memory for the processor was refused, before its first move
 pub record LacksProcessor (before after : Streams) (answer : Status) (report : List ℕ) : Type 0 where
@@ -73,21 +149,21 @@ pub record LacksProcessor (before after : Streams) (answer : Status) (report : L
   pub reports : report ≡ line (codes "no memory")
   pub streams : after ≡ before
 
--- what comes of a layout, a hart and a script: the processor of that layout, opened on the hart, was run
-abbrev pub ComesOf : ℕ → Show → Plan → Hart → List ℕ → Streams → Streams → Option (List ℕ) → Status →
+-- what comes of a layout, a hart and a schedule: the processor of that layout, opened on the hart, was run
+abbrev pub ComesOf : ℕ → Show → Plan → Hart → ReadySchedule → Streams → Streams → Option (List ℕ) → Status →
     List ℕ → Type 0
-ComesOf limit show plan hart text before after blank answer report =
-    RunsCore limit show (opened plan hart) text before after blank answer report
+ComesOf limit show plan hart schedule before after blank answer report =
+    RunsOpened limit show plan hart schedule before after blank answer report
     ⊎ LacksProcessor before after answer report
 
--- all three files are there, and this comes of them
+-- all files are there, and this comes of them
 pub record RunsProcessor (asked : RunAsked) (before after : Outside) (blank : Option (List ℕ))
     (answer : Status) (report : List ℕ) : Type 0 where
   pub plan : Plan
   pub hart : Hart
-  pub text : List ℕ
-  pub ready : IsReady asked (files_of before) (files_of after) plan hart text
-  pub comes : ComesOf asked.limit asked.show plan hart text before.streams after.streams blank answer report
+  pub schedule : ReadySchedule
+  pub ready : IsReady asked (files_of before) (files_of after) plan hart schedule
+  pub comes : ComesOf asked.limit asked.show plan hart schedule before.streams after.streams blank answer report
 
 -- one of them is not, and the streams were left alone
 pub record RefusesRun (asked : RunAsked) (before after : Outside) (answer : Status)
@@ -107,17 +183,17 @@ FailsReport finish lines told full =
     ((is_report_fault finish ≡ true) × (full ≡ told))
     ⊎ ((is_report_fault finish ≡ false) × WritesFront told full lines)
 
--- the processor was run by the script, and the report failed
-pub record BreaksCore (limit : ℕ) (show : Show) (core : Processor) (text : List ℕ)
+-- the processor was run so, and the report failed
+pub record BreaksCore (limit : ℕ) (show : Show) (core : Processor) (by : Chooses)
     (before after : Streams) (blank full : Option (List ℕ)) : Type 0 where
-  pub scripted : ScriptRun limit show core text before after blank
-  pub fails : FailsReport scripted.finish (closing_of limit scripted) scripted.told full
+  pub run : ProcessorRun limit show core by before after blank
+  pub fails : FailsReport run.finish (closing_of limit run) run.told full
 
--- all three files are there, and the report of the run failed
+-- all files are there, and the report of the run failed
 pub record BreaksRun (asked : RunAsked) (before after : Outside)
     (blank full : Option (List ℕ)) : Type 0 where
   pub plan : Plan
   pub hart : Hart
-  pub text : List ℕ
-  pub ready : IsReady asked (files_of before) (files_of after) plan hart text
-  pub breaks : BreaksCore asked.limit asked.show (opened plan hart) text before.streams after.streams blank full
+  pub schedule : ReadySchedule
+  pub ready : IsReady asked (files_of before) (files_of after) plan hart schedule
+  pub breaks : BreaksCore asked.limit asked.show (opened plan hart) (chosen_by asked.limit asked.show schedule) before.streams after.streams blank full

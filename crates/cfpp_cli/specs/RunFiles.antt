@@ -1,7 +1,8 @@
--- The three files that `run` reads, one after another: the layout's, the program's and the script's.
+-- The files that `run` reads, one after another: the layout's, the program's and, where its moves stand in one, the script's.
 use Rattle.std.specs.Prelude.{◌≤◌, ◌⊎◌, ℕ, List}
 use Rattle.rv_machine.specs.Hart.{Hart}
 use Rattle.cf_layout.specs.Layout.{Plan}
+use Rattle.cf_words.specs.Options.{Schedule}
 use Rattle.cf_words.specs.Words.{Layout}
 use Rattle.cf_words.specs.declared.options.Show.{Show as ShowWord}
 use Rattle.cf_words.specs.declared.options.Show.TheVariants as word
@@ -10,7 +11,7 @@ use Rattle.cf_run.specs.declared.show.Show.TheVariants as show
 use Rattle.cfpp_cli.specs.Files.{FilesAt}
 use Rattle.cfpp_cli.specs.Layouts.{IsLayoutAt, LacksLayout}
 use Rattle.cfpp_cli.specs.Programs.{IsProgramAt, LacksProgram}
-use Rattle.cfpp_cli.specs.Scripts.{IsScriptAt, LacksScript}
+use Rattle.cfpp_cli.specs.Schedules.{ReadySchedule, IsScheduled, LacksSchedule}
 use Rattle.cfpp_cli.specs.declared.status.Status.{Status}
 
 -- what a run of the processor is to show, by the word for it
@@ -19,19 +20,19 @@ show_of word.Report = show.Report
 show_of word.Retired = show.Retired
 show_of word.Moves = show.Moves
 
--- what the words ask of `run`: where the layout is, the files with the program and the script, the retired instructions at which the run stops, and what it shows
+-- what the words ask of `run`: where the layout is, the file with the program, what chooses the moves, the retired instructions at which the run stops, and what it shows
 pub record RunAsked : Type 0 where
   pub layout : Layout
   pub program : List ℕ
-  pub script : List ℕ
+  pub schedule : Schedule
   pub limit : ℕ
   pub show : Show
 
-abbrev pub run_asked : Layout → List ℕ → List ℕ → ℕ → ShowWord → RunAsked
-run_asked layout program script limit lines = record {
+abbrev pub run_asked : Layout → List ℕ → Schedule → ℕ → ShowWord → RunAsked
+run_asked layout program schedule limit lines = record {
   layout = layout;
   program = program;
-  script = script;
+  schedule = schedule;
   limit = limit;
   show = show_of lines;
 }
@@ -47,12 +48,12 @@ pub record IsLoaded (asked : RunAsked) (before after : FilesAt) (plan : Plan) (h
   pub laid : IsLaid asked.layout before between plan
   pub program : IsProgramAt asked.program between after hart
 
--- all three are there: behind layout and program this script was read
+-- all are there: behind layout and program this schedule was read
 pub record IsReady (asked : RunAsked) (before after : FilesAt) (plan : Plan) (hart : Hart)
-    (text : List ℕ) : Type 0 where
+    (schedule : ReadySchedule) : Type 0 where
   pub between : FilesAt
   pub loaded : IsLoaded asked before between plan hart
-  pub script : IsScriptAt asked.script between after text
+  pub scheduled : IsScheduled asked.schedule between after schedule
 
 -- there is a layout, and no program
 pub record StopsAtProgram (asked : RunAsked) (before after : FilesAt) (answer : Status)
@@ -62,16 +63,16 @@ pub record StopsAtProgram (asked : RunAsked) (before after : FilesAt) (answer : 
   pub laid : IsLaid asked.layout before between plan
   pub lacks : LacksProgram asked.program between after answer report
 
--- there are a layout and a program, and no script
+-- there are a layout and a program, and in the file of the script none
 pub record StopsAtScript (asked : RunAsked) (before after : FilesAt) (answer : Status)
     (report : List ℕ) : Type 0 where
   pub plan : Plan
   pub hart : Hart
   pub between : FilesAt
   pub loaded : IsLoaded asked before between plan hart
-  pub lacks : LacksScript asked.script between after answer report
+  pub lacks : LacksSchedule asked.schedule between after answer report
 
--- the first of the three that is not there, the status that says why, and the report
+-- the first of them that is not there, the status that says why, and the report
 abbrev pub LacksFile : RunAsked → FilesAt → FilesAt → Status → List ℕ → Type 0
 LacksFile asked before after answer report =
     LacksLayout asked.layout before.told after.told before.faults after.faults answer report

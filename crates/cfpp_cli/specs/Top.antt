@@ -42,8 +42,8 @@ Answers (Ok (listing program)) before after blank answer report =
 Answers (Ok (asm source)) before after blank answer report =
     AnswersAsm source (side_of before) (side_of after) answer report
     × (after.streams.input ≡ before.streams.input)
-Answers (Ok (run layout program script limit lines)) before after blank answer report =
-    AnswersRun (run_asked layout program script limit lines) before after blank answer report
+Answers (Ok (run layout program schedule limit lines)) before after blank answer report =
+    AnswersRun (run_asked layout program schedule limit lines) before after blank answer report
 Answers (Err index) before after blank answer report = RefusesWords index before after answer report
 
 -- the report failed at what the command itself put to it
@@ -53,8 +53,8 @@ Breaks (Ok (machine program limit retired mul)) before after blank full =
 Breaks (Ok (check layout)) before after blank full = ⊥
 Breaks (Ok (listing program)) before after blank full = ⊥
 Breaks (Ok (asm source)) before after blank full = ⊥
-Breaks (Ok (run layout program script limit lines)) before after blank full =
-    BreaksRun (run_asked layout program script limit lines) before after blank full
+Breaks (Ok (run layout program schedule limit lines)) before after blank full =
+    BreaksRun (run_asked layout program schedule limit lines) before after blank full
 Breaks (Err index) before after blank full = ⊥
 
 -- the whole report was put, and the status is the answer; or the report failed behind a front of it, and the status is WriteFault

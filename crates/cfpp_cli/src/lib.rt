@@ -3,8 +3,11 @@
 
 mod answer;
 mod assembling;
+mod by_policy;
+mod by_script;
 mod check;
 mod closing;
+mod finishing;
 mod layouts;
 mod listing;
 mod machine;
@@ -15,6 +18,7 @@ mod refusals;
 mod run;
 mod run_files;
 mod running;
+mod schedules;
 mod scripts;
 mod status;
 mod top;

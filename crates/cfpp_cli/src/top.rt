@@ -60,9 +60,9 @@ fn decide<F: Files, S: Source, K: Sink, R: Sink>(
     }
 }
 
-/// Does what the words say: `machine PROGRAM` runs a program's file on the sequential machine, `run LAYOUT PROGRAM
-/// --script FILE` on the processor of a layout by the moves of a script, `check LAYOUT` writes a layout's one text to
-/// the output, `list PROGRAM` puts a program's listing there, and `asm SOURCE` the ELF file that an assembly source
+/// Does what the words say: `machine PROGRAM` runs a program's file on the sequential machine, `run LAYOUT PROGRAM` on the
+/// processor of a layout, by the moves of a script with `--script FILE`, by moves drawn from a seed with `--seed N`, and by
+/// a fixed rule without either, `check LAYOUT` writes a layout's one text to the output, `list PROGRAM` puts a program's listing there, and `asm SOURCE` the ELF file that an assembly source
 /// stands for.
 ///
 /// The file is an ELF executable for RISC-V, whose segments are loaded, or else a flat image, which stands at

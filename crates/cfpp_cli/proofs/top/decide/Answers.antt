@@ -1,6 +1,6 @@
 use Rattle.std.proofs.Common.{Ok, Err, None, refl, []}
 use Rattle.cf_words.specs.Words.{machine, check, listing, asm, run}
-use Rattle.cf_words.specs.Views.{layout_of}
+use Rattle.cf_words.specs.Views.{layout_of, schedule_view}
 use Rattle.cfpp_cli.proofs.Named.{check-input}
 use Rattle.cfpp_cli.proofs.Reports.{writes-nothing}
 use Rattle.cfpp_cli.proofs.top.decide.Goals as goal
@@ -43,7 +43,7 @@ pub returns-in-Ok-Run-clause-decided : goal.returns-in-Ok-Run-clause-decided
 returns-in-Ok-Run-clause-decided g c =
     let o = c.in-Ok-Run.options in
     record {
-      reading = Ok (run (layout_of c.in-Ok-Run.layout) c.in-Ok-Run.program.now o.script.now o.limit o.show);
+      reading = Ok (run (layout_of c.in-Ok-Run.layout) c.in-Ok-Run.program.now (schedule_view o.schedule) o.limit o.show);
       reads = rw c.in-Ok-Run.field-0-is at c.in-Ok-Run.ensures.answers;
       decides = c.run_processor.ensures.answers;
     }

@@ -1,0 +1,53 @@
+//! A run of the processor by a policy.
+
+ghost use Rattle.std.specs.Prelude.{◌≡◌, ◌≤◌};
+ghost use Rattle.cf_io.specs.Causes.{HasCause};
+ghost use Rattle.rv_machine.specs.Streams.{streams_of};
+ghost use Rattle.cf_run.specs.Policies.{IsOpened};
+ghost use Rattle.cfpp_cli.specs.Deciding.{Decides, input_decided, output_decided};
+ghost use Rattle.cfpp_cli.specs.Run.{ByPolicy, RunsCore, BreaksCore};
+
+use crate::answer::Answer;
+use crate::finishing::{close, is_cut, no_moves};
+use cf_core::Core;
+use cf_index::Candidates;
+use cf_io::{Failed, Sink, Source};
+use cf_run::{Scripted, Show, run_policy};
+use cf_sched::Policy;
+
+/// Runs the opened processor by the picks of a policy, and puts what is shown and the closing lines.
+pub fn run_by_policy<P: Policy, S: Source, K: Sink, R: Sink>(
+    core: &mut Core,
+    candidates: &mut Candidates,
+    policy: &mut P,
+    limit: u64,
+    show: Show,
+    input: &mut S,
+    output: &mut K,
+    report: &mut R,
+) -> Result<Answer, Failed>
+    requires limit { limit ≤ 1000000000 }
+    requires retired { core.old.state.retired ≤ limit }
+    requires opened { IsOpened core.old }
+    ensures runs { Decides
+        (RunsCore limit show core.old (ByPolicy P.picked P.onward limit show policy.old)
+        (streams_of (S.left input.old) (K.written output.old))
+        (streams_of (S.left input.new) (K.written output.new)) (R.written report.old))
+        (BreaksCore limit show core.old (ByPolicy P.picked P.onward limit show policy.old)
+        (streams_of (S.left input.old) (K.written output.old))
+        (streams_of (S.left input.new) (K.written output.new)) (R.written report.old) (R.written report.new))
+        (R.written report.old) (R.written report.new) result }
+    ensures input { HasCause (S.faults input.old) (S.faults input.new) (input_decided result) }
+    ensures output { HasCause (K.faults output.old) (K.faults output.new) (output_decided result) }
+    ensures report { HasCause (R.faults report.old) (R.faults report.new) result }
+{
+    let mut tally = no_moves();
+    let ran = run_policy(
+        core, candidates, policy, limit, show, input, output, report, &mut tally,
+    );
+    let finish = Scripted::Ran(ran);
+    if is_cut(finish) {
+        return Err(Failed);
+    }
+    close(core, limit, finish, &tally, report)
+}

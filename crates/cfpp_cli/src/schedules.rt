@@ -1,0 +1,47 @@
+//! What chooses the moves of a run, once its files are read.
+
+ghost use Rattle.std.specs.Prelude.{◌≤◌, IfOk, IfErr};
+ghost use Rattle.cf_words.specs.Views.{schedule_view as asked_schedule};
+ghost use Rattle.cfpp_cli.specs.Files.{files_at};
+ghost use Rattle.cfpp_cli.specs.Schedules.{schedule_view, FitsScript, IsScheduled, LacksSchedule};
+
+use crate::answer::Answer;
+use crate::scripts::script_at;
+use cf_io::Files;
+use cf_words::Schedule;
+use std::alloc::Global;
+
+/// What chooses the moves of a run.
+#[derive(Drop)]
+pub enum ReadySchedule {
+    /// The script of this text.
+    Script(Vec<u8>),
+    /// They are drawn from this seed.
+    Seed(u32),
+    /// The fixed rule.
+    Rule,
+}
+
+/// Reads the script, where the words ask for one in a file; or the answer where that gives none.
+pub fn schedule_at<F: Files>(
+    alloc: Global,
+    schedule: Schedule<'_>,
+    files: &mut F,
+) -> Result<ReadySchedule, Answer>
+    ensures ready { IfOk result (λ ready. IsScheduled (asked_schedule schedule.entry)
+        (files_at (F.told files.old) (F.faults files.old)) (files_at (F.told files.new) (F.faults files.new))
+        (schedule_view ready)) }
+    ensures fits { IfOk result (λ ready. FitsScript (schedule_view ready)) }
+    ensures lacks { IfErr result (λ answer. LacksSchedule (asked_schedule schedule.entry)
+        (files_at (F.told files.old) (F.faults files.old)) (files_at (F.told files.new) (F.faults files.new))
+        answer.status answer.closing) }
+{
+    match schedule {
+        Schedule::Script(file) => match script_at(alloc, file, files) {
+            Ok(text) => Ok(ReadySchedule::Script(text)),
+            Err(answer) => Err(answer),
+        },
+        Schedule::Seed(seed) => Ok(ReadySchedule::Seed(seed)),
+        Schedule::Rule => Ok(ReadySchedule::Rule),
+    }
+}
