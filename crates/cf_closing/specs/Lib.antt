@@ -1,2 +1,4 @@
 pub mod Lines
 pub mod Closing
+pub mod Moves
+pub mod Parts

@@ -1,11 +1,14 @@
 //! The report that closes a run of the processor: how it finished, what retired, what was counted, the registers, and
-//! the picture.
+//! the picture; and the moves that can be made where it stopped.
 #![tactic(auto)]
 
 mod closing;
 mod first_line;
+mod moves;
+mod parts;
 
 pub use closing::put_closing;
+pub use moves::put_moves;
 
 #[cfg(test)]
 mod tests;

@@ -15,7 +15,6 @@ use Rattle.cf_refinement.proofs.Sidings.{flown_range}
 use Rattle.cf_refinement.proofs.Sorted.{Riders, Sorted, riders_more, sorted}
 use Rattle.cf_confluence.proofs.Stuck.{Barred, Head, bar_is, first_clear, held_top, known, lane_none, no_packet, owes_none, row_slide, slides, stops_here, top_of}
 use Rattle.cf_refinement.specs.Invariant.{Sound}
-use Rattle.cf_refinement.specs.Operations.{flown, is_out, operations}
 use Rattle.cf_refinement.specs.Stands.{Each, Stands}
 use Rattle.cf_refinement.specs.Suited.{Suits, is_plain}
 use Rattle.cf_semantics.specs.Bars.{bar, climb_bar, emit_bar, execute_bar, is_taken, last_op, launch_bar, leave_bar, recover_bar, row_bar, send_bar, serve_bar, stops_at}
@@ -35,6 +34,7 @@ use Rattle.rv_machine.specs.Machine.{Machine}
 use Rattle.std.specs.Prelude.{slice_get}
 use Rattle.cf_refinement.specs.Sure as sure
 use Rattle.cf_semantics.specs.Path as trail
+use Rattle.cf_semantics.specs.Soundness.{in_siding, operations_in, operations_of}
 
 barred : (l : Plan) (s : State) → s.ending ≡ None → s.failed ≡ false → IsStuck l s → Barred l s
 barred l s e f h = record { row = λ m i z. h m i (bar_is l s m e f ∙ z) }
@@ -77,10 +77,10 @@ recover_free l s i k c p op e f g a b o m =
     let same : recovers l (kind p) i ≡ true = rw f (grind (arith, g)) in
     rw e (rw (same, a, b) (rw f (rw o (rw m refl))))
 
-first_out : (l : Plan) (k i : ℕ) (p : Passenger) (below : List Item) → siding_of l (kind p) ≡ Some k → p.launched ≡ true → p.recovered ≡ false → flown l k (Up i p ∷ below) ≡ operation p ∷ flown l k below
+first_out : (l : Plan) (k i : ℕ) (p : Passenger) (below : List Item) → siding_of l (kind p) ≡ Some k → p.launched ≡ true → p.recovered ≡ false → operations_of l k (Up i p ∷ below) ≡ operation p ∷ operations_of l k below
 first_out l k i p below e f g =
     let same : (k == k) ≡ true = grind arith in
-    let out : is_out l k p ≡ true = rw (f, g, e) same in
+    let out : in_siding l k p ≡ true = rw (f, g, e) same in
     rw out refl
 
 not_empty : (a : Op) (q r : List Op) → r ≡ a ∷ q → r ≢ []
@@ -100,8 +100,8 @@ out_moves {rest} {out} l s x i c p below acc b h a o n = siding (siding_of l (ki
     siding None e r = r
     siding (Some k) e r = last (last_op (siding_at s k)) refl
       where
-        some : operations (siding_at s k) ≢ []
-        some = not_empty (operation p) (flown l k below) (operations (siding_at s k)) (h.moored.flown k ∙ ap (flown l k) a.was ∙ first_out l k i p below e o n)
+        some : operations_in (siding_at s k) ≢ []
+        some = not_empty (operation p) (operations_of l k below) (operations_in (siding_at s k)) (h.moored.operations k ∙ ap (operations_of l k) a.was ∙ first_out l k i p below e o n)
 
         last : (u : Option Op) → last_op (siding_at s k) ≡ u → ⊥
         last None f = let z = slides (siding_at s k) some f in b.row (Slide k z.c) refl (row_slide l s k z.c z.op z.here z.there)
@@ -122,10 +122,10 @@ out_moves {rest} {out} l s x i c p below acc b h a o n = siding (siding_of l (ki
                 same a b e = cc
 
 -- not yet launched
-no_first : (q : List (Option Op)) → operations q ≡ [] → is_taken (slice_get q 0) ≡ false
+no_first : (q : List (Option Op)) → operations_in q ≡ [] → is_taken (slice_get q 0) ≡ false
 no_first [] e = refl
 no_first (None ∷ q) e = refl
-no_first (Some op ∷ q) e = absurd (full (operations q) e)
+no_first (Some op ∷ q) e = absurd (full (operations_in q) e)
   where
     full : (a : List Op) → a ++ (record op { answer = None } ∷ []) ≡ [] → ⊥
     full [] z = cc
@@ -178,14 +178,14 @@ waits_moves {rest} {out} l s x i c p below acc b h a d u n = class (is_serial (k
             go (inl z) = grind (arith, z, e)
             go (inr z) = let y = low (Some k) e in let o = acc.order (kind p) k e in let q = acc.in_pipe (kind p) k e in absurd (omega (arith, z, y, o, q))
 
-        none : flown l k (column s) ≡ []
-        none = ap (flown l k) a.was ∙ skip ∙ flown_range l k below (riders_more (λ j. j < i) (λ j. (launch_stage l k ≤ j) → (j ≤ recover_stage l k) → ⊥) below (λ j q y z. omega (arith, stage)) a.under) a.each
+        none : operations_of l k (column s) ≡ []
+        none = ap (operations_of l k) a.was ∙ skip ∙ flown_range l k below (riders_more (λ j. j < i) (λ j. (launch_stage l k ≤ j) → (j ≤ recover_stage l k) → ⊥) below (λ j q y z. omega (arith, stage)) a.under) a.each
           where
-            skip : flown l k (Up i p ∷ below) ≡ flown l k below
+            skip : operations_of l k (Up i p ∷ below) ≡ operations_of l k below
             skip = rw n refl
 
         first : is_taken (slice_get (siding_at s k) 0) ≡ false
-        first = no_first (siding_at s k) (h.moored.flown k ∙ none)
+        first = no_first (siding_at s k) (h.moored.operations k ∙ none)
 
     execute : is_plain (kind p) ≡ true → siding_of l (kind p) ≡ None → ⊥
     execute m e = b.row (Execute i) refl ((row_at l s i c a.at_here).0 ∙ execute_free l i c p a.sits d u (subst (λ (j : ℕ). unit_at l (kind p) j ≡ true) last (acc.unit_last (kind p) e m (a.stands.homed m))) here1 here2)
@@ -318,7 +318,7 @@ issue_free l s c pc acc e f g h =
 pub record IsEmpty (plan : Plan) (s : State) (x : Machine) : Type 0 where
   pub column : column s ≡ []
   pub lane : s.lane ≡ []
-  pub sidings : (k : ℕ) → operations (siding_at s k) ≡ []
+  pub sidings : (k : ℕ) → operations_in (siding_at s k) ≡ []
   pub fetch : s.fetch ≡ Running x.hart.pc
   pub issue : bar plan s (Issue Next) ≡ None
 
@@ -336,4 +336,4 @@ stuck_empty {rest} {out} l s x acc e f stuck h =
     go b lane (inl c) =
         let run : s.fetch ≡ Running x.hart.pc = subst (λ (z : List Item). sure.Ends (walk (trail.past (isa_of l)) z (trail.top s x)) s.fetch) c h.path_ends in
         let low = get_cell s.cells 0 (let t = acc.tall in omega (arith, t, h.size)) in
-        record { column = c; lane = lane; sidings = λ k. h.moored.flown k ∙ ap (flown l k) c; fetch = run; issue = bar_is l s (Issue Next) e f ∙ issue_free l s low.0 x.hart.pc acc lane run low.1 (first_clear 1 s.cells c low.0 low.1) }
+        record { column = c; lane = lane; sidings = λ k. h.moored.operations k ∙ ap (operations_of l k) c; fetch = run; issue = bar_is l s (Issue Next) e f ∙ issue_free l s low.0 x.hart.pc acc lane run low.1 (first_clear 1 s.cells c low.0 low.1) }

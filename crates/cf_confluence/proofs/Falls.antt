@@ -29,7 +29,6 @@ use Rattle.cf_refinement.proofs.Sidings.{berthed, set_last_size, some_cells}
 use Rattle.cf_refinement.proofs.Slide.{next-slide, slide_ready, slide_size}
 use Rattle.cf_confluence.proofs.Weighs.{cell_weighs, last_weighs, pair_weighs, siding_weighs, slide_weight}
 use Rattle.cf_refinement.specs.Invariant.{Sound}
-use Rattle.cf_refinement.specs.Operations.{operations}
 use Rattle.cf_refinement.specs.Suited.{Suits}
 use Rattle.cf_semantics.specs.Bars.{bar, is_full, last_op}
 use Rattle.cf_semantics.specs.Column.{column}
@@ -39,6 +38,7 @@ use Rattle.cf_semantics.specs.Moves.{back_in, cell_met, launch_trap, launched, l
 use Rattle.cf_semantics.specs.Passengers.{finish, instruction, kind, trapped}
 use Rattle.cf_semantics.specs.State.{Moment, State, cell_at, put_cell, siding_at, with_siding}
 use Rattle.cf_semantics.specs.Weight.{cell_weight, cells_weight, counts, most_cells, op_weight, siding_weight, sidings_weight, weight}
+use Rattle.cf_semantics.specs.Soundness.{operations_in}
 use Rattle.rv_inst.specs.declared.classes.Class.TheVariants.{Memory}
 use Rattle.rv_machine.specs.Call.{Called}
 use Rattle.rv_machine.specs.Call as called
@@ -283,7 +283,7 @@ access_falls {rest} {out} l s x acc e h =
     let k = (port l) in
     let q = siding_at s k in
     let n = berthed l acc s (column s) k h.moored Memory acc.memory in
-    let f = first_out l k (column s) (record r.what { answer = None }) (operations (set_last q None)) (sym (h.moored.flown k) ∙ operations-last q r.what r.lies) in
+    let f = first_out l k (column s) (record r.what { answer = None }) (operations_in (set_last q None)) (sym (h.moored.operations k) ∙ operations-last q r.what r.lies) in
     let flies = flies_out l acc f.who f.out in
     let m : is_memory (kind f.who) ≡ true = grind arith in
     let class : is_memory (kind_of r.what.instr) ≡ true = ap (λ (o : Op). is_memory (kind_of o.instr)) (sym f.op) ∙ memory_word f.who m in

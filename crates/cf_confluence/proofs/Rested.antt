@@ -22,8 +22,8 @@ use Rattle.cf_semantics.specs.Walks.{walk}
 use Rattle.cf_semantics.specs.Drained.{is_drained, is_occupied, IsStuck}
 use Rattle.cf_semantics.specs.Determined.{IsSame, IsDrainedAt, KeepsRegisters}
 use Rattle.cf_semantics.specs.Path as trail
+use Rattle.cf_semantics.specs.Soundness.{as_launched, operations_in}
 use Rattle.cf_refinement.specs.Invariant.{HoldsAfter, HoldsAt, Sound}
-use Rattle.cf_refinement.specs.Operations.{operations, bare}
 use Rattle.cf_refinement.specs.Suited.{Suits}
 use Rattle.cf_refinement.specs.Port as dock
 use Rattle.cf_refinement.specs.Sure as sure
@@ -65,18 +65,18 @@ blank_cells i (c ∷ cells) e n =
     rw a (ap (λ (l : List Cell). empty_cell ∷ l) b)
 
 -- sidings
-blank_ops : (q : List (Option Op)) → operations q ≡ [] → q ≡ replicate (length q) None
+blank_ops : (q : List (Option Op)) → operations_in q ≡ [] → q ≡ replicate (length q) None
 blank_ops [] e = refl
 blank_ops (o ∷ q) e =
-    let z = both_none (operations q) (bare o) e in
+    let z = both_none (operations_in q) (as_launched o) e in
     let b = blank_ops q z.0 in
     rw (none o z.1) (ap (λ (l : List (Option Op)). None ∷ l) b)
   where
-    none : (o : Option Op) → bare o ≡ [] → o ≡ None
+    none : (o : Option Op) → as_launched o ≡ [] → o ≡ None
     none None e = refl
     none (Some op) e = absurd (cc)
 
-blank_sidings : (ss : List (List (Option Op))) (ps : List SidingPlan) → length ss ≡ length ps → ((k : ℕ) → operations (cells_in ss k) ≡ []) → ((k : ℕ) → length (cells_in ss k) ≡ (unwrap_or (slice_get ps k) no_siding).cells) → ss ≡ map empty_siding ps
+blank_sidings : (ss : List (List (Option Op))) (ps : List SidingPlan) → length ss ≡ length ps → ((k : ℕ) → operations_in (cells_in ss k) ≡ []) → ((k : ℕ) → length (cells_in ss k) ≡ (unwrap_or (slice_get ps k) no_siding).cells) → ss ≡ map empty_siding ps
 blank_sidings [] [] e f g = refl
 blank_sidings [] (p ∷ ps) e f g = absurd (cc)
 blank_sidings (q ∷ ss) [] e f g = absurd (cc)
@@ -85,7 +85,7 @@ blank_sidings (q ∷ ss) (p ∷ ps) e f g =
     let b = blank_sidings ss ps (omega (arith, e)) (λ k. f (suc k)) (λ k. g (suc k)) in
     rw a (ap (λ (l : List (List (Option Op))). empty_siding p ∷ l) b)
 
-sidings_blank : (l : Plan) (s : State) → length s.sidings ≡ length l.sidings → ((k : ℕ) → operations (siding_at s k) ≡ []) → ((k : ℕ) → length (siding_at s k) ≡ cells_of l k) → s.sidings ≡ map empty_siding l.sidings
+sidings_blank : (l : Plan) (s : State) → length s.sidings ≡ length l.sidings → ((k : ℕ) → operations_in (siding_at s k) ≡ []) → ((k : ℕ) → length (siding_at s k) ≡ cells_of l k) → s.sidings ≡ map empty_siding l.sidings
 unfolding cells_of
 sidings_blank l s e f g = blank_sidings s.sidings l.sidings e f g
 

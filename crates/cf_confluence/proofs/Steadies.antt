@@ -57,6 +57,7 @@ use Rattle.cf_refinement.proofs.PathMeet as pathmeet
 use Rattle.cf_refinement.proofs.Path as paths
 use Rattle.cf_refinement.specs.Sure as sure
 use Rattle.cf_semantics.specs.Path as trail
+use Rattle.cf_semantics.specs.Soundness.{IsAnswer}
 
 regroup : (a r m k b : List Item) → a ++ ((r ++ (m ++ k)) ++ b) ≡ (a ++ r) ++ (m ++ (k ++ b))
 regroup a r m k b = rw (append_assoc r (m ++ k) b, append_assoc m k b, append_assoc a r (m ++ (k ++ b)))
@@ -264,7 +265,7 @@ recover_steady {rest} {out} l s x i acc e h = go (recover_ready l s i (bar_row l
             let at : w.answer ≡ Some a = ap (λ (z : dock.Dock). z.answer) (walk_landed (isa_of l) q.above w0 w0.answer land) ∙ answer in
             let flies : ahead.flies p ≡ true = let o = r.out in let c = r.never in grind arith in
             let both : w.path ≡ u.path = k.same ∙ sym same in
-            let given : dock.Answers p.dst (behind (step_at (isa_of l) u.path.machine p.pc) u.path.machine).hart.regs a = subst (λ (z : trail.Walk). dock.Answers p.dst (behind (step_at (isa_of l) z.machine p.pc) z.machine).hart.regs a) both (known.3 flies a at) in
+            let given : IsAnswer p.dst (behind (step_at (isa_of l) u.path.machine p.pc) u.path.machine).hart.regs a = subst (λ (z : trail.Walk). IsAnswer p.dst (behind (step_at (isa_of l) z.machine p.pc) z.machine).hart.regs a) both (known.3 flies a at) in
             let permit : access_trap (instruction p) p.pc (value_in p.src1) (bounds_of u.path.machine.hart.mem) ≡ None = subst (λ (z : trail.Walk). access_trap (instruction p) p.pc (value_in p.src1) (bounds_of z.machine.hart.mem) ≡ None) both known.2 in
             let wide : length u.path.machine.hart.regs ≡ 32 = subst (λ (z : trail.Walk). length z.machine.hart.regs ≡ 32) (sym same) k.wide in
             had (Some a) g (rw (in_live p (Some a) d) (put (finish (back p) (Some a)) (done (Some a) d (memory_goes p f) (λ b. sure_loads (isa_of l) (back p) u.path a wide f (k.stands.0.sourced1 r.out) (k.stands.0.sourced2 r.out) permit given (back_at (isa_of l) p u.path (sure_at (isa_of l) i p u.path d b fits))))))

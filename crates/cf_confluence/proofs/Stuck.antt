@@ -9,12 +9,12 @@ use Rattle.cf_bind.specs.declared.moves.Move.TheVariants.{Exit, Fall, Meet, Slid
 use Rattle.cf_bind.specs.declared.packet.Packet.{Packet}
 use Rattle.cf_bind.specs.declared.passenger.Passenger.{Passenger}
 use Rattle.cf_layout.specs.Layout.{Plan}
-use Rattle.cf_refinement.specs.Operations.{bare, operations}
 use Rattle.cf_semantics.specs.Bars.{bar, climb_bar, emit_bar, exit_bar, fall_bar, last_op, leave_bar, meet_bar, row_bar, send_bar, stops_at}
 use Rattle.cf_semantics.specs.Column.{Item, Up, column_from, items, passenger_in}
 use Rattle.cf_semantics.specs.Passengers.{missing}
 use Rattle.cf_semantics.specs.State.{State, cell_at, siding_at}
 use Rattle.cf_semantics.specs.Weight.{is_issue}
+use Rattle.cf_semantics.specs.Soundness.{as_launched, operations_in}
 use Rattle.cf_refinement.specs.Sure as sure
 
 -- the row alone bars
@@ -142,18 +142,18 @@ pub record Slides (q : List (Option Op)) : Type 0 where
   pub here : slice_get q c ≡ Some (Some op)
   pub there : slice_get q (suc c) ≡ Some None
 
-pub slides : (q : List (Option Op)) → operations q ≢ [] → last_op q ≡ None → Slides q
+pub slides : (q : List (Option Op)) → operations_in q ≢ [] → last_op q ≡ None → Slides q
 slides [] n e = absurd (n refl)
-slides (o ∷ []) n e = absurd (n (ap bare e))
+slides (o ∷ []) n e = absurd (n (ap as_launched e))
 slides (Some op ∷ None ∷ q) n e = record { c = 0; op = op; here = refl; there = refl }
 slides (None ∷ p ∷ q) n e =
-    let r = slides (p ∷ q) (λ z. n (empty (operations (p ∷ q)) z)) e in
+    let r = slides (p ∷ q) (λ z. n (empty (operations_in (p ∷ q)) z)) e in
     record { c = suc r.c; op = r.op; here = r.here; there = r.there }
   where
     empty : (a : List Op) → a ≡ [] → a ++ [] ≡ []
     empty a z = rw z refl
 slides (Some op ∷ Some o ∷ q) n e =
-    let r = slides (Some o ∷ q) (λ z. full (operations q) z) e in
+    let r = slides (Some o ∷ q) (λ z. full (operations_in q) z) e in
     record { c = suc r.c; op = r.op; here = r.here; there = r.there }
   where
     full : (a : List Op) → a ++ (record o { answer = None } ∷ []) ≡ [] → ⊥

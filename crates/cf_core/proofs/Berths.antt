@@ -1,5 +1,5 @@
 -- How many cells a siding has, and which there are.
-use Rattle.std.proofs.Common.{◌≡◌, ℕ, zero, suc, ◌-◌, ◌<◌, ◌≤◌, List, [], ◌∷◌, Option, Some, length, map, refl, ap, sym, subst, arith}
+use Rattle.std.proofs.Common.{get_or, None, ◌≡◌, ℕ, zero, suc, ◌-◌, ◌<◌, ◌≤◌, List, [], ◌∷◌, Option, Some, length, map, refl, ap, sym, subst, arith}
 use Rattle.std.specs.Prelude.{IfSome, slice_get, unwrap_or}
 use Rattle.std.proofs.lemmas.Option.{get_or_from_slice_get, slice_get_past, slice_get_within}
 use Rattle.mem_regions.specs.Access.{Bounds}
@@ -37,6 +37,9 @@ last_at (o ∷ p ∷ cells) (suc n) e = last_at (p ∷ cells) n (omega arith)
 
 pub last-cell : (cells : List (Option Op)) → 0 < length cells → Some (last_op cells) ≡ slice_get cells (length cells - 1)
 last-cell cells h = last_at cells (length cells - 1) (omega arith)
+
+pub last-indexed : (cells : List (Option Op)) → 0 < length cells → get_or cells (length cells - 1) None ≡ last_op cells
+last-indexed cells h = get_or_from_slice_get cells (length cells - 1) (last_op cells) None (sym (last-cell cells h))
 
 pub ruleset berths = (length-siding, cells-none, last-cell)
 

@@ -1,5 +1,8 @@
 -- The words of all stages after something else holds of two of them.
-use Rattle.std.proofs.Common.{◌≡◌, ◌≢◌, ◌∙◌, ℕ, zero, suc, ◌-◌, ◌<◌, ◌≤◌, Bool, true, false, refl, ap, arith}
+use Rattle.std.proofs.Common.{◌≡◌, ◌≢◌, ◌∙◌, ℕ, zero, suc, ◌-◌, ◌^◌, ◌<◌, ◌≤◌, Bool, true, false, refl, sym, ap, arith}
+use Rattle.std.specs.Int.{bit_not, w32}
+use Rattle.std.specs.Int.RustNames.{bit_and, bit_or}
+use Rattle.std.proofs.lemmas.Nat.Bits.{bit_at_and, bit_at_or, same_from_bits}
 use Rattle.std.specs.Prelude.{nat_eq, if◌then◌else◌}
 use Rattle.std.proofs.lemmas.Bool.Decides.{nat_tests}
 use Rattle.cf_layout.specs.Layout.{Plan}
@@ -7,7 +10,9 @@ use Rattle.cf_semantics.specs.State.{State}
 use Rattle.cf_stages.specs.Words.{with_bit, word_of}
 use Rattle.cf_stages.proofs.Bits.{word-with-bit}
 use Rattle.cf_core.specs.declared.marks.Mark.{Mark}
-use Rattle.cf_core.specs.Marks.{mark_at, marked, marks_of}
+use Rattle.cf_core.specs.Marks.{mark_at, marked, marks_of, remarked}
+use Rattle.cf_core.specs.declared.marks.Marks.{Marks}
+use Rattle.cf_core.specs.declared.touching.Touched.{Touched}
 
 -- one test says something else at one stage
 word_at : (test other : ℕ → Bool) (n i : ℕ) → n ≤ 32 → 0 < i → i ≤ n → ((k : ℕ) → k ≢ i → other k ≡ test k) → word_of other n ≡ with_bit (word_of test n) (i - 1) (other i)
@@ -60,3 +65,23 @@ marks-two plan s t i j few low within low2 within2 same =
     let launch = two (λ m. m.launch) in
     let recover = two (λ m. m.recover) in
     λ x. record { owes = owes x; stops = stops x; execute = execute x; launch = launch x; recover = recover x }
+
+-- a bit that is put twice
+with-bit-twice : (w k : ℕ) (b : Bool) → with_bit (with_bit w k b) k b ≡ with_bit w k b
+unfolding with_bit
+with-bit-twice w k true = same_from_bits _ _ (λ i. rw (bit_at_or (bit_or w (2 ^ k)) (2 ^ k) i, bit_at_or w (2 ^ k) i) (omega arith))
+with-bit-twice w k false = same_from_bits _ _ (λ i. rw (bit_at_and (bit_and w (bit_not w32 (2 ^ k))) (bit_not w32 (2 ^ k)) i, bit_at_and w (bit_not w32 (2 ^ k)) i) (omega arith))
+
+pub marked-once : (plan : Plan) (s : State) (marks : Marks) (t : Touched) → t.low ≡ t.high → marked marks t.low (mark_at plan s t.low) ≡ remarked plan s marks t
+marked-once plan s marks t same =
+    let m = mark_at plan s t.low in
+    let once = λ (w : ℕ) (b : Bool). sym (with-bit-twice w (t.low - 1) b) in
+    let owes = once marks.owes m.owes in
+    let stops = once marks.stops m.stops in
+    let execute = once marks.execute m.execute in
+    let launch = once marks.launch m.launch in
+    let recover = once marks.recover m.recover in
+    let twice : marked marks t.low m ≡ marked (marked marks t.low m) t.low m = λ x. record { owes = owes x; stops = stops x; execute = execute x; launch = launch x; recover = recover x } in
+    twice ∙ ap (λ (i : ℕ). marked (marked marks t.low m) i (mark_at plan s i)) same
+
+pub ruleset marked_once = (marked-once)

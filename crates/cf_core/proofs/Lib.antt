@@ -28,3 +28,11 @@ pub mod Touched
 pub mod Sites
 pub mod Masked
 pub mod KeptMarks
+pub mod Places
+pub mod BackMarks
+pub mod RunsBack
+pub mod Widths
+pub mod OldOps
+pub mod Rides
+pub mod Guesses
+pub mod Allows

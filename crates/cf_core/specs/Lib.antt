@@ -5,3 +5,6 @@ pub mod Asking
 pub mod Ends
 pub mod Masks
 pub mod Marks
+pub mod Undo
+pub mod Places
+pub mod Riders

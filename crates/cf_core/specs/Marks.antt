@@ -1,5 +1,5 @@
 -- What is kept of each stage from one move to the next, and which stages a move can change.
-use Rattle.std.specs.Prelude.{ℕ, ◌+◌, ◌-◌, ◌<◌, ◌≤◌, Bool, Option, None, not}
+use Rattle.std.specs.Prelude.{ℕ, ◌+◌, ◌-◌, ◌<◌, ◌≤◌, Bool, false, Option, None, not}
 use Rattle.cf_layout.specs.Layout.{Plan, launch_stage, recover_stage, siding_of}
 use Rattle.cf_bind.specs.declared.moves.Move.{Move}
 use Rattle.cf_bind.specs.declared.moves.Move.TheVariants.{Issue, Emit, Climb, Fall, Meet, Execute, Send, Launch, Slide, Access, Recover, Leave, Exit, Serve}
@@ -28,6 +28,10 @@ mark_at plan s i = record {
   launch = is_free plan s (Launch i);
   recover = is_free plan s (Recover i);
 }
+
+-- what holds of a stage without an instruction
+abbrev pub no_mark : Mark
+no_mark = record { owes = false; stops = false; execute = false; launch = false; recover = false }
 
 -- what holds of all of them, as words
 unfoldable pub marks_of : Plan → State → Marks

@@ -18,7 +18,7 @@ use rv_inst::Class;
 
 /// Whether the class is that of loads and stores.
 #[inline(always)]
-fn is_memory(class: Class) -> bool
+pub(crate) fn is_memory(class: Class) -> bool
     ensures { result ≡ loads_or_stores class }
 {
     matches!(class, Class::Memory)
@@ -28,7 +28,7 @@ impl Processor {
     /// How many cells the siding of that number has: none where there is no such siding.
     #[inline(always)]
     #[tactic(auto, using(crate::proofs::Berths::berths))]
-    fn cells_in(&self, k: u32) -> u32
+    pub(crate) fn cells_in(&self, k: u32) -> u32
         requires { IsProcessor self.now.plan self.now.state }
         ensures { result ≡ length (siding_at self.now.state k) }
     {
@@ -42,12 +42,13 @@ impl Processor {
     /// The operation at the end of the siding of that number, which has cells.
     #[inline(always)]
     #[tactic(auto, using(crate::proofs::Berths::berths))]
-    fn last_op(&self, k: u32) -> Option<Op>
+    pub(crate) fn last_op(&self, k: u32) -> &Option<Op>
         requires facts { IsProcessor self.now.plan self.now.state }
         requires within { 0 < length (siding_at self.now.state k) }
-        ensures { result ≡ op_at_end (siding_at self.now.state k) }
+        ensures { result.now ≡ op_at_end (siding_at self.now.state k) }
     {
-        self.sidings.cell(k, self.cells_in(k) - 1)
+        let cells = self.sidings.siding(k);
+        &cells[cells.len() - 1]
     }
 
     /// The number of Memory's siding, at whose end the port to memory is.
@@ -179,7 +180,7 @@ impl Processor {
     /// What bars the operation of an instruction from being taken out of its siding.
     #[inline(always)]
     #[tactic(auto, using(crate::proofs::Ported::ported))]
-    fn return_bar(&self, passenger: &Passenger) -> Option<Bar>
+    pub(crate) fn return_bar(&self, passenger: &Passenger) -> Option<Bar>
         requires { IsProcessor self.now.plan self.now.state }
         ensures { result ≡ bar_of_return self.now.plan self.now.state passenger.now }
     {

@@ -39,7 +39,7 @@ impl Processor {
 
     /// The instruction that is issued at the address with the guess.
     #[inline(always)]
-    fn issued_at(&self, pc: u32, guess: Guess) -> Passenger
+    pub(crate) fn issued_at(&self, pc: u32, guess: Guess) -> Passenger
         ensures passenger { result ≡ passenger_at self.now.plan self.now.state pc guess }
         ensures facts { IsPassenger (set_of self.now.plan) result }
     {

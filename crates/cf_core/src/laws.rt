@@ -1,7 +1,7 @@
 //! The laws of the processor: what holds of every run, whatever the order of its moves. Each is the contract of a function
 //! that does nothing; docs/PROMISES.md says each in plain words.
 
-ghost use Rattle.std.specs.Prelude.{◌≡◌, ◌≢◌, ◌≤◌, ◌<◌, ◌^◌, ◌*◌, ◌+◌, ◌⊎◌, ℕ, suc, List, ◌∷◌, Some, None, true, false, length};
+ghost use Rattle.std.specs.Prelude.{◌≡◌, ◌≢◌, ◌≤◌, ◌<◌, ◌^◌, ◌*◌, ◌+◌, ◌⊎◌, ℕ, suc, List, ◌∷◌, All, Some, None, true, false, length};
 ghost use Rattle.rv_inst.specs.declared.isa.Isa.{Isa};
 ghost use Rattle.rv_machine.specs.Machine.{Machine as Sequential};
 ghost use Rattle.rv_machine.specs.Outcome.{Next};
@@ -27,6 +27,7 @@ ghost use Rattle.cf_semantics.specs.SoundAfter.{IsSoundAfter};
 ghost use Rattle.cf_semantics.specs.State.{Moment};
 ghost use Rattle.cf_semantics.specs.Stutters.{Stutters};
 ghost use Rattle.cf_semantics.specs.Weight.{counts, is_issue, issues, moves_per_issue, weight};
+ghost use Rattle.cf_core.specs.Undo.{all_taken_back, kept_along};
 
 /// What a unit computes is what the sequential machine computes.
 pub fn l1()
@@ -137,6 +138,12 @@ pub fn t5_7()
 pub fn moves_are_taken_back()
     ensures { (plan : Plan) (m : Moment) (mv : Move) → bar plan m.state mv ≡ None → mv ≢ Serve →
         taken_back (next plan m mv) (kept plan m.state mv) ≡ m }
+{}
+
+/// The moves of a run are taken back one after another, the last first, if none of them is Serve: at the end all is as before.
+pub fn runs_are_taken_back()
+    ensures { (plan : Plan) (m : Moment) (moves : List Move) → IsRun plan m moves → All (λ mv. mv ≢ Serve) moves →
+        all_taken_back (run plan m moves) (kept_along plan m moves) ≡ m }
 {}
 
 /// The refinement move by move. Seen through count, registers and ending a move is no step of the sequential machine, or it is

@@ -1,13 +1,11 @@
 //! What is kept of each stage from one move to the next.
 
 ghost use Rattle.std.specs.Prelude.{◌≡◌, ◌<◌, ◌≤◌};
-ghost use Rattle.cf_core.specs.Marks.{Within, mark_at, marked, remarked as remarked_by};
-ghost use Rattle.cf_core.specs.Masks.{owes_at, stops_there};
+ghost use Rattle.cf_core.specs.Marks.{Within, mark_at, marked, no_mark, remarked as remarked_by};
 ghost use Rattle.cf_core.specs.Processors.{IsProcessor};
 
 use crate::processor::Processor;
 use crate::touching::Touched;
-use cf_passengers::stops_at;
 use cf_stages::with_bit;
 
 /// What holds of one stage.
@@ -27,6 +25,22 @@ pub(crate) struct Mark {
 
     /// The same of Recover.
     pub(crate) recover: bool,
+}
+
+impl Mark {
+    /// What holds of a stage without an instruction.
+    #[inline(always)]
+    fn of_none() -> Mark
+        ensures { result ≡ no_mark }
+    {
+        Mark {
+            owes: false,
+            stops: false,
+            execute: false,
+            launch: false,
+            recover: false,
+        }
+    }
 }
 
 /// What holds of all stages: bit i - 1 for stage i.
@@ -71,62 +85,35 @@ impl Marks {
 }
 
 impl Processor {
-    /// Whether the instruction of the stage owes a result.
-    #[inline(always)]
-    fn owes(&self, i: u32) -> bool
-        requires above { 0 < i }
-        requires within { i ≤ self.now.plan.stages }
-        requires facts { IsProcessor self.now.plan self.now.state }
-        ensures { result ≡ owes_at self.now.state i }
-    {
-        match self.stages.passenger(i) {
-            Some(passenger) => passenger.owes.is_some(),
-            None => false,
-        }
-    }
-
-    /// Whether the instruction of the stage stops there.
-    #[inline(always)]
-    fn stops(&self, i: u32) -> bool
-        requires above { 0 < i }
-        requires within { i ≤ self.now.plan.stages }
-        requires facts { IsProcessor self.now.plan self.now.state }
-        ensures { result ≡ stops_there self.now.plan self.now.state i }
-    {
-        match self.stages.passenger(i) {
-            Some(passenger) => stops_at(&self.layout, passenger, i),
-            None => false,
-        }
-    }
-
     /// What holds of the stage.
     #[inline(always)]
-    #[tactic(auto, unfolding(crate::specs::Marks::mark_at))]
+    #[tactic(auto, using(crate::proofs::Rides::mark_none))]
     pub(crate) fn mark(&self, i: u32) -> Mark
         requires above { 0 < i }
         requires within { i ≤ self.now.plan.stages }
         requires facts { IsProcessor self.now.plan self.now.state }
         ensures { result ≡ mark_at self.now.plan self.now.state i }
     {
-        Mark {
-            owes: self.owes(i),
-            stops: self.stops(i),
-            execute: self.execute_bar(i).is_none(),
-            launch: self.launch_bar(i).is_none(),
-            recover: self.recover_bar(i).is_none(),
+        match self.stages.passenger(i) {
+            Some(passenger) => self.mark_of(passenger, i),
+            None => Mark::of_none(),
         }
     }
 
     /// The words with what holds of the two stages now.
     #[inline(always)]
+    #[tactic(auto, using(crate::proofs::Bits::marked_once))]
     pub(crate) fn remarked(&self, marks: Marks, touched: Touched) -> Marks
         requires within { Within self.now.plan touched }
         requires facts { IsProcessor self.now.plan self.now.state }
         ensures { result ≡ remarked_by self.now.plan self.now.state marks touched }
     {
         let _stages = self.layout.stages();
-        marks
-            .with(touched.low, self.mark(touched.low))
-            .with(touched.high, self.mark(touched.high))
+        let marks = marks.with(touched.low, self.mark(touched.low));
+        if touched.low == touched.high {
+            marks
+        } else {
+            marks.with(touched.high, self.mark(touched.high))
+        }
     }
 }

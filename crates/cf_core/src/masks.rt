@@ -46,7 +46,7 @@ fn where_on(goes_on: bool, word: u32) -> u32
 impl Processor {
     /// Whether the program has not ended, and neither the input nor the output has failed.
     #[inline(always)]
-    fn goes_on(&self) -> bool
+    pub(crate) fn goes_on(&self) -> bool
         ensures { result ≡ (not (is_some self.now.state.ending) && not self.now.state.failed) }
     {
         self.ending.is_none() && !self.failed

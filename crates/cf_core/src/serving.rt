@@ -23,7 +23,7 @@ use rv_machine::{Served, serve};
 
 /// Whether the class is the one that needs the whole machine.
 #[inline(always)]
-fn is_serial(class: Class) -> bool
+pub(crate) fn is_serial(class: Class) -> bool
     ensures { result ≡ needs_machine class }
 {
     matches!(class, Class::Serial)

@@ -1,6 +1,6 @@
 //! The values that are kept at the bottom, so that a later instruction need not request them.
 
-ghost use Rattle.std.specs.Prelude.{◌≡◌, ◌≢◌, ◌<◌, Some, None, slice_set};
+ghost use Rattle.std.specs.Prelude.{◌≡◌, ◌≢◌, ◌<◌, Some, None, slice_get, slice_set};
 ghost use Rattle.cf_semantics.specs.Passengers.{cached as kept_value, forgets, cleared};
 
 use crate::ends::Ends;
@@ -45,5 +45,23 @@ impl Ends {
         ensures { self.new ≡ record self.old { cache = cleared self.old.cache } }
     {
         self.cache = [None; 32];
+    }
+
+    /// The value that is kept for each register, if one is: for x0 none ever is.
+    #[inline(always)]
+    pub fn cache(&self) -> [Option<u32>; 32]
+        ensures cache { result ≡ self.now.cache }
+        ensures zero { slice_get result 0 ≡ Some None }
+    {
+        self.cache
+    }
+
+    /// Keeps these values and no others.
+    #[inline(always)]
+    pub fn set_cache(&mut self, cache: [Option<u32>; 32])
+        requires { slice_get cache 0 ≡ Some None }
+        ensures { self.new ≡ record self.old { cache = cache } }
+    {
+        self.cache = cache;
     }
 }

@@ -10,7 +10,7 @@ counted_split k zero b = let e : zero + b ≡ b = omega arith in let f : k + 0 �
 counted_split k (suc a) b = let e : suc a + b ≡ suc (a + b) = omega arith in let f : k + suc a ≡ suc k + a = omega arith in rw (e, f) (ap (λ (l : List ℕ). k ∷ l) (counted_split (suc k) a b))
 
 -- a choice between a list with one element more and the list, under a map
-map_choice : {X Y : Type 0} (f : X → Y) (b : Bool) (x : X) (xs : List X) → map f (cond b (x ∷ xs) xs) ≡ cond b (f x ∷ map f xs) (map f xs)
+pub map_choice : {X Y : Type 0} (f : X → Y) (b : Bool) (x : X) (xs : List X) → map f (cond b (x ∷ xs) xs) ≡ cond b (f x ∷ map f xs) (map f xs)
 map_choice f true x xs = refl
 map_choice f false x xs = refl
 

@@ -1,11 +1,11 @@
 -- The words that are filled bit by bit, and the moves that they stand for.
-use Rattle.std.proofs.Common.{◌≡◌, ◌∙◌, sym, refl, ap, ℕ, zero, suc, ◌+◌, ◌-◌, ◌*◌, ◌/◌, ◌%◌, ◌<◌, ◌≤◌, List, [], ◌∷◌, ◌++◌, length, get_or, map, All, Option, Bool, true, false, nat_lt, arith}
+use Rattle.std.proofs.Common.{◌≡◌, ◌∙◌, sym, refl, ap, ℕ, zero, suc, ◌+◌, ◌-◌, ◌*◌, ◌/◌, ◌%◌, ◌<◌, ◌≤◌, List, [], ◌∷◌, ◌++◌, length, map, All, Option, Bool, true, false, nat_lt, arith}
 use Rattle.std.specs.Prelude.{◌&&◌, filter, slice_get, unwrap_or}
 use Rattle.std.proofs.lemmas.Bool.Decides.{nat_tests}
 use Rattle.std.proofs.lemmas.List.{map-append, append_assoc}
 use Rattle.std.proofs.lemmas.List.Elements.{filter-append, All-tail}
-use Rattle.std.proofs.lemmas.Option.{unwrap_or-slice_get, slice_get_past}
-use Rattle.cf_layout.specs.Layout.{Plan, SidingPlan, no_siding, siding_at, cells_of}
+use Rattle.std.proofs.lemmas.Option.{slice_get_past}
+use Rattle.cf_layout.specs.Layout.{Plan, SidingPlan, no_siding, cells_of}
 use Rattle.cf_layout.specs.Words.{has_bit}
 use Rattle.cf_layout.proofs.Words.{no_bits}
 use Rattle.cf_bind.specs.declared.moves.Move.{Move}
@@ -64,16 +64,6 @@ leaving_chosen plan s l few access recover leave exit serve =
     parts_chosen (is_allowed plan s) _ _ (at_stages plan Recover) (Leave ∷ Exit ∷ Serve ∷ []) (stages_chosen plan s Recover l.recover few recover) (
     parts_chosen (is_allowed plan s) _ _ (Leave ∷ []) (Exit ∷ Serve ∷ []) (flag_chosen (is_allowed plan s) l.leave Leave leave) (
     parts_chosen (is_allowed plan s) _ _ (Exit ∷ []) (Serve ∷ []) (flag_chosen (is_allowed plan s) l.exit Exit exit) (flag_chosen (is_allowed plan s) l.serve Serve serve))))
-
--- how many cells a siding has, and how many sidings there are
-pub cells_within : (plan : Plan) (s : State) (k : ℕ) → IsProcessor plan s → k < length plan.sidings → (1 ≤ cells_of plan k) × (cells_of plan k ≤ 8) × (k < 8)
-unfolding cells_of
-cells_within plan s k p within =
-    let a = p.accepted in
-    let c = (a.sidings k no_siding within).cells in
-    let e : siding_at plan k ≡ get_or plan.sidings k no_siding = unwrap_or-slice_get plan.sidings k no_siding in
-    let f = ap (λ (siding : SidingPlan). siding.cells) e in
-    (omega (arith, f, c), omega (arith, f, c), omega (arith, a.few_sidings))
 
 -- how many cells the m-th of some sidings has
 cells_in : List SidingPlan → ℕ → ℕ

@@ -10,3 +10,11 @@ pub mod PassedEnds
 pub mod PassedAll
 pub mod WordBits
 pub mod Rows
+pub mod SiteWords
+pub mod UsedSites
+pub mod UsedCells
+pub mod SharedSites
+pub mod Behinds
+pub mod There
+pub mod Independence
+pub mod Leavings

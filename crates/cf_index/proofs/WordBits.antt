@@ -7,6 +7,7 @@ use Rattle.std.proofs.lemmas.Bool.Decides.{nat_tests}
 use Rattle.std.proofs.lemmas.Nat.{one_shl}
 use Rattle.std.proofs.lemmas.Nat.Bits.{bit_at-lt, bit_at-suc, bit_at_above, bit_at_and, bit_at_cat_low, bit_at_lowest, bit_at_not, bit_at_ones, bit_at_ones_above}
 use Rattle.cf_layout.specs.Words.{has_bit}
+use Rattle.cf_layout.proofs.Words.{no_bits}
 
 -- the bits of both
 and_bit : (a b : ℕ) → a < 2 → b < 2 → nat_eq (min a b) 1 ≡ (nat_eq a 1 && nat_eq b 1)
@@ -99,3 +100,12 @@ fall_tests k p f b high = by_height (nat_lt k 32) refl
     by_height : (low : Bool) → nat_lt k 32 ≡ low → (((p && not f) && not (nat_lt k 32 && (nat_lt 0 k && b))) && not (nat_lt k 1)) ≡ (p && (not f && (nat_lt 0 k && not b)))
     by_height true e = let z : not (nat_lt k 1) ≡ nat_lt 0 k = grind (arith, nat_tests) in rw (e, z) (tests p f (nat_lt 0 k) b)
     by_height false e = rw (high e) (nothing p (not f) (nat_lt 0 k && not b) (high e))
+
+-- no bit stands from 32 on
+none_beyond : (b low : Bool) → (low ≡ false → b ≡ false) → false ≡ (b && not low)
+none_beyond true true h = refl
+none_beyond false low h = refl
+none_beyond true false h = absurd (cc (h refl))
+
+pub beyond_word : (w i k : ℕ) → w < 2 ^ 32 → 32 ≤ i → has_bit 0 k ≡ (has_bit w k && not (nat_lt k i))
+beyond_word w i k small wide = no_bits k ∙ none_beyond (has_bit w k) (nat_lt k i) (λ off. let high : 32 ≤ k = grind (arith, nat_tests) in high_bit w k small high)

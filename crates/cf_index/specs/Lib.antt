@@ -3,3 +3,5 @@ pub mod Listed
 pub mod Order
 pub mod Allowed
 pub mod Words
+pub mod Sites
+pub mod Alone

@@ -1,6 +1,6 @@
 //! Words as sets of small numbers: bit k for number k.
 
-ghost use Rattle.std.specs.Prelude.{◌≡◌, ℕ, ◌<◌, ◌≤◌, ◌&&◌, ◌||◌, nat_eq, Some, filter, length, nat_lt, slice_get};
+ghost use Rattle.std.specs.Prelude.{◌≡◌, ℕ, ◌<◌, ◌≤◌, ◌&&◌, ◌||◌, nat_eq, IfSome, Some, filter, length, nat_lt, slice_get};
 ghost use Rattle.cf_layout.specs.Words.{has_bit};
 ghost use Rattle.cf_index.specs.Places.{places};
 
@@ -28,6 +28,21 @@ pub(crate) fn count_below(word: u64, k: usize) -> usize
     }
 }
 
+/// The lowest of its numbers, if it has one.
+#[inline(always)]
+#[tactic(auto, using(crate::proofs::Behinds::lowest_place, crate::proofs::Behinds::no_place))]
+pub(crate) fn lowest(word: u32) -> Option<u32>
+    ensures number { result ≡ slice_get (places 64 word) 0 }
+    ensures within { IfSome result (λ k. k < 64) }
+{
+    let wide = word as u64;
+    if wide == 0 {
+        None
+    } else {
+        Some(wide.trailing_zeros())
+    }
+}
+
 /// The i-th of its numbers, counted from 0.
 #[inline(always)]
 #[tactic(auto, using(crate::proofs::Places::some_left, crate::proofs::Places::one_passed, crate::proofs::Places::next_place, crate::proofs::Places::next_within))]
@@ -43,10 +58,10 @@ pub(crate) fn nth(word: u64, i: usize) -> u32
     rest.trailing_zeros()
 }
 
-/// The word of 64 bits with the number k, where it is set.
+/// The word with the number k, where it is set.
 #[inline(always)]
 #[tactic(auto, using(crate::proofs::Setting::with_bit_64))]
-pub(crate) fn with_slide(word: u64, k: u32, set: bool) -> u64
+pub(crate) fn with_bit(word: u64, k: u32, set: bool) -> u64
     requires { k < 64 }
     ensures { (i : ℕ) → has_bit result i ≡ ((nat_eq i k && set) || has_bit word i) }
 {

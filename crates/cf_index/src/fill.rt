@@ -9,22 +9,13 @@ ghost use Rattle.cf_index.specs.Allowed.{all_entering, all_leaving, all_passing,
 ghost use Rattle.cf_index.specs.Listed.{entering_moves, leaving_moves, passing_moves, slide_at, slides_of};
 ghost use Rattle.cf_index.specs.Words.{goes_on};
 
-use crate::bits::with_slide;
+use crate::bits::with_bit;
 use crate::candidates::Candidates;
 use crate::entering::Entering;
 use crate::leaving::Leaving;
 use crate::passing::Passing;
 use crate::words::{climbing, falling, full, sending};
-use cf_bind::{Guess, Move};
 use cf_core::{Core, Masks};
-
-/// Whether nothing bars the move.
-#[inline(always)]
-fn is_allowed(core: &Core, mv: Move) -> bool
-    ensures { result ≡ is_allowed core.now.plan core.now.state mv }
-{
-    core.allowed(mv).is_none()
-}
 
 /// The word where the processor goes on, and no stage where it does not.
 #[inline(always)]
@@ -69,14 +60,14 @@ fn with_siding(core: &Core, k: u32, word: u64) -> u64
 {
     let mut word = word;
     for c in 0..cells(core, k) - 1 {
-        word = with_slide(word, 8 * k + c, is_allowed(core, Move::Slide(k, c)));
+        word = with_bit(word, 8 * k + c, core.may_slide(k, c));
     }
     word
 }
 
 /// The cells from which an operation is allowed to move on.
 #[inline(always)]
-fn slides(core: &Core) -> u64
+pub(crate) fn slides(core: &Core) -> u64
     ensures { slides_of result ≡ filter (is_allowed core.now.plan core.now.state) (slides_from 0 core.now.plan.sidings) }
 {
     let mut word = 0;
@@ -92,17 +83,18 @@ fn slides(core: &Core) -> u64
 fn entering(core: &Core) -> Entering
     ensures { entering_moves result ≡ filter (is_allowed core.now.plan core.now.state) all_entering }
 {
+    let issuable = core.issuable();
     Entering {
-        next: is_allowed(core, Move::Issue(Guess::Next)),
-        taken: is_allowed(core, Move::Issue(Guess::Taken)),
-        wait: is_allowed(core, Move::Issue(Guess::Wait)),
-        emit: is_allowed(core, Move::Emit),
+        next: issuable.next,
+        taken: issuable.taken,
+        wait: issuable.wait,
+        emit: core.may_emit(),
     }
 }
 
 /// What is allowed in the stages.
 #[inline(always)]
-fn passing(core: &Core, masks: &Masks) -> Passing
+pub(crate) fn passing(core: &Core, masks: &Masks) -> Passing
     requires { masks.now ≡ masks_of core.now.plan core.now.state }
     ensures { passing_moves result ≡ filter (is_allowed core.now.plan core.now.state) (all_passing core.now.plan) }
 {
@@ -118,17 +110,17 @@ fn passing(core: &Core, masks: &Masks) -> Passing
 
 /// What is allowed to leave.
 #[inline(always)]
-fn leaving(core: &Core, masks: &Masks) -> Leaving
+pub(crate) fn leaving(core: &Core, masks: &Masks) -> Leaving
     requires { masks.now ≡ masks_of core.now.plan core.now.state }
     ensures { leaving_moves result ≡ filter (is_allowed core.now.plan core.now.state) (all_leaving core.now.plan) }
 {
     let _stages = stages(core);
     Leaving {
-        access: is_allowed(core, Move::Access),
+        access: core.may_access(),
         recover: masks.recover,
-        leave: is_allowed(core, Move::Leave),
-        exit: is_allowed(core, Move::Exit),
-        serve: is_allowed(core, Move::Serve),
+        leave: core.may_leave(),
+        exit: core.may_exit(),
+        serve: core.may_serve(),
     }
 }
 

@@ -8,9 +8,12 @@ mod entering;
 mod fill;
 mod leaving;
 mod passing;
+mod sharing;
+mod soon;
 mod words;
 
 pub use candidates::Candidates;
+pub use sharing::shares;
 
 #[cfg(test)]
 mod tests;

@@ -90,3 +90,12 @@ pub(crate) fn sending(masks: &Masks) -> u32
 {
     without(masks.owes, masks.packets)
 }
+
+/// The stages of the word above the one of this number.
+#[inline(always)]
+#[tactic(auto, using(crate::proofs::WordBits::beyond_word))]
+pub(crate) fn past(word: u32, i: u32) -> u32
+    ensures { (k : ℕ) → has_bit result k ≡ (has_bit word k && not (nat_lt k i)) }
+{
+    if i < 32 { without(word, lowest(i)) } else { 0 }
+}

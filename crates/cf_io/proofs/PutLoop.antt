@@ -4,12 +4,12 @@ use Rattle.std.proofs.Math.Seq.{take-add, take-length}
 use Rattle.std.proofs.lemmas.List.{length-drop}
 use Rattle.cf_io.specs.Puts.{Writes}
 
--- so many bytes from the front are written, and the count has not fallen
+-- so many bytes from the front are written, and no fault was counted
 pub record HasPut (written after : Option (List ℕ)) (bytes : List ℕ) (done before now : ℕ) :
     Type 0 where
   pub within : done ≤ length bytes
   pub told : Writes written after (take done bytes)
-  pub never_falls : before ≤ now
+  pub still : now ≡ before
 
 -- a front, and then a front of the rest
 pub writes-add : (a b c : Option (List ℕ)) (bytes : List ℕ) (i n : ℕ) →

@@ -7,12 +7,12 @@ use borrow.Rule.Slice.PartMut.{put_mid}
 use Rattle.std.specs.Prelude.{Result, Ok}
 use Rattle.cf_io.specs.Takes.{Takes, TakesSome, GivesFront, IsAtEnd, TakesMost}
 
--- so many bytes are taken, the slice has its length, and the count has not fallen
+-- so many bytes are taken, the slice has its length, and no fault was counted
 pub record HasTaken (left after : Option (List ℕ)) (into new : List ℕ) (done before now : ℕ) :
     Type 0 where
   pub taken : TakesSome left after into new done
   pub same_length : length new ≡ length into
-  pub never_falls : before ≤ now
+  pub still : now ≡ before
 
 -- a write over the rest of a slice
 rest_written : (i : ℕ) (slice piece : List ℕ) → i ≤ length slice →

@@ -1,5 +1,5 @@
 -- Counts of faults: each failure has its cause in a count that rose (a convention of this project).
-use Rattle.std.specs.Prelude.{◌≡◌, ℕ, ◌+◌, ◌-◌, ◌^◌, ◌≤◌, min, Result, Ok, Err, OnErr}
+use Rattle.std.specs.Prelude.{◌≡◌, ℕ, ◌+◌, ◌-◌, ◌^◌, ◌≤◌, min, Result, Ok, Err, OnOk, OnErr}
 
 -- one more, up to the greatest u64
 abbrev pub raised : ℕ → ℕ
@@ -9,10 +9,11 @@ raised count = min (count + 1) (2 ^ 64 - 1)
 abbrev pub Rose : ℕ → ℕ → Type 0
 Rose before now = raised before ≤ now
 
--- the count has not fallen, and an error comes only where it rose
+-- the count never falls; an error comes only where it rose, and another answer only where it did not
 pub record HasCause {T E : Type 0} (before now : ℕ) (result : Result T E) : Type 0 where
   pub never_falls : before ≤ now
   pub rose : OnErr result (Rose before now)
+  pub still : OnOk result (now ≡ before)
 
 -- just a call that fails is counted
 abbrev pub CountsFaults : {T E : Type 0} → ℕ → ℕ → Result T E → Type 0

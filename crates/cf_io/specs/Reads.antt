@@ -26,13 +26,13 @@ abbrev pub Reads : Option Told → Option Told → List ℕ → ℕ → Result (
 Reads None after name most result = after ≡ None
 Reads (Some told) after name most result = ReadsTold told after name most result
 
--- Failed comes only where the count rose
+-- Failed comes only where the count rose, and another answer only where it did not
 abbrev pub RoseOnFailed : {T : Type 0} → ℕ → ℕ → Result T FilesErr → Type 0
 RoseOnFailed before now (Err err.Failed) = Rose before now
-RoseOnFailed before now (Err err.NoMemory) = Unit {0}
-RoseOnFailed before now (Ok x) = Unit {0}
+RoseOnFailed before now (Err err.NoMemory) = now ≡ before
+RoseOnFailed before now (Ok x) = now ≡ before
 
--- the count has not fallen, and Failed comes only where it rose
+-- the count never falls, and rises just where the answer is Failed
 pub record HasReadCause {T : Type 0} (before now : ℕ) (result : Result T FilesErr) : Type 0 where
   pub never_falls : before ≤ now
   pub rose : RoseOnFailed before now result

@@ -1,4 +1,6 @@
-ghost use Rattle.std.specs.Prelude.{◌≡◌, ◌≤◌, None, IfOk, vec_len};
+ghost use Rattle.std.specs.Prelude.{◌≡◌, ◌≤◌, ◌↔◌, None, IfOk, vec_len};
+ghost use Rattle.std.specs.IoError.{error_kind};
+ghost use Rattle.std.specs.declared.io.ErrorKind.TheVariants as kind;
 ghost use Rattle.cf_io.specs.Reads.{Reads, HasReadCause, CountsReadFaults};
 
 use crate::files::{Files, FilesErr};
@@ -39,6 +41,17 @@ fn read_front<R: rt::Files + AllocGlobal>(
     Ok(bytes)
 }
 
+/// Why the read gave no bytes: for want of memory just where the error is of that kind.
+fn reason(error: &io::Error) -> FilesErr
+    ensures { result ≡ FilesErr.NoMemory ↔ error_kind error.now ≡ kind.OutOfMemory }
+{
+    if error.kind() == io::ErrorKind::OutOfMemory {
+        FilesErr::NoMemory
+    } else {
+        FilesErr::Failed
+    }
+}
+
 impl<'a, R: rt::Files + AllocGlobal> Files for DirFiles<'a, R> {
     ghost told = { λ _. None };
 
@@ -52,11 +65,13 @@ impl<'a, R: rt::Files + AllocGlobal> Files for DirFiles<'a, R> {
     {
         match read_front(self.rt, alloc, name, most) {
             Ok(bytes) => Ok(bytes),
-            Err(error) if error.kind() == io::ErrorKind::OutOfMemory => Err(FilesErr::NoMemory),
-            Err(_) => {
-                self.faults = self.faults.saturating_add(1);
-                Err(FilesErr::Failed)
-            }
+            Err(error) => match reason(&error) {
+                FilesErr::NoMemory => Err(FilesErr::NoMemory),
+                FilesErr::Failed => {
+                    self.faults = self.faults.saturating_add(1);
+                    Err(FilesErr::Failed)
+                }
+            },
         }
     }
 }

@@ -1,5 +1,6 @@
 ghost use Rattle.std.specs.Prelude.{◌≡◌, None};
 ghost use Rattle.std.specs.Io.KnownBytes.{ReadConsumes, WriteAppends};
+ghost use Rattle.cf_io.specs.Adapted.{answer_of_reader, answer_of_writer};
 ghost use Rattle.cf_io.specs.Causes.{HasCause, CountsFaults};
 ghost use Rattle.cf_io.specs.Takes.{Takes};
 ghost use Rattle.cf_io.specs.Puts.{Puts};
@@ -7,7 +8,28 @@ ghost use Rattle.cf_io.specs.Puts.{Puts};
 use crate::failed::Failed;
 use crate::sink::Sink;
 use crate::source::Source;
-use std::io::{Read, Write};
+use std::io::{self, Read, Write};
+
+/// A reader's answer as a source's: as many bytes as it gave, where 0 is the end and no fault; and each error a failure.
+fn taken(answer: io::Result<usize>) -> Result<usize, Failed>
+    ensures { result ≡ answer_of_reader answer }
+{
+    match answer {
+        Ok(count) => Ok(count),
+        Err(_) => Err(Failed),
+    }
+}
+
+/// A writer's answer to a piece that is not empty as a sink's: as many bytes as it took, if it took any. That it took
+/// none is a failure, and so is each error.
+fn written(answer: io::Result<usize>) -> Result<usize, Failed>
+    ensures { result ≡ answer_of_writer answer }
+{
+    match answer {
+        Ok(count) if count > 0 => Ok(count),
+        _ => Err(Failed),
+    }
+}
 
 /// A reader, such as standard input, as a source that does not tell what it has left. Its takes are
 /// the reader's own reads.
@@ -45,12 +67,12 @@ impl<R: Read + Drop> Source for StdSource<R> {
         }
         let mut buffer = [0u8; 4096];
         let room = into.len().min(buffer.len());
-        match self.inner.read(&mut buffer[..room]) {
+        match taken(self.inner.read(&mut buffer[..room])) {
             Ok(count) => {
                 into[..count].copy_from_slice(&buffer[..count]);
                 Ok(count)
             }
-            Err(_) => {
+            Err(Failed) => {
                 self.faults = self.faults.saturating_add(1);
                 Err(Failed)
             }
@@ -91,9 +113,9 @@ impl<W: Write + Drop> Sink for StdSink<W> {
         if bytes.is_empty() {
             return Ok(0);
         }
-        match self.inner.write(bytes) {
-            Ok(count) if count > 0 => Ok(count),
-            _ => {
+        match written(self.inner.write(bytes)) {
+            Ok(count) => Ok(count),
+            Err(Failed) => {
                 self.faults = self.faults.saturating_add(1);
                 Err(Failed)
             }

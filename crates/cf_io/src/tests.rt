@@ -119,9 +119,12 @@ impl Read for Broken {
 
 #[test]
 fn reader_is_a_source(rt: HostRuntime) {
-    let [first, second] = two_takes(&mut StdSource::new(b"abcdef".as_slice()));
+    let mut source = StdSource::new(b"abcdef".as_slice());
+    let [first, second] = two_takes(&mut source);
     assert_eq!(rt; first, (Ok(4), *b"abcd"));
     assert_eq!(rt; second, (Ok(2), *b"ef\0\0"));
+    let [behind, again] = two_takes(&mut source);
+    assert_eq!(rt; [behind.0, again.0], [Ok(0), Ok(0)]);
     let [third, _] = two_takes(&mut StdSource::new(Broken));
     assert_eq!(rt; third, (Err(Failed), [0; 4]));
 }
@@ -134,11 +137,32 @@ fn writer_is_a_sink(rt: HostRuntime) {
     assert_eq!(rt; room, *b"abc");
 }
 
+/// 100,000 times this byte.
+fn many(alloc: Global, byte: u8) -> Result<Vec<u8>, Fail> {
+    let mut bytes = Vec::new(alloc);
+    for _ in 0..100_000 {
+        bytes.push(byte)?;
+    }
+    Ok(bytes)
+}
+
+#[test]
+fn writer_takes_a_long_piece(rt: HostRuntime) -> Result<(), Fail> {
+    let bytes = many(rt.alloc(), b'x')?;
+    let mut room = many(rt.alloc(), 0)?;
+    let mut sink = StdSink::new(room.as_mut_slice());
+    assert_eq!(rt; put_all(&mut sink, bytes.as_slice()), Ok(()));
+    assert!(rt; room.as_slice() == bytes.as_slice());
+    Ok(())
+}
+
 #[test]
 fn real_files_are_read(rt: HostRuntime) -> Result<(), Fail> {
     let mut files = DirFiles::new(&rt);
     let zeros = read_from(&mut files, rt.alloc(), "/dev/zero", 5)?;
     assert_eq!(rt; zeros.as_slice(), [0; 5].as_slice());
+    let nothing = read_from(&mut files, rt.alloc(), "/dev/null", 5)?;
+    assert_eq!(rt; nothing.len(), 0);
     let missing = read_from(&mut files, rt.alloc(), "no such file", 5);
     assert_eq!(rt; missing.err(), Some(FilesErr::Failed));
     Ok(())

@@ -13,3 +13,4 @@ pub mod Telling
 pub mod Facts
 pub mod Ordered
 pub mod Asking
+pub mod Highest

@@ -4,6 +4,7 @@ ghost use Rattle.std.specs.Prelude.{◌≡◌, ◌<◌, ◌^◌, ◌||◌, nat_e
 ghost use Rattle.cf_layout.specs.Words.{has_bit};
 
 /// Whether the word has the bit.
+#[inline(always)]
 #[tactic(auto, unfolding(crate::specs::Words::has_bit))]
 pub(crate) fn has_bit(word: u32, bit: u32) -> bool
     requires { bit < 32 }

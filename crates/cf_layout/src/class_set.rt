@@ -89,6 +89,7 @@ impl ClassSet {
     }
 
     /// Whether the class is one of the set.
+    #[inline(always)]
     #[tactic(auto, using(crate::proofs::Words::class_in))]
     pub(crate) fn has(self, class: Class) -> bool
         ensures { result ≡ names self class }

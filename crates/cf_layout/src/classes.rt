@@ -19,6 +19,7 @@ pub(crate) const CLASSES: [Class; 9] = [
 ];
 
 /// Where the class stands in class order; what neither units nor sidings compute stands behind the others.
+#[inline(always)]
 pub(crate) fn place(class: Class) -> usize
     ensures { result ≡ place_of class }
 {

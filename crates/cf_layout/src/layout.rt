@@ -47,6 +47,7 @@ impl Model for Layout {
 
 impl Layout {
     /// How many stages the pipeline has: 2 to 32.
+    #[inline(always)]
     pub fn stages(&self) -> u32
         ensures stages { result ≡ self.now.stages }
         ensures accepted { IsAccepted self.now }
@@ -55,6 +56,7 @@ impl Layout {
     }
 
     /// How many entries the request lane has: 2 to 64.
+    #[inline(always)]
     pub fn lane(&self) -> u32
         ensures { result ≡ self.now.lane }
     {
@@ -62,6 +64,7 @@ impl Layout {
     }
 
     /// Whether there is a register cache.
+    #[inline(always)]
     pub fn cache(&self) -> bool
         ensures { result ≡ self.now.cache }
     {
@@ -69,6 +72,7 @@ impl Layout {
     }
 
     /// The stages with a unit for the class.
+    #[inline(always)]
     #[tactic(auto, using(crate::proofs::Reading::stages_within, crate::proofs::Reading::stages_without))]
     fn stages_of(&self, class: Class) -> StageSet
         ensures { result ≡ stages_of self.now class }
@@ -82,6 +86,7 @@ impl Layout {
     }
 
     /// Whether the stage has a unit for the class.
+    #[inline(always)]
     #[tactic(auto, unfolding(crate::specs::Layout::unit_at))]
     pub fn unit_at(&self, class: Class, stage: u32) -> bool
         ensures { result ≡ unit_at self.now class stage }
@@ -97,6 +102,7 @@ impl Layout {
     }
 
     /// How many sidings there are: at most 8.
+    #[inline(always)]
     pub fn siding_count(&self) -> u32
         ensures { result ≡ length self.now.sidings }
     {
@@ -104,6 +110,7 @@ impl Layout {
     }
 
     /// The sidings.
+    #[inline(always)]
     fn sidings(&self) -> &[Laid]
         ensures { result.now ≡ self.now.sidings }
     {
@@ -111,6 +118,7 @@ impl Layout {
     }
 
     /// The siding of that number.
+    #[inline(always)]
     fn siding(&self, siding: u32) -> &Laid
         requires { siding < length self.now.sidings }
         ensures { result.now ≡ siding_at self.now siding }
@@ -118,6 +126,7 @@ impl Layout {
         &self.sidings[siding as usize]
     }
 
+    #[inline(always)]
     #[tactic(auto, unfolding(crate::specs::Layout::siding_of, crate::specs::Layout::serves))]
     fn siding_index(&self, class: Class) -> Option<usize>
         ensures siding { result ≡ siding_of self.now class }
@@ -129,6 +138,7 @@ impl Layout {
     }
 
     /// The number of the siding that the class goes through.
+    #[inline(always)]
     pub fn siding_of(&self, class: Class) -> Option<u32>
         ensures siding { result ≡ siding_of self.now class }
         ensures within { IfSome result (λ k. k < length self.now.sidings) }
@@ -158,6 +168,7 @@ impl Layout {
     }
 
     /// The stage from which the siding of that number launches.
+    #[inline(always)]
     #[tactic(auto, unfolding(crate::specs::Layout::launch_stage))]
     pub fn launch_stage(&self, siding: u32) -> u32
         requires { siding < length self.now.sidings }
@@ -167,6 +178,7 @@ impl Layout {
     }
 
     /// The stage at which the siding of that number recovers.
+    #[inline(always)]
     #[tactic(auto, unfolding(crate::specs::Layout::recover_stage))]
     pub fn recover_stage(&self, siding: u32) -> u32
         requires { siding < length self.now.sidings }
@@ -176,6 +188,7 @@ impl Layout {
     }
 
     /// How many cells the siding of that number has: 1 to 8.
+    #[inline(always)]
     #[tactic(auto, unfolding(crate::specs::Layout::cells_of))]
     pub fn cells_of(&self, siding: u32) -> u32
         requires { siding < length self.now.sidings }
@@ -187,6 +200,7 @@ impl Layout {
     /// The last stage at which an instruction of the class can still be computed: that of its last unit, or the one at
     /// which its siding recovers. It is the last of the pipeline for a class that has neither, and the first for `Free`,
     /// which needs no computing.
+    #[inline(always)]
     #[tactic(auto, unfolding(crate::specs::Layout::last_stage))]
     pub fn last_stage(&self, class: Class) -> u32
         ensures { result ≡ last_stage self.now class }
@@ -199,6 +213,7 @@ impl Layout {
     }
 
     /// The recovery stage of the class's siding, and the last stage of the pipeline where it has none.
+    #[inline(always)]
     fn recovers_by(&self, class: Class) -> u32
         ensures { result ≡ recovers_by self.now (siding_of self.now class) }
     {
@@ -209,6 +224,7 @@ impl Layout {
     }
 
     /// Whether the class has units or a siding.
+    #[inline(always)]
     #[tactic(auto, using(crate::proofs::Reading::homed))]
     fn is_homed(&self, class: Class) -> bool
         ensures { result ≡ is_homed self.now class }
@@ -217,6 +233,7 @@ impl Layout {
     }
 
     /// Whether the processor multiplies and divides.
+    #[inline(always)]
     #[tactic(auto, unfolding(crate::specs::Layout::has_mul))]
     pub fn has_mul(&self) -> bool
         ensures { result ≡ has_mul self.now }

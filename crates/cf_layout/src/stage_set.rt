@@ -78,6 +78,7 @@ impl StageSet {
     }
 
     /// Whether the set has no stage.
+    #[inline(always)]
     #[tactic(auto, using(crate::proofs::Words::some_stage))]
     pub(crate) fn is_empty(self) -> bool
         ensures { result ≡ nat_eq (length self) 0 }
@@ -94,6 +95,7 @@ impl StageSet {
     }
 
     /// Whether the stage is one of the set.
+    #[inline(always)]
     #[tactic(auto, using(crate::proofs::Words::stage_in, crate::proofs::Words::stage_below, crate::proofs::Words::stage_above))]
     pub(crate) fn has(self, stage: u32) -> bool
         ensures { result ≡ list_any (nat_eq stage) self }
@@ -118,17 +120,16 @@ impl StageSet {
     }
 
     /// The highest stage of the set, or else the other one.
-    #[tactic(auto, using(crate::proofs::Words::from_next, crate::proofs::Words::from_first, crate::proofs::Words::from_end))]
+    #[inline(always)]
+    #[tactic(auto, using(crate::proofs::Highest::last_of_some, crate::proofs::Highest::last_of_none))]
     pub(crate) fn last_or(self, other: u32) -> u32
         ensures { result ≡ last_of self other }
     {
-        let mut last = other;
-        for stage in 1..33 {
-            if has_bit(self.word, stage - 1) {
-                last = stage;
-            }
+        if self.word == 0 {
+            other
+        } else {
+            32 - self.word.leading_zeros()
         }
-        last
     }
 
     /// The stages of the set, ascending.

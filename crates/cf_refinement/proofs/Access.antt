@@ -20,6 +20,7 @@ use Rattle.rv_inst.specs.declared.isa.Isa.{Isa}
 use Rattle.rv_machine.specs.Machine.{Machine}
 use Rattle.cf_refinement.specs.Sure as sure
 use Rattle.cf_semantics.specs.Path as trail
+use Rattle.cf_semantics.specs.Soundness.{Holds}
 
 -- no operation of these is in Memory's siding
 abbrev pub Landed : List Item → Type 0
@@ -84,7 +85,7 @@ mem_at (Stops b) x pc e = refl
 step_mem : (isa : Isa) (p : Passenger) (x : Machine) (g : Option ℕ) → sure.IsSure isa p x (step_at isa x p.pc) g → is_memory (kind p) ≡ false → is_serial (kind p) ≡ false → (behind (step_at isa x p.pc) x).hart.mem ≡ x.hart.mem
 step_mem isa p x g h e f = go (fetched isa x.hart.mem p.pc) refl h.reads
   where
-    go : (q : Fetched) → fetched isa x.hart.mem p.pc ≡ q → sure.Reads p q → (behind (step_at isa x p.pc) x).hart.mem ≡ x.hart.mem
+    go : (q : Fetched) → fetched isa x.hart.mem p.pc ≡ q → Holds p q → (behind (step_at isa x p.pc) x).hart.mem ≡ x.hart.mem
     go (Got i) a k =
         let c : kind p ≡ kind_of i = ap (λ (o : Option Instr). on o Free kind_of) k in
         mem_at (step_at isa x p.pc) x p.pc (rw (step_is isa x p.pc i a) (class_mem (kind_of i) i (value_read x.hart.regs (src1_of i)) (value_read x.hart.regs (src2_of i)) (at_pc x p.pc) (rw c at e) (rw c at f)))

@@ -7,12 +7,13 @@ use Rattle.cf_bind.specs.declared.passenger.Passenger.{Passenger}
 use Rattle.cf_refinement.proofs.Access.{Landed, fit_landed, past_mem, walk_landed}
 use Rattle.cf_refinement.proofs.Fold.{fit_append, fit_back, fit_front, walk-append}
 use Rattle.cf_refinement.proofs.Steps.{step_is}
-use Rattle.cf_refinement.specs.Port.{Answers, Dock, DockedAt, Fits, past}
+use Rattle.cf_refinement.specs.Port.{Dock, DockedAt, Fits, past}
 use Rattle.cf_semantics.specs.Ahead.{flies, has_ported}
 use Rattle.cf_semantics.specs.Column.{Down, Item, Up}
 use Rattle.cf_semantics.specs.Instructions.{Goes, Got, Stops, access_trap, behind, fetched, kind_of, mem_after, src1_of, src2_of, step_at, value_read}
 use Rattle.cf_semantics.specs.Options.{on}
 use Rattle.cf_semantics.specs.Walks.{Everywhere, walk}
+use Rattle.cf_semantics.specs.Soundness.{IsAnswer}
 use Rattle.mem_regions.specs.Access.{bounds_of}
 use Rattle.rv_inst.specs.declared.classes.Class.TheVariants.{Memory}
 use Rattle.rv_inst.specs.declared.isa.Isa.{Isa}
@@ -59,11 +60,11 @@ at_port isa i p w a d f e =
     let t : has_ported p (Some a) ≡ true = grind arith in
     rw (e, t, f)
 
-docked_at : (isa : Isa) (p : Passenger) (w : Dock) (a : ℕ) → Answers p.dst (behind (step_at isa w.path.machine p.pc) w.path.machine).hart.regs a → DockedAt isa p w → DockedAt isa p (record w { answer = Some a })
+docked_at : (isa : Isa) (p : Passenger) (w : Dock) (a : ℕ) → IsAnswer p.dst (behind (step_at isa w.path.machine p.pc) w.path.machine).hart.regs a → DockedAt isa p w → DockedAt isa p (record w { answer = Some a })
 unfolding DockedAt
-docked_at isa p w a n h = record { live = h.live; order = h.order; served = h.served; permitted = h.permitted; answered = λ f b e. let q : a ≡ b = cc in subst (λ (c : ℕ). Answers p.dst (behind (step_at isa w.path.machine p.pc) w.path.machine).hart.regs c) q n }
+docked_at isa p w a n h = record { live = h.live; order = h.order; served = h.served; permitted = h.permitted; answered = λ f b e. let q : a ≡ b = cc in subst (λ (c : ℕ). IsAnswer p.dst (behind (step_at isa w.path.machine p.pc) w.path.machine).hart.regs c) q n }
 
-pub access_fits : (isa : Isa) (i : ℕ) (p : Passenger) (above below : List Item) (w : Dock) (a : ℕ) → Landed above → Waiting below → p.dead ≡ false → flies p ≡ true → (walk (past isa) above w).answer ≡ None → Answers p.dst (behind (step_at isa (walk (past isa) above w).path.machine p.pc) (walk (past isa) above w).path.machine).hart.regs a → Everywhere (Fits isa) (past isa) (above ++ (Up i p ∷ below)) w → Everywhere (Fits isa) (past isa) (above ++ (Up i p ∷ below)) (record w { answer = Some a }) × (walk (past isa) (above ++ (Up i p ∷ below)) (record w { answer = Some a }) ≡ record (walk (past isa) (above ++ (Up i p ∷ below)) w) { mem = (behind (step_at isa (walk (past isa) above w).path.machine p.pc) (walk (past isa) above w).path.machine).hart.mem })
+pub access_fits : (isa : Isa) (i : ℕ) (p : Passenger) (above below : List Item) (w : Dock) (a : ℕ) → Landed above → Waiting below → p.dead ≡ false → flies p ≡ true → (walk (past isa) above w).answer ≡ None → IsAnswer p.dst (behind (step_at isa (walk (past isa) above w).path.machine p.pc) (walk (past isa) above w).path.machine).hart.regs a → Everywhere (Fits isa) (past isa) (above ++ (Up i p ∷ below)) w → Everywhere (Fits isa) (past isa) (above ++ (Up i p ∷ below)) (record w { answer = Some a }) × (walk (past isa) (above ++ (Up i p ∷ below)) (record w { answer = Some a }) ≡ record (walk (past isa) (above ++ (Up i p ∷ below)) w) { mem = (behind (step_at isa (walk (past isa) above w).path.machine p.pc) (walk (past isa) above w).path.machine).hart.mem })
 access_fits isa i p above below w a la wa d f e n h =
     let u = walk (past isa) above w in
     let m = (behind (step_at isa u.path.machine p.pc) u.path.machine).hart.mem in

@@ -25,7 +25,6 @@ use Rattle.cf_refinement.proofs.Sorted.{Riders, Sorted, over, sorted, under}
 use Rattle.cf_refinement.proofs.Stands.{each_back, each_front}
 use Rattle.cf_refinement.proofs.Steps.{sure_dst_below}
 use Rattle.cf_refinement.specs.Invariant.{Sound}
-use Rattle.cf_refinement.specs.Operations.{flown, is_out, operations}
 use Rattle.cf_refinement.specs.Stands.{Each, Stands}
 use Rattle.cf_refinement.specs.Suited.{Suits}
 use Rattle.cf_semantics.specs.Bars.{access_bar, bar, last_op, row_bar}
@@ -45,6 +44,7 @@ use Rattle.cf_semantics.specs.Ahead as ahead
 use Rattle.cf_refinement.specs.Port as dock
 use Rattle.cf_refinement.specs.Sure as sure
 use Rattle.cf_semantics.specs.Path as trail
+use Rattle.cf_semantics.specs.Soundness.{IsAnswer, in_siding, operations_in, operations_of}
 
 pub record Accesses (l : Plan) (s : State) : Type 0 where
   pub what : Op
@@ -73,26 +73,26 @@ pub record First (l : Plan) (k : ℕ) (xs : List Item) (o : Op) : Type 0 where
   pub stage : ℕ
   pub who : Passenger
   pub was : xs ≡ above ++ (Up stage who ∷ below)
-  pub out : is_out l k who ≡ true
+  pub out : in_siding l k who ≡ true
   pub op : operation who ≡ o
-  pub none : flown l k above ≡ []
+  pub none : operations_of l k above ≡ []
 
-pub first_out : (l : Plan) (k : ℕ) (xs : List Item) (o : Op) (os : List Op) → flown l k xs ≡ o ∷ os → First l k xs o
+pub first_out : (l : Plan) (k : ℕ) (xs : List Item) (o : Op) (os : List Op) → operations_of l k xs ≡ o ∷ os → First l k xs o
 first_out l k [] o os e = absurd (cc)
-first_out l k (Up i p ∷ xs) o os e = go (is_out l k p) refl (λ z. first_out l k xs o os z)
+first_out l k (Up i p ∷ xs) o os e = go (in_siding l k p) refl (λ z. first_out l k xs o os z)
   where
     heads : (a b : Op) (u v : List Op) → a ∷ u ≡ b ∷ v → a ≡ b
     heads a b u v e = cc
 
-    go : (b : Bool) → is_out l k p ≡ b → (flown l k xs ≡ o ∷ os → First l k xs o) → First l k (Up i p ∷ xs) o
-    go true f w = record { above = []; below = xs; stage = i; who = p; was = refl; out = f; op = heads (operation p) o (flown l k xs) os (rw f at e); none = refl }
+    go : (b : Bool) → in_siding l k p ≡ b → (operations_of l k xs ≡ o ∷ os → First l k xs o) → First l k (Up i p ∷ xs) o
+    go true f w = record { above = []; below = xs; stage = i; who = p; was = refl; out = f; op = heads (operation p) o (operations_of l k xs) os (rw f at e); none = refl }
     go false f w = let r = w (rw f at e) in record { above = Up i p ∷ r.above; below = r.below; stage = r.stage; who = r.who; was = ap (λ (z : List Item). Up i p ∷ z) r.was; out = r.out; op = r.op; none = rw f r.none }
 first_out l k (Down i q ∷ xs) o os e =
     let r = first_out l k xs o os e in
     record { above = Down i q ∷ r.above; below = r.below; stage = r.stage; who = r.who; was = ap (λ (z : List Item). Down i q ∷ z) r.was; out = r.out; op = r.op; none = r.none }
 
 -- it is a launched memory operation between the port's two stages
-pub out_is : (l : Plan) (p : Passenger) → is_out l (port l) p ≡ true → (p.launched ≡ true) × (p.recovered ≡ false)
+pub out_is : (l : Plan) (p : Passenger) → in_siding l (port l) p ≡ true → (p.launched ≡ true) × (p.recovered ≡ false)
 out_is l p e = (grind arith, grind arith)
 
 port_siding : (l : Plan) (p : Passenger) → Suits l → is_memory (kind p) ≡ true → siding_of l (kind p) ≡ Some (port l)
@@ -131,11 +131,11 @@ settled l i (Up j p ∷ xs) acc e r g h = (settled_one l i j p acc e r.0 g.0 h.0
 settled l i (Down j k ∷ xs) acc e r g h = settled l i xs acc e r g h
 
 -- the answer is the destination's value behind the step
-write_answers : (o : Option Binding) (d : Option ℕ) (v : ℕ) (regs : List ℕ) → length regs ≡ 32 → ((r : ℕ) → d ≡ Some r → r < 32) → reg_in o ≡ d → dock.Answers o (value_written regs d v) v
+write_answers : (o : Option Binding) (d : Option ℕ) (v : ℕ) (regs : List ℕ) → length regs ≡ 32 → ((r : ℕ) → d ≡ Some r → r < 32) → reg_in o ≡ d → IsAnswer o (value_written regs d v) v
 write_answers None d v regs l b e = tt
 write_answers (Some q) d v regs l b e = rw (← e) (get_or-set_same regs q.reg v 0 (rw l (b q.reg (sym e))))
 
-made : (isa : Isa) (p : Passenger) (w : trail.Walk) → length w.machine.hart.regs ≡ 32 → is_memory (kind p) ≡ true → missing p.src1 ≡ None → missing p.src2 ≡ None → access_trap (instruction p) p.pc (value_in p.src1) (bounds_of w.machine.hart.mem) ≡ None → sure.SureAt isa p w → (step_at isa w.machine p.pc ≡ Goes (behind (step_at isa w.machine p.pc) w.machine)) × ((behind (step_at isa w.machine p.pc) w.machine).hart.mem ≡ mem_after (instruction p) (value_in p.src1) (value_in p.src2) w.machine.hart.mem) × dock.Answers p.dst (behind (step_at isa w.machine p.pc) w.machine).hart.regs (answer_of (instruction p) (value_in p.src1) (value_in p.src2) w.machine.hart.mem)
+made : (isa : Isa) (p : Passenger) (w : trail.Walk) → length w.machine.hart.regs ≡ 32 → is_memory (kind p) ≡ true → missing p.src1 ≡ None → missing p.src2 ≡ None → access_trap (instruction p) p.pc (value_in p.src1) (bounds_of w.machine.hart.mem) ≡ None → sure.SureAt isa p w → (step_at isa w.machine p.pc ≡ Goes (behind (step_at isa w.machine p.pc) w.machine)) × ((behind (step_at isa w.machine p.pc) w.machine).hart.mem ≡ mem_after (instruction p) (value_in p.src1) (value_in p.src2) w.machine.hart.mem) × IsAnswer p.dst (behind (step_at isa w.machine p.pc) w.machine).hart.regs (answer_of (instruction p) (value_in p.src1) (value_in p.src2) w.machine.hart.mem)
 unfolding sure.SureAt
 made isa p w l m m1 m2 t h =
     let q = l2 isa p w.machine w.goto m m1 m2 h.0 in
@@ -163,9 +163,9 @@ set_twice (a ∷ []) o = refl
 set_twice (a ∷ b ∷ []) o = refl
 set_twice (a ∷ b ∷ c ∷ q) o = ap (λ (z : List (Option Op)). a ∷ z) (set_twice (b ∷ c ∷ q) o)
 
-answered_operations : (q : List (Option Op)) (n : ℕ) (op : Op) (a : Option ℕ) → length q ≡ suc n → last_op q ≡ Some op → operations (set_last q (Some (record op { answer = a }))) ≡ operations q
+answered_operations : (q : List (Option Op)) (n : ℕ) (op : Op) (a : Option ℕ) → length q ≡ suc n → last_op q ≡ Some op → operations_in (set_last q (Some (record op { answer = a }))) ≡ operations_in q
 answered_operations q n op a e f =
-    operations-last (set_last q (Some (record op { answer = a }))) (record op { answer = a }) (last_set q n (Some (record op { answer = a })) e) ∙ ap (λ (z : List (Option Op)). (record op { answer = None } ∷ []) ++ operations z) (set_twice q (Some (record op { answer = a }))) ∙ sym (operations-last q op f)
+    operations-last (set_last q (Some (record op { answer = a }))) (record op { answer = a }) (last_set q n (Some (record op { answer = a })) e) ∙ ap (λ (z : List (Option Op)). (record op { answer = None } ∷ []) ++ operations_in z) (set_twice q (Some (record op { answer = a }))) ∙ sym (operations-last q op f)
 
 not_barred : (w : dock.Dock) → (w.path.barred ≡ true → w.risky ≡ true) → w.risky ≡ false → w.path.barred ≡ false
 not_barred w s r = go w.path.barred refl
@@ -193,14 +193,14 @@ pub record Scene (l : Plan) (s : State) (x : Machine) : Type 0 where
   pub before : s.mem ≡ (walk (dock.past (isa_of l)) first.above (dock.top l s x)).path.machine.hart.mem
   pub goes : step_at (isa_of l) (walk (dock.past (isa_of l)) first.above (dock.top l s x)).path.machine first.who.pc ≡ Goes (behind (step_at (isa_of l) (walk (dock.past (isa_of l)) first.above (dock.top l s x)).path.machine first.who.pc) (walk (dock.past (isa_of l)) first.above (dock.top l s x)).path.machine)
   pub stored : mem_after ready.what.instr ready.what.a ready.what.b s.mem ≡ (behind (step_at (isa_of l) (walk (dock.past (isa_of l)) first.above (dock.top l s x)).path.machine first.who.pc) (walk (dock.past (isa_of l)) first.above (dock.top l s x)).path.machine).hart.mem
-  pub answers : dock.Answers first.who.dst (behind (step_at (isa_of l) (walk (dock.past (isa_of l)) first.above (dock.top l s x)).path.machine first.who.pc) (walk (dock.past (isa_of l)) first.above (dock.top l s x)).path.machine).hart.regs (answer_of ready.what.instr ready.what.a ready.what.b s.mem)
+  pub answers : IsAnswer first.who.dst (behind (step_at (isa_of l) (walk (dock.past (isa_of l)) first.above (dock.top l s x)).path.machine first.who.pc) (walk (dock.past (isa_of l)) first.above (dock.top l s x)).path.machine).hart.regs (answer_of ready.what.instr ready.what.a ready.what.b s.mem)
 
 pub access_scene : {rest out : List ℕ} (l : Plan) (s : State) (x : Machine) → Suits l → bar l s Access ≡ None → Sound l s rest out x → Scene l s x
 access_scene {rest} {out} l s x acc e h =
     let r = access_ready l s (bar_row l s Access e) in
     let k = (port l) in
     let q = siding_at s k in
-    let f = first_out l k (column s) (record r.what { answer = None }) (operations (set_last q None)) (sym (h.moored.flown k) ∙ operations-last q r.what r.lies) in
+    let f = first_out l k (column s) (record r.what { answer = None }) (operations_in (set_last q None)) (sym (h.moored.operations k) ∙ operations-last q r.what r.lies) in
     let p = f.who in
     let i = f.stage in
     let was : column s ≡ f.above ++ ((Up i p ∷ []) ++ f.below) = f.was in
@@ -243,7 +243,7 @@ access_scene {rest} {out} l s x acc e h =
       before = mem;
       goes = did.0;
       stored = same4 mem_after code a1 a2 mem ∙ sym did.1;
-      answers = subst (λ (v : ℕ). dock.Answers p.dst (behind (step_at (isa_of l) u.path.machine p.pc) u.path.machine).hart.regs v) (sym (same4 answer_of code a1 a2 mem)) did.2;
+      answers = subst (λ (v : ℕ). IsAnswer p.dst (behind (step_at (isa_of l) u.path.machine p.pc) u.path.machine).hart.regs v) (sym (same4 answer_of code a1 a2 mem)) did.2;
     }
 
 pub access_kept : {rest out : List ℕ} (l : Plan) (s : State) (x : Machine) → Suits l → bar l s Access ≡ None → Sound l s rest out x → Sound l (moved l s Access) rest out x
@@ -278,7 +278,7 @@ access_kept {rest} {out} l s x acc e h =
       stands = h.stands;
       port_fit = subst (λ (z : dock.Dock). Everywhere (dock.Fits (isa_of l)) (dock.past (isa_of l)) (column s) z) (sym top) (subst (λ (z : List Item). Everywhere (dock.Fits (isa_of l)) (dock.past (isa_of l)) z (record w0 { answer = Some a })) (sym was) all.0);
       port_ends = subst (λ (z : dock.Dock). dock.Ends z (mem_after r.what.instr r.what.a r.what.b s.mem) rest out) (sym (ap (λ (z : dock.Dock). walk (dock.past (isa_of l)) (column s) z) top ∙ ap (λ (z : List Item). walk (dock.past (isa_of l)) z (record w0 { answer = Some a })) was ∙ all.1)) (stored_ends l s x f.above f.below i p was z.stored (code_after r.what.instr r.what.a r.what.b s.mem) h);
-      moored = rehung l s t (column s) (column s) k (set_last q (Some op)) refl n.0 n.1 (set_last_size q (Some op)) (answered_operations q n.0 r.what (Some a) n.1 r.lies ∙ h.moored.flown k) (λ j z. refl) (front_set_last q (Some op) (h.moored.front k)) (λ z. absurd (z refl)) h.moored;
+      moored = rehung l s t (column s) (column s) k (set_last q (Some op)) refl n.0 n.1 (set_last_size q (Some op)) (answered_operations q n.0 r.what (Some a) n.1 r.lies ∙ h.moored.operations k) (λ j z. refl) (front_set_last q (Some op) (h.moored.front k)) (λ z. absurd (z refl)) h.moored;
     })
   where
     stored_ends : (l : Plan) (s : State) (x : Machine) (above below : List Item) (i : ℕ) (p : Passenger) → column s ≡ above ++ ((Up i p ∷ []) ++ below) → {m n : memory.Memory} → m ≡ n → code_of m ≡ code_of s.mem → Sound l s rest out x → dock.Ends (record (walk (dock.past (isa_of l)) (above ++ (Up i p ∷ below)) (dock.top l s x)) { mem = n }) m rest out

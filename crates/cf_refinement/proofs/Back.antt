@@ -18,6 +18,7 @@ use Rattle.cf_refinement.specs.Port as dock
 use Rattle.cf_refinement.specs.Lone as lone
 use Rattle.cf_refinement.specs.Sure as sure
 use Rattle.cf_semantics.specs.Path as trail
+use Rattle.cf_semantics.specs.Soundness.{Holds}
 
 abbrev pub back : Passenger → Passenger
 back p = record p { recovered = true }
@@ -44,7 +45,7 @@ back_at isa p w h = (
   record { source1 = h.1.source1; source2 = h.1.source2 },
 )
   where
-    reads : (q : Fetched) → sure.Reads p q → sure.Reads (back p) q
+    reads : (q : Fetched) → Holds p q → Holds (back p) q
     reads (Got j) k = k
     reads (Bad b) k = k
 

@@ -1,7 +1,7 @@
 -- The register cache: part (l) at Exit and at Issue.
 use Rattle.std.proofs.Common.{◌≡◌, ◌≢◌, ℕ, zero, suc, List, [], ◌∷◌, Option, Some, None, refl, sym, ap, ◌∙◌, arith, ◌⊎◌, inl, inr}
 use Rattle.std.specs.Prelude.{slice_index, slice_set}
-use Rattle.cf_refinement.specs.Sure.{Holds}
+use Rattle.cf_refinement.specs.Sure.{AreRegisters}
 use Rattle.cf_semantics.specs.Passengers.{cached, cleared, forgets}
 
 -- what is kept of q once r was set
@@ -16,7 +16,7 @@ set_cached (a ∷ c) (suc r) (suc q) v o e = go (set_cached c r q v o e)
     go (inl h) = inl (ap suc h.0, h.1)
     go (inr h) = inr (λ z. h.0 (omega arith), h.1)
 
-pub keep_holds : (c : List (Option ℕ)) (regs : List ℕ) (r v : ℕ) → v ≡ slice_index regs r → Holds c regs → Holds (slice_set c r (Some v)) regs
+pub keep_holds : (c : List (Option ℕ)) (regs : List ℕ) (r v : ℕ) → v ≡ slice_index regs r → AreRegisters c regs → AreRegisters (slice_set c r (Some v)) regs
 keep_holds c regs r v e h q u f = go (set_cached c r q u (Some v) f)
   where
     go : ((q ≡ r) × (Some v ≡ Some u)) ⊎ ((q ≢ r) × (cached c q ≡ Some u)) → u ≡ slice_index regs q
@@ -28,11 +28,11 @@ cached-cleared [] r = refl
 cached-cleared (o ∷ c) zero = refl
 cached-cleared (o ∷ c) (suc r) = cached-cleared c r
 
-pub clear_holds : (c : List (Option ℕ)) (regs : List ℕ) → Holds (cleared c) regs
+pub clear_holds : (c : List (Option ℕ)) (regs : List ℕ) → AreRegisters (cleared c) regs
 clear_holds c regs r v e = let z = cached-cleared c r in absurd (cc)
 
 -- a new destination is forgotten, and the other registers stay
-pub forget_holds : (c : List (Option ℕ)) (d : Option ℕ) (regs news : List ℕ) → ((r : ℕ) → d ≢ Some r → slice_index news r ≡ slice_index regs r) → Holds c regs → Holds (forgets d c) news
+pub forget_holds : (c : List (Option ℕ)) (d : Option ℕ) (regs news : List ℕ) → ((r : ℕ) → d ≢ Some r → slice_index news r ≡ slice_index regs r) → AreRegisters c regs → AreRegisters (forgets d c) news
 forget_holds c None regs news k h r v e = h r v e ∙ sym (k r (λ z. absurd (cc)))
 forget_holds c (Some d) regs news k h r v e = go (set_cached c d r v None e)
   where

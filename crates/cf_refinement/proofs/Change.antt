@@ -9,7 +9,7 @@ use Rattle.cf_refinement.proofs.Fold.{Replaces, fit_back, fit_front, replaced}
 use Rattle.cf_refinement.proofs.Stands.{each_append, each_back, each_front}
 use Rattle.cf_refinement.proofs.Steps.{step_wide}
 use Rattle.cf_refinement.specs.Invariant.{Sound}
-use Rattle.cf_refinement.specs.Operations.{IsMoored, flown, is_out}
+use Rattle.cf_refinement.specs.Operations.{IsMoored}
 use Rattle.cf_refinement.specs.Stands.{Each}
 use Rattle.cf_semantics.specs.Column.{Down, Item, Up, column, column_from}
 use Rattle.cf_semantics.specs.Layouts.{isa_of}
@@ -26,6 +26,7 @@ use Rattle.cf_refinement.proofs.Path as paths
 use Rattle.cf_refinement.proofs.Port as ports
 use Rattle.cf_refinement.specs.Sure as sure
 use Rattle.cf_semantics.specs.Path as trail
+use Rattle.cf_semantics.specs.Soundness.{in_siding, operations_of}
 
 past_wide : (isa : Isa) (i : Item) (w : trail.Walk) → length w.machine.hart.regs ≡ 32 → length (trail.past isa i w).machine.hart.regs ≡ 32
 unfolding trail.past
@@ -53,11 +54,11 @@ pub walk_safe : (isa : Isa) (xs : List Item) (w : dock.Dock) → (w.path.barred 
 walk_safe isa [] w s e = s e
 walk_safe isa (i ∷ xs) w s e = walk_safe isa xs (dock.past isa i w) (past_safe isa i w s) e
 
-pub flown-append : (l : Plan) (k : ℕ) (xs ys : List Item) → flown l k (xs ++ ys) ≡ flown l k xs ++ flown l k ys
+pub flown-append : (l : Plan) (k : ℕ) (xs ys : List Item) → operations_of l k (xs ++ ys) ≡ operations_of l k xs ++ operations_of l k ys
 flown-append l k [] ys = refl
-flown-append l k (Up i p ∷ xs) ys = go (is_out l k p) (flown-append l k xs ys)
+flown-append l k (Up i p ∷ xs) ys = go (in_siding l k p) (flown-append l k xs ys)
   where
-    go : (b : Bool) → flown l k (xs ++ ys) ≡ flown l k xs ++ flown l k ys → (if b then operation p ∷ flown l k (xs ++ ys) else flown l k (xs ++ ys)) ≡ (if b then operation p ∷ flown l k xs else flown l k xs) ++ flown l k ys
+    go : (b : Bool) → operations_of l k (xs ++ ys) ≡ operations_of l k xs ++ operations_of l k ys → (if b then operation p ∷ operations_of l k (xs ++ ys) else operations_of l k (xs ++ ys)) ≡ (if b then operation p ∷ operations_of l k xs else operations_of l k xs) ++ operations_of l k ys
     go true e = ap (λ q. operation p ∷ q) e
     go false e = e
 flown-append l k (Down i q ∷ xs) ys = flown-append l k xs ys
@@ -89,7 +90,7 @@ pub record Owes (l : Plan) (s : State) (x : Machine) (above old new : List Item)
   pub lone : Replaces Bool lone.Fits (lone.past l) lones.Follows old new (walk (lone.past l) above false)
   pub stands : Each l new
   pub port : Replaces dock.Dock (dock.Fits (isa_of l)) (dock.past (isa_of l)) ports.Follows old new (walk (dock.past (isa_of l)) above (dock.top l s x))
-  pub flown : (k : ℕ) → flown l k old ≡ flown l k new
+  pub operations : (k : ℕ) → operations_of l k old ≡ operations_of l k new
 
 true_false : true ≡ false → ⊥
 true_false e = cc
@@ -100,7 +101,7 @@ ends_path w v f h e = grind arith
 pub keeps_path : (w v : trail.Walk) (c : List (Option ℕ)) → paths.Follows w v → sure.Keeps w c → sure.Keeps v c
 keeps_path w v c h e = go w.barred v.barred refl refl e
   where
-    go : (a b : Bool) → w.barred ≡ a → v.barred ≡ b → When (not a) (sure.Holds c w.machine.hart.regs) → When (not b) (sure.Holds c v.machine.hart.regs)
+    go : (a b : Bool) → w.barred ≡ a → v.barred ≡ b → When (not a) (sure.AreRegisters c w.machine.hart.regs) → When (not b) (sure.AreRegisters c v.machine.hart.regs)
     go a true f g e = tt
     go true false f g e = absurd (let q = h.barred f in true_false (sym q ∙ g))
     go false false f g e = rw (h.machine g) e
@@ -127,7 +128,7 @@ pub record Docks (l : Plan) (s : State) (rest out : List ℕ) (x : Machine) : Ty
 each_changed : (l : Plan) (above old new below : List Item) → Each l new → Each l (above ++ (old ++ below)) → Each l (above ++ (new ++ below))
 each_changed l above old new below n h = each_append l above (new ++ below) (each_front l above (old ++ below) h) (each_append l new below n (each_back l old below (each_back l above (old ++ below) h)))
 
-pub flown_changed : (l : Plan) (k : ℕ) (above old new below : List Item) → flown l k old ≡ flown l k new → flown l k (above ++ (old ++ below)) ≡ flown l k (above ++ (new ++ below))
+pub flown_changed : (l : Plan) (k : ℕ) (above old new below : List Item) → operations_of l k old ≡ operations_of l k new → operations_of l k (above ++ (old ++ below)) ≡ operations_of l k (above ++ (new ++ below))
 flown_changed l k above old new below e = rw (flown-append l k above (new ++ below), flown-append l k new below, flown-append l k above (old ++ below), flown-append l k old below, e)
 
 -- a change in the middle of the column, with the port and the sidings by themselves
@@ -162,5 +163,5 @@ changed {rest} {out} l s x cells above old new below was is n f h =
     let t : State = record s { cells = cells } in
     reshaped l s t x above old new below was is (record { regs = refl; lane = refl; fetch = refl; cache = refl; size = n }) o.path o.lone o.stands
     (docked l s t x above old new below was is refl refl o.port h)
-    (record { flown = λ k. h.moored.flown k ∙ ap (flown l k) was ∙ flown_changed l k above old new below (o.flown k) ∙ ap (flown l k) (sym is); front = h.moored.front; plain = h.moored.plain; berths = h.moored.berths })
+    (record { operations = λ k. h.moored.operations k ∙ ap (operations_of l k) was ∙ flown_changed l k above old new below (o.operations k) ∙ ap (operations_of l k) (sym is); front = h.moored.front; plain = h.moored.plain; berths = h.moored.berths })
     h

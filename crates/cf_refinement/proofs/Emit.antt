@@ -102,5 +102,5 @@ emit_kept {rest} {out} l s x e h =
       stands = rw is h.stands;
       port_fit = rw is (fits_port (isa_of l) n r.asked v _, fit_follows _ (dock.Fits (isa_of l)) (dock.past (isa_of l)) ports.Follows (ports.port_walk (isa_of l)) (column s) _ _ g h.port_fit);
       port_ends = rw is (ends_port _ _ s.mem rest out (walk_follows _ (dock.Fits (isa_of l)) (dock.past (isa_of l)) ports.Follows (ports.port_walk (isa_of l)) (column s) _ _ g h.port_fit) h.port_ends);
-      moored = rw is (record { flown = h.moored.flown; front = h.moored.front; plain = h.moored.plain; berths = h.moored.berths });
+      moored = rw is (record { operations = h.moored.operations; front = h.moored.front; plain = h.moored.plain; berths = h.moored.berths });
     })

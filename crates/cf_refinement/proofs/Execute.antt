@@ -11,7 +11,6 @@ use Rattle.cf_refinement.proofs.Change.{walk_path, walk_safe}
 use Rattle.cf_refinement.proofs.Fold.{Replaces}
 use Rattle.cf_refinement.proofs.PathFinish.{Finishes, source_read}
 use Rattle.cf_refinement.proofs.Steps.{l1, straight_next, straight_trap}
-use Rattle.cf_refinement.specs.Operations.{flown}
 use Rattle.cf_refinement.specs.Stands.{Stands}
 use Rattle.cf_refinement.specs.Suited.{is_plain}
 use Rattle.cf_semantics.specs.Column.{Up}
@@ -33,6 +32,7 @@ use Rattle.cf_refinement.proofs.Path as paths
 use Rattle.cf_refinement.proofs.Port as ports
 use Rattle.cf_refinement.specs.Sure as sure
 use Rattle.cf_semantics.specs.Path as trail
+use Rattle.cf_semantics.specs.Soundness.{Holds, is_lone, operations_of, steers}
 
 pub execute_finishes : (isa : Isa) (p : Passenger) (x : Machine) (g : Option ℕ) → p.done ≡ false → missing p.src1 ≡ None → missing p.src2 ≡ None → is_plain (kind p) ≡ true → sure.IsSure isa p x (step_at isa x p.pc) g → Finishes p x (step_at isa x p.pc) None
 execute_finishes isa p x g d m1 m2 c h = go (fetched isa x.hart.mem p.pc) refl h.reads
@@ -50,7 +50,7 @@ execute_finishes isa p x g d m1 m2 c h = go (fetched isa x.hart.mem p.pc) refl h
           stops = λ z e. s ∙ rw e;
         }
 
-    go : (q : Fetched) → fetched isa x.hart.mem p.pc ≡ q → sure.Reads p q → Finishes p x (step_at isa x p.pc) None
+    go : (q : Fetched) → fetched isa x.hart.mem p.pc ≡ q → Holds p q → Finishes p x (step_at isa x p.pc) None
     go (Got i) f k = got i f k
     go (Bad b) f k = let u = h.unended d in absurd (cc)
 
@@ -74,7 +74,7 @@ finish_dead p a = grind arith
 pub plain_quiet : (c : Class) → is_plain c ≡ true → (is_free c || is_serial c) ≡ false
 plain_quiet c e = grind arith
 
-finish_holds : (p : Passenger) → is_plain (kind p) ≡ true → lone.holds (finish p None) ≡ false
+finish_holds : (p : Passenger) → is_plain (kind p) ≡ true → is_lone (finish p None) ≡ false
 finish_holds p c = let k = plain_quiet (kind p) c in rw (finish_kind p None, finish_done p None) (grind arith)
 
 pub finish_shuts : (l : Plan) (i : ℕ) (p : Passenger) → is_plain (kind p) ≡ true → (is_control (kind p) ≡ true → lone.is_high l i ≡ false) → (is_control (kind p) ≡ false → p.guess ≡ Next) → lone.shuts l i (finish p None) ≡ false
@@ -96,7 +96,7 @@ finish_lone l i p w s = record { fit = λ h. h; follows = λ h. record { shut = 
 plain_port : (c : Class) → is_plain c ≡ true → (is_memory c ≡ false) × (is_serial c ≡ false)
 plain_port c e = grind arith
 
-steers_control : (c : Class) → is_plain c ≡ true → dock.steers c ≡ is_control c
+steers_control : (c : Class) → is_plain c ≡ true → steers c ≡ is_control c
 steers_control c e = grind arith
 
 finish_trapless : (p : Passenger) → is_control (kind p) ≡ false → is_plain (kind p) ≡ true → p.ending ≡ None → (finish p None).ending ≡ None
@@ -184,6 +184,6 @@ finish_stands l i p d u c ashore h =
       homed = λ a. rw k (h.homed (rw k at a));
     }
 
-pub finish_is_out : (l : Plan) (n i : ℕ) (p : Passenger) → flown l n (Up i p ∷ []) ≡ flown l n (Up i (finish p None) ∷ [])
+pub finish_is_out : (l : Plan) (n i : ℕ) (p : Passenger) → operations_of l n (Up i p ∷ []) ≡ operations_of l n (Up i (finish p None) ∷ [])
 unfolding finish
 finish_is_out l n i p = grind arith

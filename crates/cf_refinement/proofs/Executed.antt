@@ -109,5 +109,5 @@ execute_kept {rest} {out} l s x i acc e h =
       lone = finish_lone l i q _ (finish_shuts l i q c low k.stands.0.guess);
       stands = (finish_stands l i q r.live r.undone c (ashore l acc i q r.unit r.live r.undone k.stands.0) k.stands.0, tt);
       port = finish_port (isa_of l) i q _ c k.safe (finish_risks q r.live r.undone c (k.stands.0.unended r.undone) k.stands.0.guess) (walks _) (rw k.same k.path_fit);
-      flown = λ n. finish_is_out l n i q;
+      operations = λ n. finish_is_out l n i q;
     }) h)

@@ -14,7 +14,7 @@ use Rattle.cf_refinement.proofs.Fold.{fit_back, fit_front, walk-append}
 use Rattle.cf_refinement.proofs.Kept.{bar_row}
 use Rattle.cf_refinement.proofs.Stands.{each_front}
 use Rattle.cf_refinement.specs.Invariant.{Sound}
-use Rattle.cf_refinement.specs.Operations.{IsMoored, flown}
+use Rattle.cf_refinement.specs.Operations.{IsMoored}
 use Rattle.cf_semantics.specs.Bars.{bar, exit_bar, is_full, row_bar}
 use Rattle.cf_semantics.specs.Column.{Down, Item, column, column_from, items, passenger_in}
 use Rattle.cf_semantics.specs.Layouts.{isa_of}
@@ -27,6 +27,7 @@ use Rattle.cf_refinement.specs.Port as dock
 use Rattle.cf_refinement.specs.Lone as lone
 use Rattle.cf_refinement.specs.Sure as sure
 use Rattle.cf_semantics.specs.Path as trail
+use Rattle.cf_semantics.specs.Soundness.{operations_of}
 
 pub record Exits (s : State) : Type 0 where
   pub here : Cell
@@ -65,7 +66,7 @@ exit_cache : (isa : Isa) (w : trail.Walk) (k : Packet) (b : Bool) (c : List (Opt
 unfolding sure.Fits trail.past
 exit_cache isa w k b c h e = go w.barred k b h e
   where
-    go : (a : Bool) (k : Packet) (b : Bool) → When (not a) (sure.Packet_fits k w) → sure.Keeps (trail.past_packet k (record w { barred = a })) c → When (not a) (sure.Holds (keeps b c k) w.machine.hart.regs)
+    go : (a : Bool) (k : Packet) (b : Bool) → When (not a) (sure.Packet_fits k w) → sure.Keeps (trail.past_packet k (record w { barred = a })) c → When (not a) (sure.AreRegisters (keeps b c k) w.machine.hart.regs)
     go true k b h e = tt
     go false (Value r v) true h e = keep_holds c w.machine.hart.regs r v h e
     go false (Value r v) false h e = e
@@ -81,7 +82,7 @@ unfolding dock.past
 exit_port isa w k m r o e = record { is_mem = e.is_mem; is_code = e.is_code; is_rest = e.is_rest; is_out = e.is_out }
 
 exit_moored : (l : Plan) (s t : State) (rest : List Item) (k : Packet) → t.sidings ≡ s.sidings → IsMoored l s (rest ++ Down 1 k ∷ []) → IsMoored l t rest
-exit_moored l s t rest k e h = rw e (record { flown = λ n. h.flown n ∙ flown-append l n rest (Down 1 k ∷ []) ∙ append-nil (flown l n rest); front = h.front; plain = h.plain; berths = h.berths })
+exit_moored l s t rest k e h = rw e (record { operations = λ n. h.operations n ∙ flown-append l n rest (Down 1 k ∷ []) ∙ append-nil (operations_of l n rest); front = h.front; plain = h.plain; berths = h.berths })
 
 pub exit_kept : {rest out : List ℕ} (l : Plan) (s : State) (x : Machine) → bar l s Exit ≡ None → Sound l s rest out x → Sound l (moved l s Exit) rest out x
 exit_kept {rest} {out} l s x e h =

@@ -85,7 +85,7 @@ fall_above {rest} {out} l s x i e h =
       lone = lones.fall_lone l i r.what _;
       stands = tt;
       port = port_label (isa_of l) (suc i) i r.what _ o.safe;
-      flown = λ k. refl;
+      operations = λ k. refl;
     }) h)
   where
     regroup : (a r m k b : List Item) → a ++ ((r ++ (m ++ k)) ++ b) ≡ (a ++ r) ++ (m ++ (k ++ b))

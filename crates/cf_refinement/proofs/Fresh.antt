@@ -6,12 +6,13 @@ use Rattle.cf_bind.specs.declared.passenger.End.{End}
 use Rattle.cf_bind.specs.declared.passenger.Guess.{Guess}
 use Rattle.cf_bind.specs.declared.passenger.Passenger.{Passenger}
 use Rattle.cf_refinement.proofs.Steps.{bad_step, free_bare, step_is}
-use Rattle.cf_refinement.specs.Sure.{Agrees, Comes, Holds, IsSure, Reads, SureAt}
+use Rattle.cf_refinement.specs.Sure.{AreRegisters, Comes, IsSure, SureAt}
 use Rattle.cf_semantics.specs.Instructions.{Bad, Fetched, Goes, Got, Stops, at_pc, behind, dst_of, fetched, free_trap, is_free, kind_of, src1_of, src2_of, step_at, value_read, word_after}
 use Rattle.cf_semantics.specs.Options.{is_some, on}
 use Rattle.cf_semantics.specs.Passengers.{both, destination, fresh, fresh_as, fresh_end, fresh_fence, fresh_undone, goto, instruction, kind, missing, reg_in, requests, source}
 use Rattle.cf_semantics.specs.Path.{Walk, among}
 use Rattle.cf_semantics.specs.Steps.{onward, stepped_as}
+use Rattle.cf_semantics.specs.Soundness.{HasValue, Holds}
 use Rattle.rv_inst.specs.declared.classes.Class.{Class}
 use Rattle.rv_inst.specs.declared.classes.Class.TheVariants.{Free}
 use Rattle.rv_inst.specs.declared.isa.Isa.{Isa}
@@ -39,21 +40,21 @@ asked2 a b r e = rw e (grind arith)
 source_reg : (c : List (Option ℕ)) (o : Option ℕ) → reg_in (source c o) ≡ o
 source_reg c o = grind arith
 
-source_agrees : (c : List (Option ℕ)) (o : Option ℕ) (regs : List ℕ) → Holds c regs → Agrees (source c o) regs
+source_agrees : (c : List (Option ℕ)) (o : Option ℕ) (regs : List ℕ) → AreRegisters c regs → HasValue (source c o) regs
 source_agrees c None regs h = tt
 source_agrees c (Some r) regs h = h r
 
 bound_reg : (o : Option ℕ) → reg_in (destination o) ≡ o
 bound_reg o = grind arith
 
-bound_agrees : (o : Option ℕ) (regs : List ℕ) → Agrees (destination o) regs
+bound_agrees : (o : Option ℕ) (regs : List ℕ) → HasValue (destination o) regs
 bound_agrees o regs = grind arith
 
 asked_comes : (o : Option Binding) (coming : ℕ → Bool) → ((r : ℕ) → missing o ≡ Some r → coming r ≡ true) → Comes o coming
 asked_comes o coming f = grind (arith, f)
 
 -- the three kinds of new passengers
-end_sure : (isa : Isa) (x : Machine) (pc : ℕ) (g : Guess) (w : Option Instr) (e : End) (t : Option ℕ) → t ≡ Some pc → Reads (fresh_end w pc g e) (fetched isa x.hart.mem pc) → ((i : Instr) → w ≡ Some i → kind_of i ≡ Free) → step_at isa x pc ≡ Stops e → IsSure isa (fresh_end w pc g e) x (step_at isa x pc) t
+end_sure : (isa : Isa) (x : Machine) (pc : ℕ) (g : Guess) (w : Option Instr) (e : End) (t : Option ℕ) → t ≡ Some pc → Holds (fresh_end w pc g e) (fetched isa x.hart.mem pc) → ((i : Instr) → w ≡ Some i → kind_of i ≡ Free) → step_at isa x pc ≡ Stops e → IsSure isa (fresh_end w pc g e) x (step_at isa x pc) t
 end_sure isa x pc g w e t p r c s = record {
   path = p;
   reads = r;
@@ -70,7 +71,7 @@ end_sure isa x pc g w e t p r c s = record {
   owed = tt;
 }
 
-fence_sure : (isa : Isa) (x : Machine) (pc : ℕ) (g : Guess) (i : Instr) (t : Option ℕ) → t ≡ Some pc → Reads (fresh_fence i pc g) (fetched isa x.hart.mem pc) → kind_of i ≡ Free → step_at isa x pc ≡ Goes (onward (at_pc x pc) (word_after pc) x.hart.regs x.hart.mem) → IsSure isa (fresh_fence i pc g) x (step_at isa x pc) t
+fence_sure : (isa : Isa) (x : Machine) (pc : ℕ) (g : Guess) (i : Instr) (t : Option ℕ) → t ≡ Some pc → Holds (fresh_fence i pc g) (fetched isa x.hart.mem pc) → kind_of i ≡ Free → step_at isa x pc ≡ Goes (onward (at_pc x pc) (word_after pc) x.hart.regs x.hart.mem) → IsSure isa (fresh_fence i pc g) x (step_at isa x pc) t
 fence_sure isa x pc g i t p r c s = record {
   path = p;
   reads = r;
@@ -87,7 +88,7 @@ fence_sure isa x pc g i t p r c s = record {
   owed = tt;
 }
 
-undone_sure : (isa : Isa) (c : List (Option ℕ)) (x : Machine) (pc : ℕ) (g : Guess) (i : Instr) (t : Option ℕ) → Holds c x.hart.regs → t ≡ Some pc → Reads (fresh_undone c i pc g) (fetched isa x.hart.mem pc) → IsSure isa (fresh_undone c i pc g) x (step_at isa x pc) t
+undone_sure : (isa : Isa) (c : List (Option ℕ)) (x : Machine) (pc : ℕ) (g : Guess) (i : Instr) (t : Option ℕ) → AreRegisters c x.hart.regs → t ≡ Some pc → Holds (fresh_undone c i pc g) (fetched isa x.hart.mem pc) → IsSure isa (fresh_undone c i pc g) x (step_at isa x pc) t
 undone_sure isa c x pc g i t h p r = record {
   path = p;
   reads = r;
@@ -109,7 +110,7 @@ pub fresh_usual : (k : Class) (c : List (Option ℕ)) (i : Instr) (pc : ℕ) (g 
 fresh_usual Free c i pc g e = absurd (cc)
 fresh_usual _ c i pc g e = refl
 
-class_sure : (isa : Isa) (k : Class) (c : List (Option ℕ)) (x : Machine) (pc : ℕ) (g : Guess) (i : Instr) (t : Option ℕ) → kind_of i ≡ k → Holds c x.hart.regs → t ≡ Some pc → fetched isa x.hart.mem pc ≡ Got i → IsSure isa (fresh_as k c i pc g) x (step_at isa x pc) t
+class_sure : (isa : Isa) (k : Class) (c : List (Option ℕ)) (x : Machine) (pc : ℕ) (g : Guess) (i : Instr) (t : Option ℕ) → kind_of i ≡ k → AreRegisters c x.hart.regs → t ≡ Some pc → fetched isa x.hart.mem pc ≡ Got i → IsSure isa (fresh_as k c i pc g) x (step_at isa x pc) t
 class_sure isa Free c x pc g i t e h p f = go (free_trap i pc) refl
   where
     s : step_at isa x pc ≡ on (free_trap i pc) (Goes (onward (at_pc x pc) (word_after pc) x.hart.regs x.hart.mem)) Stops
@@ -120,7 +121,7 @@ class_sure isa Free c x pc g i t e h p f = go (free_trap i pc) refl
     go (Some b) q = end_sure isa x pc g (Some i) b t p (rw f refl) (λ j k. let z : i ≡ j = cc in rw (← z) e) (s ∙ ap (λ (o : Option End). on o (Goes (onward (at_pc x pc) (word_after pc) x.hart.regs x.hart.mem)) Stops) q)
 class_sure isa _ c x pc g i t e h p f = undone_sure isa c x pc g i t h p (rw f refl)
 
-fetched_sure : (isa : Isa) (q : Fetched) (c : List (Option ℕ)) (x : Machine) (pc : ℕ) (g : Guess) (t : Option ℕ) → Holds c x.hart.regs → t ≡ Some pc → fetched isa x.hart.mem pc ≡ q → IsSure isa (fresh c q pc g) x (step_at isa x pc) t
+fetched_sure : (isa : Isa) (q : Fetched) (c : List (Option ℕ)) (x : Machine) (pc : ℕ) (g : Guess) (t : Option ℕ) → AreRegisters c x.hart.regs → t ≡ Some pc → fetched isa x.hart.mem pc ≡ q → IsSure isa (fresh c q pc g) x (step_at isa x pc) t
 unfolding fresh
 fetched_sure isa (Got i) c x pc g t h p f = class_sure isa (kind_of i) c x pc g i t refl h p f
 fetched_sure isa (Bad b) c x pc g t h p f = end_sure isa x pc g None b t p (rw f (refl, refl)) (λ i k. absurd (cc)) (bad_step isa x pc b f)
@@ -138,7 +139,7 @@ unfolding fresh
 fresh_pc (Got i) c pc g = class_pc (kind_of i) c i pc g
 fresh_pc (Bad b) c pc g = refl
 
-pub fresh_at : (isa : Isa) (w : Walk) (c : List (Option ℕ)) (pc : ℕ) (g : Guess) → Holds c w.machine.hart.regs → w.goto ≡ Some pc → ((r : ℕ) → among r (requests (fresh c (fetched isa w.machine.hart.mem pc) pc g)) ≡ true → w.coming r ≡ true) → SureAt isa (fresh c (fetched isa w.machine.hart.mem pc) pc g) w
+pub fresh_at : (isa : Isa) (w : Walk) (c : List (Option ℕ)) (pc : ℕ) (g : Guess) → AreRegisters c w.machine.hart.regs → w.goto ≡ Some pc → ((r : ℕ) → among r (requests (fresh c (fetched isa w.machine.hart.mem pc) pc g)) ≡ true → w.coming r ≡ true) → SureAt isa (fresh c (fetched isa w.machine.hart.mem pc) pc g) w
 unfolding SureAt
 fresh_at isa w c pc g h p a =
     let q = fetched isa w.machine.hart.mem pc in

@@ -23,6 +23,7 @@ use Rattle.cf_semantics.specs.Ahead as ahead
 use Rattle.cf_refinement.specs.Port as dock
 use Rattle.cf_refinement.specs.Sure as sure
 use Rattle.cf_semantics.specs.Path as trail
+use Rattle.cf_semantics.specs.Soundness.{Holds}
 
 -- the step goes on, to g
 pub record On (s : Stepped) (x : Machine) (g : Option ℕ) : Type 0 where
@@ -56,7 +57,7 @@ plain_on isa p w c k d g h = go (fetched isa w.machine.hart.mem p.pc) refl h.0.r
     straight : goto p ≡ Some (word_after p.pc)
     straight = grind arith
 
-    go : (q : Fetched) → fetched isa w.machine.hart.mem p.pc ≡ q → sure.Reads p q → On (step_at isa w.machine p.pc) w.machine (goto p)
+    go : (q : Fetched) → fetched isa w.machine.hart.mem p.pc ≡ q → Holds p q → On (step_at isa w.machine p.pc) w.machine (goto p)
     go (Got i) f r =
         let c' : is_plain (kind_of i) ≡ true = rw (kind_is p i r) at c in
         let k' : is_control (kind_of i) ≡ false = rw (kind_is p i r) at k in

@@ -31,7 +31,7 @@ use Rattle.cf_refinement.proofs.Program.{code_fresh}
 use Rattle.cf_refinement.proofs.Stands.{each_append}
 use Rattle.cf_refinement.proofs.Steps.{sure_keeps}
 use Rattle.cf_refinement.specs.Invariant.{Sound}
-use Rattle.cf_refinement.specs.Operations.{IsMoored, flown}
+use Rattle.cf_refinement.specs.Operations.{IsMoored}
 use Rattle.cf_refinement.specs.Stands.{Blank, Low, Stands}
 use Rattle.cf_refinement.specs.Suited.{Suits}
 use Rattle.cf_semantics.specs.Bars.{bar, issue_bar, may_guess, row_bar}
@@ -52,6 +52,7 @@ use Rattle.cf_refinement.proofs.Path as paths
 use Rattle.cf_refinement.proofs.Port as ports
 use Rattle.cf_refinement.specs.Sure as sure
 use Rattle.cf_semantics.specs.Path as trail
+use Rattle.cf_semantics.specs.Soundness.{is_lone, operations_of, waits}
 
 pub record Issues (l : Plan) (s : State) (g : Guess) : Type 0 where
   pub here : Cell
@@ -136,11 +137,11 @@ below_keeps : (isa : Isa) (p : Passenger) (w : trail.Walk) (c : List (Option ℕ
 unfolding trail.past
 below_keeps isa p w c d f k = subst (λ (z : Bool). sure.Keeps (trail.past_passenger isa (not z && not w.barred) p w) (forgets (reg_in p.dst) c)) (sym d) (go w.barred refl k)
   where
-    go : (b : Bool) → w.barred ≡ b → When (not b) (sure.Holds c w.machine.hart.regs) → sure.Keeps (trail.past_passenger isa (not false && not b) p w) (forgets (reg_in p.dst) c)
-    go true e k = subst (λ (z : Bool). When (not z) (sure.Holds (forgets (reg_in p.dst) c) w.machine.hart.regs)) (sym e) tt
+    go : (b : Bool) → w.barred ≡ b → When (not b) (sure.AreRegisters c w.machine.hart.regs) → sure.Keeps (trail.past_passenger isa (not false && not b) p w) (forgets (reg_in p.dst) c)
+    go true e k = subst (λ (z : Bool). When (not z) (sure.AreRegisters (forgets (reg_in p.dst) c) w.machine.hart.regs)) (sym e) tt
     go false e k = turn (trail.turns p.owes)
       where
-        turn : (q : Bool) → When (not q) (sure.Holds (forgets (reg_in p.dst) c) (behind (step_at isa w.machine p.pc) w.machine).hart.regs)
+        turn : (q : Bool) → When (not q) (sure.AreRegisters (forgets (reg_in p.dst) c) (behind (step_at isa w.machine p.pc) w.machine).hart.regs)
         turn true = tt
         turn false = forget_holds c (reg_in p.dst) w.machine.hart.regs (behind (step_at isa w.machine p.pc) w.machine).hart.regs (keeps_reg isa p w (f e)) k
 
@@ -149,14 +150,14 @@ lone_fits : (p : Passenger) (b : Bool) → b ≡ false → lone.Fits (Up 1 p) b
 unfolding lone.Fits
 lone_fits p b e = e
 
-serial_goto : (p : Passenger) → p.done ≡ false → (is_serial (kind p) || lone.waits p.guess) ≡ true → goto p ≡ None
+serial_goto : (p : Passenger) → p.done ≡ false → (is_serial (kind p) || waits p.guess) ≡ true → goto p ≡ None
 serial_goto p d e = grind arith
 
 lone_ends : (l : Plan) (p : Passenger) (g : Guess) (b : Bool) → IsFresh p g → b ≡ false → lone.Ends (lone.past l (Up 1 p) b) (fetch_at (goto p))
 unfolding lone.past
 lone_ends l p g b n e = λ h. rw (go p.done (is_some p.ending) refl refl h)
   where
-    go : (d q : Bool) → p.done ≡ d → is_some p.ending ≡ q → (b || (lone.holds p || (trail.turns p.owes && lone.is_high l 1))) ≡ true → goto p ≡ None
+    go : (d q : Bool) → p.done ≡ d → is_some p.ending ≡ q → (b || (is_lone p || (trail.turns p.owes && lone.is_high l 1))) ≡ true → goto p ≡ None
     go false q f k h = let u = n.undone f in let o = n.owes in let v = serial_goto p f in grind (arith, v)
     go true true f k h = n.waits f k
     go true false f k h = let o = n.owes in absurd (grind arith)
@@ -238,11 +239,11 @@ port_ends isa p g w m r o n e =
     let q : ahead.has_ported p w.answer ≡ false = grind arith in
     record { is_mem = rw q e.is_mem; is_code = rw s e.is_code; is_rest = rw s e.is_rest; is_out = rw s e.is_out }
 
-not_flown : (l : Plan) (k : ℕ) (p : Passenger) → p.launched ≡ false → flown l k (Up 1 p ∷ []) ≡ []
+not_flown : (l : Plan) (k : ℕ) (p : Passenger) → p.launched ≡ false → operations_of l k (Up 1 p ∷ []) ≡ []
 not_flown l k p e = rw e
 
 moored : (l : Plan) (s t : State) (col : List Item) (p : Passenger) → t.sidings ≡ s.sidings → p.launched ≡ false → IsMoored l s col → IsMoored l t (col ++ Up 1 p ∷ [])
-moored l s t col p e f h = rw e (record { flown = λ k. h.flown k ∙ sym (flown-append l k col (Up 1 p ∷ []) ∙ ap (λ q. flown l k col ++ q) (not_flown l k p f) ∙ append-nil (flown l k col)); front = h.front; plain = h.plain; berths = h.berths })
+moored l s t col p e f h = rw e (record { operations = λ k. h.operations k ∙ sym (flown-append l k col (Up 1 p ∷ []) ∙ ap (λ q. operations_of l k col ++ q) (not_flown l k p f) ∙ append-nil (operations_of l k col)); front = h.front; plain = h.plain; berths = h.berths })
 
 -- units or a siding are there for it
 fresh_homed : (l : Plan) → Suits l → (mem : Memory) (c : List (Option ℕ)) (pc : ℕ) (g : Guess) → is_plain (kind (fresh c (fetched (isa_of l) mem pc) pc g)) ≡ true → is_homed l (kind (fresh c (fetched (isa_of l) mem pc) pc g)) ≡ true
@@ -298,5 +299,5 @@ issue_kept {rest} {out} l s x g acc e h =
     sure_new : (c : List (Option ℕ)) (q : Fetched) (pc : ℕ) (g : Guess) (f : Fetch) (w : trail.Walk) → f ≡ Running pc → q ≡ fetched (isa_of l) w.machine.hart.mem pc → ((r : ℕ) → trail.among r (requests (fresh c q pc g)) ≡ true → w.coming r ≡ true) → w.barred ≡ false → sure.Ends w f → sure.Keeps w c → sure.SureAt (isa_of l) (fresh c q pc g) w
     sure_new c q pc g f w e y a b n k =
         let n' : f ≡ fetch_at w.goto = subst (λ (z : Bool). When (not z) (f ≡ fetch_at w.goto)) b n in
-        let k' : sure.Holds c w.machine.hart.regs = subst (λ (z : Bool). When (not z) (sure.Holds c w.machine.hart.regs)) b k in
+        let k' : sure.AreRegisters c w.machine.hart.regs = subst (λ (z : Bool). When (not z) (sure.AreRegisters c w.machine.hart.regs)) b k in
         subst (λ (z : Fetched). sure.SureAt (isa_of l) (fresh c z pc g) w) (sym y) (fresh_at (isa_of l) w c pc g k' (running_goto w.goto pc (sym e ∙ n')) (subst (λ (z : Fetched). (r : ℕ) → trail.among r (requests (fresh c z pc g)) ≡ true → w.coming r ≡ true) y a))

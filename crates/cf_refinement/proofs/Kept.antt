@@ -13,7 +13,6 @@ use Rattle.cf_refinement.proofs.Column.{climb_is, climb_was, column-at, column-p
 use Rattle.cf_refinement.proofs.Fold.{Replaces}
 use Rattle.cf_refinement.proofs.Stands.{climb_stands, meet_rider}
 use Rattle.cf_refinement.specs.Invariant.{Sound}
-use Rattle.cf_refinement.specs.Operations.{flown}
 use Rattle.cf_refinement.specs.Stands.{Each, Stands}
 use Rattle.cf_semantics.specs.Bars.{bar, climb_bar, is_full, meet_bar, row_bar, stops_at}
 use Rattle.cf_semantics.specs.Column.{Down, Item, Up, column, column_from, in_order, packet_in, passenger_in}
@@ -33,6 +32,7 @@ use Rattle.cf_refinement.proofs.PortMoves as portmoves
 use Rattle.cf_refinement.proofs.Port as ports
 use Rattle.cf_refinement.specs.Sure as sure
 use Rattle.cf_semantics.specs.Path as trail
+use Rattle.cf_semantics.specs.Soundness.{operations_of}
 
 pub bar_row : (l : Plan) (s : State) (m : Move) → bar l s m ≡ None → row_bar l s m ≡ None
 unfolding bar
@@ -106,7 +106,7 @@ climb_kept {rest} {out} l s x i e h =
       lone = lones.climb_lone l i (suc i) r.who _ r.nothing;
       stands = (climb_stands l i r.who room r.passes o.stands.0, tt);
       port = port_label (isa_of l) i (suc i) r.who _ o.safe;
-      flown = λ k. refl;
+      operations = λ k. refl;
     }) h)
 
 -- Meet
@@ -158,12 +158,12 @@ met_stands : (l : Plan) (i : ℕ) (q : Passenger) (o : Option Packet) → Stands
 met_stands l i q None h = (h, tt)
 met_stands l i q (Some k) h = (h, tt)
 
-met_flown : (l : Plan) (n i : ℕ) (q : Passenger) (o : Option Packet) → flown l n (pathmeet.met_items i q o) ≡ flown l n (Up i q ∷ [])
+met_flown : (l : Plan) (n i : ℕ) (q : Passenger) (o : Option Packet) → operations_of l n (pathmeet.met_items i q o) ≡ operations_of l n (Up i q ∷ [])
 met_flown l n i q None = refl
 met_flown l n i q (Some k) = refl
 
 -- what is launched has its sources, so that a meeting leaves its operation
-meet_out : (l : Plan) (n i : ℕ) (p : Passenger) (k : Packet) → (p.launched ≡ true → (missing p.src1 ≡ None) × (missing p.src2 ≡ None)) → flown l n (Up i p ∷ []) ≡ flown l n (Up i (meeting p k).passenger ∷ [])
+meet_out : (l : Plan) (n i : ℕ) (p : Passenger) (k : Packet) → (p.launched ≡ true → (missing p.src1 ≡ None) × (missing p.src2 ≡ None)) → operations_of l n (Up i p ∷ []) ≡ operations_of l n (Up i (meeting p k).passenger ∷ [])
 unfolding meeting
 meet_out l n i p k h = grind arith
 
@@ -192,5 +192,5 @@ meet_kept {rest} {out} l s x i e h =
       lone = lones.meet_lone l i r.who r.what _ k.stands.0;
       stands = met_stands l i q o (meet_rider l i r.who r.what k.stands.0);
       port = meet_port (isa_of l) i r.who r.what _ k.safe (rw k.same k.path_fit) (sources_out l i r.who k.stands.0);
-      flown = λ n. meet_out l n i r.who r.what (λ a. (k.stands.0.sourced1 a, k.stands.0.sourced2 a)) ∙ sym (met_flown l n i q o);
+      operations = λ n. meet_out l n i r.who r.what (λ a. (k.stands.0.sourced1 a, k.stands.0.sourced2 a)) ∙ sym (met_flown l n i q o);
     }) h)

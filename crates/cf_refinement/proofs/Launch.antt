@@ -8,7 +8,6 @@ use Rattle.cf_bind.specs.declared.passenger.Passenger.{Passenger}
 use Rattle.cf_layout.specs.Layout.{Plan, launch_stage, siding_of}
 use Rattle.cf_refinement.proofs.Change.{walk_path, walk_safe}
 use Rattle.cf_refinement.proofs.Fold.{Replaces}
-use Rattle.cf_refinement.specs.Operations.{bare, flown, is_out, operations}
 use Rattle.cf_refinement.specs.Stands.{Between, Stands}
 use Rattle.cf_refinement.specs.Suited.{Suits}
 use Rattle.cf_semantics.specs.Bars.{last_op}
@@ -30,6 +29,7 @@ use Rattle.cf_refinement.proofs.Path as paths
 use Rattle.cf_refinement.proofs.Port as ports
 use Rattle.cf_refinement.specs.Sure as sure
 use Rattle.cf_semantics.specs.Path as trail
+use Rattle.cf_semantics.specs.Soundness.{Holds, as_launched, in_siding, operations_in, operations_of}
 
 -- launched: the passenger after Launch
 abbrev pub sent_out : Passenger → Passenger
@@ -57,7 +57,7 @@ out_at isa p w h = (
   record { source1 = h.1.source1; source2 = h.1.source2 },
 )
   where
-    reads : (q : Fetched) → sure.Reads p q → sure.Reads (sent_out p) q
+    reads : (q : Fetched) → Holds p q → Holds (sent_out p) q
     reads (Got j) k = k
     reads (Bad b) k = k
 
@@ -154,7 +154,7 @@ launch_port isa i p w d u r n s m = record {
         go false e = grind arith
 
 -- the answer is taken by the first that flies
-pub flies_out : (l : Plan) (acc : Suits l) (p : Passenger) → is_out l (port l) p ≡ true → ahead.flies p ≡ true
+pub flies_out : (l : Plan) (acc : Suits l) (p : Passenger) → in_siding l (port l) p ≡ true → ahead.flies p ≡ true
 flies_out l acc p e = go (siding_of l (kind p)) refl
   where
     go : (o : Option ℕ) → siding_of l (kind p) ≡ o → ahead.flies p ≡ true
@@ -176,29 +176,29 @@ past_taken : (isa : Isa) (i : ℕ) (p : Passenger) (w : dock.Dock) → ahead.fli
 unfolding dock.past
 past_taken isa i p w e = rw e
 
-pub taken : (l : Plan) (acc : Suits l) (xs : List Item) (w : dock.Dock) → flown l (port l) xs ≢ [] → (walk (dock.past (isa_of l)) xs w).answer ≡ None
+pub taken : (l : Plan) (acc : Suits l) (xs : List Item) (w : dock.Dock) → operations_of l (port l) xs ≢ [] → (walk (dock.past (isa_of l)) xs w).answer ≡ None
 taken l acc [] w n = absurd (n refl)
-taken l acc (Up i p ∷ xs) w n = go (is_out l (port l) p) refl (taken l acc xs (dock.past (isa_of l) (Up i p) w))
+taken l acc (Up i p ∷ xs) w n = go (in_siding l (port l) p) refl (taken l acc xs (dock.past (isa_of l) (Up i p) w))
   where
-    go : (b : Bool) → is_out l (port l) p ≡ b → (flown l (port l) xs ≢ [] → (walk (dock.past (isa_of l)) xs (dock.past (isa_of l) (Up i p) w)).answer ≡ None) → (walk (dock.past (isa_of l)) xs (dock.past (isa_of l) (Up i p) w)).answer ≡ None
+    go : (b : Bool) → in_siding l (port l) p ≡ b → (operations_of l (port l) xs ≢ [] → (walk (dock.past (isa_of l)) xs (dock.past (isa_of l) (Up i p) w)).answer ≡ None) → (walk (dock.past (isa_of l)) xs (dock.past (isa_of l) (Up i p) w)).answer ≡ None
     go true e f = walk_none (isa_of l) xs (dock.past (isa_of l) (Up i p) w) (past_taken (isa_of l) i p w (flies_out l acc p e))
     go false e f = f (rw e at n)
 taken l acc (Down i k ∷ xs) w n = taken l acc xs (dock.past (isa_of l) (Down i k) w) n
 
-no_operation : (l : List (Option Op)) → operations l ≡ [] → last_op l ≡ None
+no_operation : (l : List (Option Op)) → operations_in l ≡ [] → last_op l ≡ None
 no_operation [] e = refl
 no_operation (None ∷ []) e = refl
 no_operation (Some o ∷ []) e = absurd (cc)
-no_operation (o ∷ p ∷ l) e = no_operation (p ∷ l) (front (operations (p ∷ l)) (bare o) e)
+no_operation (o ∷ p ∷ l) e = no_operation (p ∷ l) (front (operations_in (p ∷ l)) (as_launched o) e)
   where
     front : (a b : List Op) → a ++ b ≡ [] → a ≡ []
     front [] b e = refl
     front (x ∷ a) b e = absurd (cc)
 
 -- what comes to a launch: no answer, for it is taken above or there is no operation
-pub answer_none : (l : Plan) (acc : Suits l) (xs : List Item) (w : dock.Dock) (q : List (Option Op)) → operations q ≡ flown l (port l) xs → w.answer ≡ on (last_op q) None (λ o. o.answer) → (walk (dock.past (isa_of l)) xs w).answer ≡ None
-answer_none l acc xs w q e f = go (flown l (port l) xs) refl
+pub answer_none : (l : Plan) (acc : Suits l) (xs : List Item) (w : dock.Dock) (q : List (Option Op)) → operations_in q ≡ operations_of l (port l) xs → w.answer ≡ on (last_op q) None (λ o. o.answer) → (walk (dock.past (isa_of l)) xs w).answer ≡ None
+answer_none l acc xs w q e f = go (operations_of l (port l) xs) refl
   where
-    go : (r : List Op) → flown l (port l) xs ≡ r → (walk (dock.past (isa_of l)) xs w).answer ≡ None
+    go : (r : List Op) → operations_of l (port l) xs ≡ r → (walk (dock.past (isa_of l)) xs w).answer ≡ None
     go [] g = walk_none (isa_of l) xs w (f ∙ ap (λ (o : Option Op). on o None (λ p. p.answer)) (no_operation q (e ∙ g)))
     go (o ∷ r) g = taken l acc xs w (λ z. let y = sym g ∙ z in absurd (cc))

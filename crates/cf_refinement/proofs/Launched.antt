@@ -27,7 +27,6 @@ use Rattle.cf_refinement.proofs.Spot.{Spot, spot}
 use Rattle.cf_refinement.proofs.Stands.{each_back, each_front}
 use Rattle.cf_refinement.proofs.Steps.{access_traps}
 use Rattle.cf_refinement.specs.Invariant.{Sound}
-use Rattle.cf_refinement.specs.Operations.{Front, Plain, flown, is_out, operations}
 use Rattle.cf_refinement.specs.Stands.{Each, Stands}
 use Rattle.cf_refinement.specs.Suited.{Suits}
 use Rattle.cf_semantics.specs.Bars.{bar, first, is_full, is_taken, launch_bar, row_bar, source_bar}
@@ -50,6 +49,7 @@ use Rattle.cf_refinement.proofs.Lone as lones
 use Rattle.cf_refinement.proofs.Path as paths
 use Rattle.cf_refinement.specs.Sure as sure
 use Rattle.cf_semantics.specs.Path as trail
+use Rattle.cf_semantics.specs.Soundness.{AreUnanswered, LastAnswered, in_siding, operations_in, operations_of}
 
 pub record Launches (l : Plan) (s : State) (i : ℕ) : Type 0 where
   pub here : Cell
@@ -174,22 +174,22 @@ launch_answer : (r : List (Option Op)) (p : Passenger) → last_answer (Some (op
 launch_answer [] p = refl
 launch_answer (a ∷ r) p = refl
 
-launch_front : (r : List (Option Op)) (p : Passenger) → Front (None ∷ r) → Front (Some (operation p) ∷ r)
+launch_front : (r : List (Option Op)) (p : Passenger) → LastAnswered (None ∷ r) → LastAnswered (Some (operation p) ∷ r)
 launch_front [] p h = tt
 launch_front (a ∷ r) p h = (refl, h.1)
 
-out_here : (l : Plan) (k : ℕ) (p : Passenger) → siding_of l (kind p) ≡ Some k → p.recovered ≡ false → is_out l k (sent_out p) ≡ true
+out_here : (l : Plan) (k : ℕ) (p : Passenger) → siding_of l (kind p) ≡ Some k → p.recovered ≡ false → in_siding l k (sent_out p) ≡ true
 out_here l k p e f = rw (e, f) same
   where
     same : (k == k) ≡ true
     same = grind arith
 
-out_other : (l : Plan) (k j i : ℕ) (p : Passenger) → siding_of l (kind p) ≡ Some k → j ≢ k → flown l j (Up i p ∷ []) ≡ flown l j (Up i (sent_out p) ∷ [])
+out_other : (l : Plan) (k j i : ℕ) (p : Passenger) → siding_of l (kind p) ≡ Some k → j ≢ k → operations_of l j (Up i p ∷ []) ≡ operations_of l j (Up i (sent_out p) ∷ [])
 out_other l k j i p e n = go (k == j) refl
   where
-    go : (b : Bool) → (k == j) ≡ b → flown l j (Up i p ∷ []) ≡ flown l j (Up i (sent_out p) ∷ [])
+    go : (b : Bool) → (k == j) ≡ b → operations_of l j (Up i p ∷ []) ≡ operations_of l j (Up i (sent_out p) ∷ [])
     go true f = absurd (n (grind arith))
-    go false f = let a : is_out l j p ≡ false = grind arith in let b : is_out l j (sent_out p) ≡ false = grind arith in rw (a, b)
+    go false f = let a : in_siding l j p ≡ false = grind arith in let b : in_siding l j (sent_out p) ≡ false = grind arith in rw (a, b)
 
 not_back : (l : Plan) (i : ℕ) (p : Passenger) → p.launched ≡ false → Stands l i p → p.recovered ≡ false
 not_back l i p e h = go p.recovered refl
@@ -227,26 +227,26 @@ out_kept {rest} {out} l s x i acc r e h =
     let each = rw q.was at h.stands in
     let never = not_back l i p r.aboard k'.stands.0 in
     let none = flown_range l k q.below (riders_more (λ j. j < i) (λ j. (launch_stage l k ≤ j) → (j ≤ recover_stage l k) → ⊥) q.below (λ j a b c. omega (arith, r.at_stage)) q.under) (each_back l old q.below (each_back l q.above (old ++ q.below) each)) in
-    let was_flown : flown l k (column s) ≡ flown l k q.above = ap (flown l k) q.was ∙ flown-append l k q.above (old ++ q.below) ∙ ap (λ (z : List Op). flown l k q.above ++ z) (ashore l k i p q.below r.aboard ∙ none) ∙ append-nil (flown l k q.above) in
-    let is_flown : flown l k (column t) ≡ flown l k q.above ++ (operation p ∷ []) = ap (flown l k) is ∙ flown-append l k q.above (new ++ q.below) ∙ ap (λ (z : List Op). flown l k q.above ++ z) (aboard l k i p q.below (out_here l k p r.siding never) ∙ ap (λ (z : List Op). operation p ∷ z) none) in
-    let ops : operations (slice_set (siding_at s k) 0 (Some (operation p))) ≡ flown l k (column t) =
-    ap operations set ∙ operations-launch f.0 (operation p) ∙ ap (λ (z : List Op). z ++ (operation p ∷ [])) (ap operations (sym f.1) ∙ h.moored.flown k ∙ was_flown) ∙ sym is_flown in
+    let was_flown : operations_of l k (column s) ≡ operations_of l k q.above = ap (operations_of l k) q.was ∙ flown-append l k q.above (old ++ q.below) ∙ ap (λ (z : List Op). operations_of l k q.above ++ z) (ashore l k i p q.below r.aboard ∙ none) ∙ append-nil (operations_of l k q.above) in
+    let is_flown : operations_of l k (column t) ≡ operations_of l k q.above ++ (operation p ∷ []) = ap (operations_of l k) is ∙ flown-append l k q.above (new ++ q.below) ∙ ap (λ (z : List Op). operations_of l k q.above ++ z) (aboard l k i p q.below (out_here l k p r.siding never) ∙ ap (λ (z : List Op). operation p ∷ z) none) in
+    let ops : operations_in (slice_set (siding_at s k) 0 (Some (operation p))) ≡ operations_of l k (column t) =
+    ap operations_in set ∙ operations-launch f.0 (operation p) ∙ ap (λ (z : List Op). z ++ (operation p ∷ [])) (ap operations_in (sym f.1) ∙ h.moored.operations k ∙ was_flown) ∙ sym is_flown in
     let top = top_same l s t x refl (answer_here l s t k (slice_set (siding_at s k) 0 (Some (operation p))) n.0 refl n.1 (λ _. ap last_answer set ∙ launch_answer f.0 p ∙ ap last_answer (sym f.1))) in
     let calm' : is_memory (kind p) ≡ true → ((walk (dock.past (isa_of l)) q.above (dock.top l s x)).risky ≡ false) × ((walk (dock.past (isa_of l)) q.above (dock.top l s x)).answer ≡ None) × (access_trap (instruction p) p.pc (value_in p.src1) (bounds_of (walk (dock.past (isa_of l)) q.above (dock.top l s x)).path.machine.hart.mem) ≡ None) = λ m.
     let w = in_port l p k acc r.siding m in
     let c = memory_calm l s x i r.here p q acc (sym r.at_stage ∙ ap (launch_stage l) w) (r.clear m) r.live k' (each_front l q.above (old ++ q.below) each) (fit_front _ (sure.Fits (isa_of l)) (trail.past (isa_of l)) q.above (old ++ q.below) _ (rw q.was at h.path_fit)) h in
-    (c.risky, answer_none l acc q.above (dock.top l s x) (siding_at s (port l)) (rw w at (h.moored.flown k ∙ was_flown)) refl, subst (λ (b : List Bounds). access_trap (instruction p) p.pc (value_in p.src1) b ≡ None) c.bounded (permitted s p e m)) in
+    (c.risky, answer_none l acc q.above (dock.top l s x) (siding_at s (port l)) (rw w at (h.moored.operations k ∙ was_flown)) refl, subst (λ (b : List Bounds). access_trap (instruction p) p.pc (value_in p.src1) b ≡ None) c.bounded (permitted s p e m)) in
     reshaped l s t x q.above old new q.below q.was is (record { regs = refl; lane = refl; fetch = refl; cache = refl; size = put_size s.cells i (with_passenger r.here (sent_out p)) })
     (launch_path (isa_of l) i p _) (launch_lone l i p _)
     (launch_stands l acc i p (launches_at l p k i r.siding r.at_stage) r.live r.undone r.aboard r.has1 r.has2 k'.stands.0, tt)
     (docked l s t x q.above old new q.below q.was is top refl (launch_port (isa_of l) i p _ r.live r.undone never r.aboard k'.safe calm') h)
-    (rehung l s t (column s) (column t) k (slice_set (siding_at s k) 0 (Some (operation p))) refl n.0 n.1 (ap length set ∙ ap length (sym f.1)) ops (λ j a. ap (flown l j) q.was ∙ flown_changed l j q.above old new q.below (out_other l k j i p r.siding a) ∙ ap (flown l j) (sym is)) (subst Front (sym set) (launch_front f.0 p (subst Front f.1 (h.moored.front k)))) (λ a. subst Plain (sym set) (let z = subst Plain f.1 (h.moored.plain k a) in (refl, z.1))) h.moored)
+    (rehung l s t (column s) (column t) k (slice_set (siding_at s k) 0 (Some (operation p))) refl n.0 n.1 (ap length set ∙ ap length (sym f.1)) ops (λ j a. ap (operations_of l j) q.was ∙ flown_changed l j q.above old new q.below (out_other l k j i p r.siding a) ∙ ap (operations_of l j) (sym is)) (subst LastAnswered (sym set) (launch_front f.0 p (subst LastAnswered f.1 (h.moored.front k)))) (λ a. subst AreUnanswered (sym set) (let z = subst AreUnanswered f.1 (h.moored.plain k a) in (refl, z.1))) h.moored)
     h
   where
-    ashore : (l : Plan) (k i : ℕ) (p : Passenger) (xs : List Item) → p.launched ≡ false → flown l k ((Up i p ∷ []) ++ xs) ≡ flown l k xs
+    ashore : (l : Plan) (k i : ℕ) (p : Passenger) (xs : List Item) → p.launched ≡ false → operations_of l k ((Up i p ∷ []) ++ xs) ≡ operations_of l k xs
     ashore l k i p xs e = rw e refl
 
-    aboard : (l : Plan) (k i : ℕ) (p : Passenger) (xs : List Item) → is_out l k (sent_out p) ≡ true → flown l k ((Up i (sent_out p) ∷ []) ++ xs) ≡ operation p ∷ flown l k xs
+    aboard : (l : Plan) (k i : ℕ) (p : Passenger) (xs : List Item) → in_siding l k (sent_out p) ≡ true → operations_of l k ((Up i (sent_out p) ∷ []) ++ xs) ≡ operation p ∷ operations_of l k xs
     aboard l k i p xs e = rw e refl
 
     launches_at : (l : Plan) (p : Passenger) (k i : ℕ) → siding_of l (kind p) ≡ Some k → launch_stage l k ≡ i → launches l (kind p) i ≡ true
@@ -306,8 +306,8 @@ trap_loose isa i p e w m a b f s =
 loose_ends : (w v : dock.Dock) (m : Memory) (r o : List ℕ) → Loose w v → dock.Ends w m r o → dock.Ends v m r o
 loose_ends w v m r o h e = record { is_mem = e.is_mem ∙ sym h.mem; is_code = e.is_code ∙ sym h.code; is_rest = e.is_rest ∙ sym h.rest; is_out = e.is_out ∙ sym h.out }
 
-trap_flown : (l : Plan) (k i : ℕ) (p : Passenger) (e : End) → p.launched ≡ false → flown l k (Up i p ∷ []) ≡ flown l k (Up i (trapped p e) ∷ [])
-trap_flown l k i p e a = let b : is_out l k p ≡ false = grind arith in rw b refl
+trap_flown : (l : Plan) (k i : ℕ) (p : Passenger) (e : End) → p.launched ≡ false → operations_of l k (Up i p ∷ []) ≡ operations_of l k (Up i (trapped p e) ∷ [])
+trap_flown l k i p e a = let b : in_siding l k p ≡ false = grind arith in rw b refl
 
 not_high : (l : Plan) (i : ℕ) → i ≡ launch_stage l (port l) → lone.is_high l i ≡ false
 not_high l i e = grind arith
@@ -340,7 +340,7 @@ trap_kept {rest} {out} l s x i b acc r e h =
       fit = rw is (fit_append _ (dock.Fits (isa_of l)) (dock.past (isa_of l)) q.above (new ++ q.below) _ (fit_front _ (dock.Fits (isa_of l)) (dock.past (isa_of l)) q.above (old ++ q.below) _ (rw q.was at h.port_fit)) (trap_fits (isa_of l) i p b w no.0 r.aboard never, lf.0));
       ends = rw (is, walk-append (dock.past (isa_of l)) q.above (new ++ q.below) (dock.top l s x)) (loose_ends _ _ s.mem rest out lf.1 ends);
     })
-    (record { flown = λ j. h.moored.flown j ∙ ap (flown l j) q.was ∙ flown_changed l j q.above old new q.below (trap_flown l j i p b r.aboard) ∙ ap (flown l j) (sym is); front = h.moored.front; plain = h.moored.plain; berths = h.moored.berths })
+    (record { operations = λ j. h.moored.operations j ∙ ap (operations_of l j) q.was ∙ flown_changed l j q.above old new q.below (trap_flown l j i p b r.aboard) ∙ ap (operations_of l j) (sym is); front = h.moored.front; plain = h.moored.plain; berths = h.moored.berths })
     h
 
 pub launch_kept : {rest out : List ℕ} (l : Plan) (s : State) (x : Machine) (i : ℕ) → Suits l → bar l s (Launch i) ≡ None → Sound l s rest out x → Sound l (moved l s (Launch i)) rest out x

@@ -22,7 +22,6 @@ use Rattle.cf_refinement.proofs.Quiet.{Unchanged, quiet}
 use Rattle.cf_refinement.proofs.OwnLines.{got, own_line}
 use Rattle.cf_refinement.proofs.Steps.{step_wide, step_writes, sure_dst_below, sure_leaves, word_is}
 use Rattle.cf_refinement.specs.Invariant.{IsOver, Sound}
-use Rattle.cf_refinement.specs.Operations.{flown, is_out}
 use Rattle.cf_refinement.specs.Stands.{Stands}
 use Rattle.cf_semantics.specs.Bars.{bar, is_full, leave_bar, row_bar}
 use Rattle.cf_semantics.specs.Column.{Down, Item, Up, column, column_from, packet_in}
@@ -44,6 +43,7 @@ use Rattle.cf_refinement.proofs.Path as paths
 use Rattle.cf_refinement.proofs.Port as ports
 use Rattle.cf_refinement.specs.Sure as sure
 use Rattle.cf_semantics.specs.Path as trail
+use Rattle.cf_semantics.specs.Soundness.{HasValue, Holds, IsKnown, in_siding, operations_of}
 
 pub record Leaves (l : Plan) (s : State) : Type 0 where
   pub here : Cell
@@ -71,7 +71,7 @@ unfolding moved
 next-leave l s c p e f = rw (e, f)
 
 -- the registers after it
-written_is : (o : Option Binding) (d : Option ℕ) (v : ℕ) (regs : List ℕ) → length regs ≡ 32 → ((r : ℕ) → d ≡ Some r → r < 32) → reg_in o ≡ d → sure.Known o → sure.Agrees o (value_written regs d v) → written regs o ≡ value_written regs d v
+written_is : (o : Option Binding) (d : Option ℕ) (v : ℕ) (regs : List ℕ) → length regs ≡ 32 → ((r : ℕ) → d ≡ Some r → r < 32) → reg_in o ≡ d → IsKnown o → HasValue o (value_written regs d v) → written regs o ≡ value_written regs d v
 written_is None d v regs l b e k a = rw (← e)
 written_is (Some o) d v regs l b e k a =
     let u = a k.0 k.1 in
@@ -81,7 +81,7 @@ written_is (Some o) d v regs l b e k a =
 leave_regs : (isa : Isa) (p : Passenger) (x : Machine) (g : Option ℕ) → length x.hart.regs ≡ 32 → p.done ≡ true → p.ending ≡ None → sure.IsSure isa p x (step_at isa x p.pc) g → written x.hart.regs p.dst ≡ (behind (step_at isa x p.pc) x).hart.regs
 leave_regs isa p x g l d n h = go (fetched isa x.hart.mem p.pc) refl h.reads
   where
-    go : (q : Fetched) → fetched isa x.hart.mem p.pc ≡ q → sure.Reads p q → written x.hart.regs p.dst ≡ (behind (step_at isa x p.pc) x).hart.regs
+    go : (q : Fetched) → fetched isa x.hart.mem p.pc ≡ q → Holds p q → written x.hart.regs p.dst ≡ (behind (step_at isa x p.pc) x).hart.regs
     go (Got i) f w =
         let y = step_writes isa x p.pc i (behind (step_at isa x p.pc) x) f (h.goes d n) in
         written_is p.dst (dst_of i) y.0 x.hart.regs l (sure_dst_below isa p x (step_at isa x p.pc) g i w h) (h.shape i w).three (h.known d n) (rw y.1 at h.value3) ∙ sym y.1
@@ -112,7 +112,7 @@ unfolding sure.Fits
 top_sure isa n p w d b h = grind arith
 
 -- what is left of the invariant once the highest rider is gone
-gone : {rest out : List ℕ} (l : Plan) (s t : State) (x y : Machine) (n : ℕ) (p : Passenger) (below : List Item) → column s ≡ Up n p ∷ below → column t ≡ below → t.fetch ≡ s.fetch → t.cache ≡ s.cache → length t.cells ≡ length s.cells → t.regs ≡ y.hart.regs → length y.hart.regs ≡ 32 → t.sidings ≡ s.sidings → t.mem ≡ s.mem → ((k : ℕ) → is_out l k p ≡ false) → paths.Follows (trail.past (isa_of l) (Up n p) (trail.top s x)) (trail.top t y) → ports.Follows (dock.past (isa_of l) (Up n p) (dock.top l s x)) (dock.top l t y) → Sound l s rest out x → Sound l t rest out y
+gone : {rest out : List ℕ} (l : Plan) (s t : State) (x y : Machine) (n : ℕ) (p : Passenger) (below : List Item) → column s ≡ Up n p ∷ below → column t ≡ below → t.fetch ≡ s.fetch → t.cache ≡ s.cache → length t.cells ≡ length s.cells → t.regs ≡ y.hart.regs → length y.hart.regs ≡ 32 → t.sidings ≡ s.sidings → t.mem ≡ s.mem → ((k : ℕ) → in_siding l k p ≡ false) → paths.Follows (trail.past (isa_of l) (Up n p) (trail.top s x)) (trail.top t y) → ports.Follows (dock.past (isa_of l) (Up n p) (dock.top l s x)) (dock.top l t y) → Sound l s rest out x → Sound l t rest out y
 gone {rest} {out} l s t x y n p below was is ef ec es er el ei em nf fp fd h =
     let fit = rw was at h.path_fit in
     let shut = rw was at h.lone_fit in
@@ -134,16 +134,16 @@ gone {rest} {out} l s t x y n p below was is ef ec es er el ei em nf fp fd h =
       stands = rw is stands.1;
       port_fit = rw is (fit_follows _ (dock.Fits (isa_of l)) (dock.past (isa_of l)) ports.Follows (ports.port_walk (isa_of l)) below _ _ fd docks.1);
       port_ends = rw (is, em) (ends_port _ _ s.mem rest out d (rw was at h.port_ends));
-      moored = rw (is, ei) (record { flown = λ k. h.moored.flown k ∙ ap (flown l k) was ∙ skip k (nf k); front = h.moored.front; plain = h.moored.plain; berths = h.moored.berths });
+      moored = rw (is, ei) (record { operations = λ k. h.moored.operations k ∙ ap (operations_of l k) was ∙ skip k (nf k); front = h.moored.front; plain = h.moored.plain; berths = h.moored.berths });
     }
   where
-    skip : (k : ℕ) → is_out l k p ≡ false → flown l k (Up n p ∷ below) ≡ flown l k below
+    skip : (k : ℕ) → in_siding l k p ≡ false → operations_of l k (Up n p ∷ below) ≡ operations_of l k below
     skip k e = rw e refl
 
-not_out : (l : Plan) (k : ℕ) (p : Passenger) → (p.launched ≡ true → p.recovered ≡ true) → is_out l k p ≡ false
+not_out : (l : Plan) (k : ℕ) (p : Passenger) → (p.launched ≡ true → p.recovered ≡ true) → in_siding l k p ≡ false
 not_out l k p f = go p.launched refl
   where
-    go : (b : Bool) → p.launched ≡ b → is_out l k p ≡ false
+    go : (b : Bool) → p.launched ≡ b → in_siding l k p ≡ false
     go true e = let z = f e in rw (e, z) refl
     go false e = rw e refl
 
@@ -302,7 +302,7 @@ live_line p d e = subst (λ (b : Bool). (if b then [] else on p.ending (line_of 
 over_line : (p : Passenger) (b : End) → p.dead ≡ false → p.ending ≡ Some b → retired_by p ≡ []
 over_line p b d e = subst (λ (b : Bool). (if b then [] else on p.ending (line_of p ∷ []) (λ e. [])) ≡ []) (sym d) (subst (λ (o : Option End). on o (line_of p ∷ []) (λ e. []) ≡ []) (sym e) refl)
 
-dst_got : (o : Option Binding) (d : Option ℕ) (regs : List ℕ) → reg_in o ≡ d → sure.Known o → sure.Agrees o regs → o ≡ got regs d
+dst_got : (o : Option Binding) (d : Option ℕ) (regs : List ℕ) → reg_in o ≡ d → IsKnown o → HasValue o regs → o ≡ got regs d
 dst_got None d regs e k a = rw (← e) refl
 dst_got (Some b) d regs e k a =
     let v : k.0 ≡ slice_index regs b.reg = a k.0 k.1 in
@@ -314,7 +314,7 @@ same_line e f g = rw (e, f, g) refl
 line_sure : (isa : Isa) (p : Passenger) (x y : Machine) (g : Option ℕ) → length x.hart.regs ≡ 32 → step_here isa x ≡ Goes y → p.pc ≡ x.hart.pc → p.done ≡ true → p.ending ≡ None → sure.IsSure isa p x (step_at isa x p.pc) g → line_of p ∷ [] ≡ lines_at isa x
 line_sure isa p x y g wide goes c d n h = go (fetched isa x.hart.mem p.pc) refl h.reads
   where
-    go : (q : Fetched) → fetched isa x.hart.mem p.pc ≡ q → sure.Reads p q → line_of p ∷ [] ≡ lines_at isa x
+    go : (q : Fetched) → fetched isa x.hart.mem p.pc ≡ q → Holds p q → line_of p ∷ [] ≡ lines_at isa x
     go (Got i) f w =
         let z = dst_got p.dst (dst_of i) (behind (step_at isa x p.pc) x).hart.regs (h.shape i w).three (h.known d n) h.value3 in
         let f' : fetched isa x.hart.mem x.hart.pc ≡ Got i = ap (fetched isa x.hart.mem) (sym c) ∙ f in

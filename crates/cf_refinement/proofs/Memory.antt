@@ -8,6 +8,7 @@ use Rattle.cf_semantics.specs.Instructions.{Bad, Fetched, Goes, Got, Stops, acce
 use Rattle.cf_semantics.specs.Options.{on}
 use Rattle.cf_semantics.specs.Passengers.{instruction, kind, missing, value_in}
 use Rattle.cf_semantics.specs.Steps.{onward, stepped_as}
+use Rattle.cf_semantics.specs.Soundness.{Holds}
 use Rattle.mem_regions.specs.Access.{bounds_of}
 use Rattle.rv_inst.specs.declared.classes.Class.{Class}
 use Rattle.rv_inst.specs.declared.classes.Class.TheVariants.{Free, Memory}
@@ -25,7 +26,7 @@ after_access x i pc a b = onward (at_pc x pc) (word_after pc) (value_written x.h
 pub l2 : (isa : Isa) (p : Passenger) (x : Machine) (g : Option ℕ) → is_memory (kind p) ≡ true → missing p.src1 ≡ None → missing p.src2 ≡ None → sure.IsSure isa p x (step_at isa x p.pc) g → (p.what ≡ Some (instruction p)) × (step_at isa x p.pc ≡ on (access_trap (instruction p) p.pc (value_in p.src1) (bounds_of x.hart.mem)) (Goes (after_access x (instruction p) p.pc (value_in p.src1) (value_in p.src2))) Stops)
 l2 isa p x g c m1 m2 h = go (fetched isa x.hart.mem p.pc) refl h.reads
   where
-    go : (q : Fetched) → fetched isa x.hart.mem p.pc ≡ q → sure.Reads p q → (p.what ≡ Some (instruction p)) × (step_at isa x p.pc ≡ on (access_trap (instruction p) p.pc (value_in p.src1) (bounds_of x.hart.mem)) (Goes (after_access x (instruction p) p.pc (value_in p.src1) (value_in p.src2))) Stops)
+    go : (q : Fetched) → fetched isa x.hart.mem p.pc ≡ q → Holds p q → (p.what ≡ Some (instruction p)) × (step_at isa x p.pc ≡ on (access_trap (instruction p) p.pc (value_in p.src1) (bounds_of x.hart.mem)) (Goes (after_access x (instruction p) p.pc (value_in p.src1) (value_in p.src2))) Stops)
     go (Got i) f w =
         let is = word_is p i w in
         let k = is_memory-is (kind_of i) (rw (kind_is p i w) at c) in

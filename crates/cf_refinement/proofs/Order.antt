@@ -17,6 +17,7 @@ use Rattle.cf_refinement.specs.Port as dock
 use Rattle.cf_refinement.specs.Lone as lone
 use Rattle.cf_refinement.specs.Sure as sure
 use Rattle.cf_semantics.specs.Path as trail
+use Rattle.cf_semantics.specs.Soundness.{is_lone, steers}
 
 -- each item stands at a stage from n on
 abbrev pub From : ℕ → List Item → Type 0
@@ -51,7 +52,7 @@ pub walk_open : (l : Plan) (xs : List Item) (b : Bool) → walk (lone.past l) xs
 walk_open l [] b e = e
 walk_open l (i ∷ xs) b e = past_open l i b (walk_open l xs (lone.past l i b) e)
 
-pub open_rider : (l : Plan) (i : ℕ) (p : Passenger) (b : Bool) → launch_stage l (port l) < i → lone.past l (Up i p) b ≡ false → (lone.holds p ≡ false) × (trail.turns p.owes ≡ false)
+pub open_rider : (l : Plan) (i : ℕ) (p : Passenger) (b : Bool) → launch_stage l (port l) < i → lone.past l (Up i p) b ≡ false → (is_lone p ≡ false) × (trail.turns p.owes ≡ false)
 unfolding lone.past
 open_rider l i p b n e = grind arith
 
@@ -78,7 +79,7 @@ nowhere l (Down i k ∷ xs) w b f h o c g =
     nowhere l xs (trail.past (isa_of l) (Down i k) w) (lone.past l (Down i k) b) f.1 h.1 o (e.0 ∙ c) (e.1 ∙ g)
 
 -- no live undone branch, jump or environment call stands above Memory's launch stage
-steady : (l : Plan) (i : ℕ) (p : Passenger) → Suits l → launch_stage l (port l) < i → Stands l i p → lone.holds p ≡ false → p.dead ≡ false → p.done ≡ false → dock.steers (kind p) ≡ false
+steady : (l : Plan) (i : ℕ) (p : Passenger) → Suits l → launch_stage l (port l) < i → Stands l i p → is_lone p ≡ false → p.dead ≡ false → p.done ≡ false → steers (kind p) ≡ false
 steady l i p acc n h o d u = go (is_control (kind p)) (is_serial (kind p)) refl refl
   where
     far : (k : Option ℕ) → siding_of l (kind p) ≡ k → is_control (kind p) ≡ true → (b c : Bool) → p.launched ≡ b → p.recovered ≡ c → ⊥
@@ -88,13 +89,13 @@ steady l i p acc n h o d u = go (is_control (kind p)) (is_serial (kind p)) refl 
     far (Some k) e a true false f g = let w = rw e at (h.out f g) in let m = acc.control_siding (kind p) k a e in omega (arith, w.1)
     far k e a true true f g = let w = h.back_done g d in absurd (cc)
 
-    go : (a b : Bool) → is_control (kind p) ≡ a → is_serial (kind p) ≡ b → dock.steers (kind p) ≡ false
+    go : (a b : Bool) → is_control (kind p) ≡ a → is_serial (kind p) ≡ b → steers (kind p) ≡ false
     go true b e f = absurd (far (siding_of l (kind p)) refl e p.launched p.recovered refl refl)
     go false true e f = absurd (grind arith)
     go false false e f = grind arith
 
 -- what is known once a rider is passed
-calm_rider : (isa : Isa) (i : ℕ) (p : Passenger) (w : dock.Dock) → w.path.barred ≡ false → w.risky ≡ false → trail.turns p.owes ≡ false → (p.dead ≡ false → p.done ≡ false → dock.steers (kind p) ≡ false) → (p.dead ≡ false → is_some p.ending ≡ false) → ((dock.past isa (Up i p) w).path.barred ≡ false) × ((dock.past isa (Up i p) w).risky ≡ false)
+calm_rider : (isa : Isa) (i : ℕ) (p : Passenger) (w : dock.Dock) → w.path.barred ≡ false → w.risky ≡ false → trail.turns p.owes ≡ false → (p.dead ≡ false → p.done ≡ false → steers (kind p) ≡ false) → (p.dead ≡ false → is_some p.ending ≡ false) → ((dock.past isa (Up i p) w).path.barred ≡ false) × ((dock.past isa (Up i p) w).risky ≡ false)
 unfolding dock.past trail.past
 calm_rider isa i p w b r t s e = grind arith
 

@@ -9,28 +9,29 @@ use Rattle.cf_bind.specs.declared.passenger.End.{End}
 use Rattle.cf_bind.specs.declared.passenger.Passenger.{Passenger}
 use Rattle.cf_refinement.proofs.Path.{Follows}
 use Rattle.cf_refinement.proofs.Steps.{sure_dst_below, finish_traps}
-use Rattle.cf_refinement.specs.Sure.{Agrees, Fits, IsSure, Known, Owed, Reads, SureAt}
+use Rattle.cf_refinement.specs.Sure.{Fits, IsSure, Owed, SureAt}
 use Rattle.cf_semantics.specs.Column.{Up}
 use Rattle.cf_semantics.specs.Instructions.{Bad, Fetched, Goes, Got, Stepped, Stops, behind, dst_of, fetched, finish_trap, step_at, value_read, value_written}
 use Rattle.cf_semantics.specs.Options.{on}
 use Rattle.cf_semantics.specs.Passengers.{finish, finished, goto_undone, guessed, instruction, is_place, kind, missing, reg_in, trapped, value_in, value_packet, with_value}
 use Rattle.cf_semantics.specs.Path.{Walk, is_trap, past}
 use Rattle.cf_semantics.specs.Walks.{Everywhere, walk}
+use Rattle.cf_semantics.specs.Soundness.{HasValue, Holds, IsKnown}
 use Rattle.rv_inst.specs.Arithmetic.{next_pc}
 use Rattle.rv_inst.specs.declared.isa.Isa.{Isa}
 use Rattle.rv_machine.specs.Machine.{Machine}
 use Rattle.rv_mul.specs.Values.{value_of}
 
-pub source_read : (o : Option Binding) (d : Option ℕ) (regs : List ℕ) → reg_in o ≡ d → Agrees o regs → missing o ≡ None → value_in o ≡ value_read regs d
+pub source_read : (o : Option Binding) (d : Option ℕ) (regs : List ℕ) → reg_in o ≡ d → HasValue o regs → missing o ≡ None → value_in o ≡ value_read regs d
 source_read o d regs e h m = grind arith
 
-pub set_agrees : (o : Option Binding) (d : Option ℕ) (v : ℕ) (regs : List ℕ) → length regs ≡ 32 → ((r : ℕ) → d ≡ Some r → r < 32) → reg_in o ≡ d → Agrees (with_value v o) (value_written regs d v)
+pub set_agrees : (o : Option Binding) (d : Option ℕ) (v : ℕ) (regs : List ℕ) → length regs ≡ 32 → ((r : ℕ) → d ≡ Some r → r < 32) → reg_in o ≡ d → HasValue (with_value v o) (value_written regs d v)
 set_agrees o d v regs l b e = grind (arith, get_or-set_same)
 
 pub set_reg : (o : Option Binding) (v : ℕ) → reg_in (with_value v o) ≡ reg_in o
 set_reg o v = grind arith
 
-pub set_known : (o : Option Binding) (v : ℕ) → Known (with_value v o)
+pub set_known : (o : Option Binding) (v : ℕ) → IsKnown (with_value v o)
 set_known None v = tt
 set_known (Some b) v = (v, refl)
 
@@ -78,7 +79,7 @@ trapped_sure isa p x s g e d i w f t h = record {
   owed = t;
 }
   where
-    reads : (q : Fetched) → Reads p q → Reads (trapped p e) q
+    reads : (q : Fetched) → Holds p q → Holds (trapped p e) q
     reads (Got j) k = k
     reads (Bad b) k = absurd (cc)
 

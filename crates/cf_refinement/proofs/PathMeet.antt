@@ -8,12 +8,13 @@ use Rattle.cf_bind.specs.declared.packet.Packet.TheVariants.{Halt, Turn, Value}
 use Rattle.cf_bind.specs.declared.passenger.Passenger.{Passenger}
 use Rattle.cf_refinement.proofs.Path.{Follows}
 use Rattle.cf_refinement.proofs.Steps.{sure_keeps}
-use Rattle.cf_refinement.specs.Sure.{Agrees, Comes, Fits, IsSourced, IsSure, Owed, SureAt}
+use Rattle.cf_refinement.specs.Sure.{Comes, Fits, IsSourced, IsSure, Owed, SureAt}
 use Rattle.cf_semantics.specs.Column.{Down, Item, Up}
 use Rattle.cf_semantics.specs.Instructions.{Stepped, behind, step_at}
 use Rattle.cf_semantics.specs.Passengers.{reg_in}
 use Rattle.cf_semantics.specs.Path.{Walk, has_reg, past, past_packet}
 use Rattle.cf_semantics.specs.Walks.{Everywhere, walk}
+use Rattle.cf_semantics.specs.Soundness.{HasValue}
 use Rattle.rv_inst.specs.declared.isa.Isa.{Isa}
 use Rattle.rv_machine.specs.Machine.{Machine}
 
@@ -21,7 +22,7 @@ abbrev pub met_items : ℕ → Passenger → Option Packet → List Item
 met_items i p None = Up i p ∷ []
 met_items i p (Some l) = Up i p ∷ Down i l ∷ []
 
-garner_agrees : (r v : ℕ) (o : Option Binding) (regs : List ℕ) → v ≡ slice_index regs r → Agrees o regs → Agrees (garnered r v o) regs
+garner_agrees : (r v : ℕ) (o : Option Binding) (regs : List ℕ) → v ≡ slice_index regs r → HasValue o regs → HasValue (garnered r v o) regs
 garner_agrees r v o regs e h = grind arith
 
 garner_comes : (r v : ℕ) (o : Option Binding) (c : ℕ → Bool) → Comes o (λ s. (s == r) || c s) → Comes (garnered r v o) c
@@ -60,7 +61,7 @@ garner_at : (isa : Isa) (p : Passenger) (r v : ℕ) (w : Walk) → v ≡ slice_i
 unfolding SureAt
 garner_at isa p r v w e h = (garner_sure isa p r v w.machine _ w.goto e h.0, garner_sourced p r v w.coming h.1)
 
-met_value : (p : Passenger) (r v : ℕ) (x y : Machine) → ((s : ℕ) → has_reg p.dst s ≡ false → slice_index y.hart.regs s ≡ slice_index x.hart.regs s) → v ≡ slice_index x.hart.regs r → Agrees p.dst y.hart.regs → (s u : ℕ) → passed r v p.dst ≡ Some (Value s u) → u ≡ slice_index y.hart.regs s
+met_value : (p : Passenger) (r v : ℕ) (x y : Machine) → ((s : ℕ) → has_reg p.dst s ≡ false → slice_index y.hart.regs s ≡ slice_index x.hart.regs s) → v ≡ slice_index x.hart.regs r → HasValue p.dst y.hart.regs → (s u : ℕ) → passed r v p.dst ≡ Some (Value s u) → u ≡ slice_index y.hart.regs s
 met_value p r v x y keeps e h s u g = grind arith
 
 met_value_at : (isa : Isa) (p : Passenger) (r v : ℕ) (w : Walk) → v ≡ slice_index w.machine.hart.regs r → SureAt isa p (past_packet (Value r v) w) → (s u : ℕ) → passed r v p.dst ≡ Some (Value s u) → u ≡ slice_index (behind (step_at isa w.machine p.pc) w.machine).hart.regs s

@@ -11,6 +11,7 @@ use Rattle.cf_semantics.specs.Moves.{answered}
 use Rattle.cf_semantics.specs.Options.{on}
 use Rattle.cf_semantics.specs.Passengers.{instruction, kind}
 use Rattle.cf_semantics.specs.Steps.{served, stepped_as}
+use Rattle.cf_semantics.specs.Soundness.{Holds}
 use Rattle.rv_inst.specs.declared.classes.Class.{Class}
 use Rattle.rv_inst.specs.declared.classes.Class.TheVariants.{Free, Serial}
 use Rattle.rv_inst.specs.declared.isa.Isa.{Isa}
@@ -23,7 +24,7 @@ use Rattle.cf_refinement.specs.Sure as sure
 pub l3 : (isa : Isa) (p : Passenger) (x : Machine) (g : Option ℕ) → kind p ≡ Serial → sure.IsSure isa p x (step_at isa x p.pc) g → (i : Instr) × (p.what ≡ Some i) × (kind_of i ≡ Serial) × (step_at isa x p.pc ≡ served (serve_of i x.hart.regs x.hart.mem x.rest) (dst_of i) (at_pc x p.pc))
 l3 isa p x g c h = go (fetched isa x.hart.mem p.pc) refl h.reads
   where
-    go : (q : Fetched) → fetched isa x.hart.mem p.pc ≡ q → sure.Reads p q → (i : Instr) × (p.what ≡ Some i) × (kind_of i ≡ Serial) × (step_at isa x p.pc ≡ served (serve_of i x.hart.regs x.hart.mem x.rest) (dst_of i) (at_pc x p.pc))
+    go : (q : Fetched) → fetched isa x.hart.mem p.pc ≡ q → Holds p q → (i : Instr) × (p.what ≡ Some i) × (kind_of i ≡ Serial) × (step_at isa x p.pc ≡ served (serve_of i x.hart.regs x.hart.mem x.rest) (dst_of i) (at_pc x p.pc))
     go (Got i) f k =
         let e : kind p ≡ kind_of i = ap (λ (o : Option Instr). on o Free kind_of) k in
         let d : kind_of i ≡ Serial = sym e ∙ c in
@@ -65,7 +66,7 @@ served_sure isa p x g a l c d e h =
       owed = (refl, h.unended d);
     }
   where
-    reads : (q : Fetched) → sure.Reads p q → sure.Reads (answered p a.value) q
+    reads : (q : Fetched) → Holds p q → Holds (answered p a.value) q
     reads (Got j) k = k
     reads (Bad b) k = k
 

@@ -18,8 +18,9 @@ use Rattle.cf_refinement.specs.Port as dock
 use Rattle.cf_refinement.specs.Lone as lone
 use Rattle.cf_refinement.specs.Sure as sure
 use Rattle.cf_semantics.specs.Path as trail
+use Rattle.cf_semantics.specs.Soundness.{is_lone}
 
-open_holds : (l : Plan) (i : ℕ) (p : Passenger) (b : Bool) → lone.past l (Up i p) b ≡ false → lone.holds p ≡ false
+open_holds : (l : Plan) (i : ℕ) (p : Passenger) (b : Bool) → lone.past l (Up i p) b ≡ false → is_lone p ≡ false
 unfolding lone.past
 open_holds l i p b e = grind arith
 
@@ -31,7 +32,7 @@ served_safe : (isa : Isa) (i : ℕ) (p : Passenger) (w : dock.Dock) → dock.Fit
 unfolding dock.Fits
 served_safe isa i p w h e = served_calm isa p w h e
 
-rider_code : (isa : Isa) (i : ℕ) (p : Passenger) (w : dock.Dock) → lone.holds p ≡ false → sure.Fits isa (Up i p) w.path → dock.Fits isa (Up i p) w → (w.path.barred ≡ true → w.risky ≡ true) → w.code ≡ code_of w.path.machine.hart.mem → (dock.past isa (Up i p) w).code ≡ code_of (dock.past isa (Up i p) w).path.machine.hart.mem
+rider_code : (isa : Isa) (i : ℕ) (p : Passenger) (w : dock.Dock) → is_lone p ≡ false → sure.Fits isa (Up i p) w.path → dock.Fits isa (Up i p) w → (w.path.barred ≡ true → w.risky ≡ true) → w.code ≡ code_of w.path.machine.hart.mem → (dock.past isa (Up i p) w).code ≡ code_of (dock.past isa (Up i p) w).path.machine.hart.mem
 unfolding dock.past trail.past sure.Fits
 rider_code isa i p w o f d s e =
     let a = served_safe isa i p w d in

@@ -14,7 +14,7 @@ use Rattle.cf_refinement.proofs.Sorted.{riders_more}
 use Rattle.cf_refinement.proofs.Spot.{Spot}
 use Rattle.cf_refinement.proofs.Stands.{each_front}
 use Rattle.cf_refinement.specs.Invariant.{Sound}
-use Rattle.cf_refinement.specs.Operations.{IsMoored, bare, flown, is_out, operations}
+use Rattle.cf_refinement.specs.Operations.{IsMoored}
 use Rattle.cf_refinement.specs.Suited.{Suits}
 use Rattle.cf_semantics.specs.Bars.{first, last_op, recover_bar, row_bar}
 use Rattle.cf_semantics.specs.Column.{Item, Up, column}
@@ -24,6 +24,7 @@ use Rattle.cf_semantics.specs.Moves.{back_in, moved, operation, set_last, with_p
 use Rattle.cf_semantics.specs.Options.{is_some, on}
 use Rattle.cf_semantics.specs.Passengers.{kind}
 use Rattle.cf_semantics.specs.State.{State, cell_at, siding_at, with_cell, with_siding}
+use Rattle.cf_semantics.specs.Soundness.{as_launched, in_siding, operations_in, operations_of}
 use Rattle.rv_machine.specs.Machine.{Machine}
 
 pub record Recovers (l : Plan) (s : State) (i : ℕ) : Type 0 where
@@ -80,11 +81,11 @@ next-recover l s i c p k op e f g h = rw (e, f) (rw g (rw h refl))
 pub record Hauls (l : Plan) (s : State) (i : ℕ) (r : Recovers l s i) (q : Spot s i r.here r.who) : Type 0 where
   pub cells : ℕ
   pub size : length (siding_at s r.number) ≡ suc cells
-  pub op : bare (Some r.what) ≡ operation r.who ∷ []
-  pub rest : operations (set_last (siding_at s r.number) None) ≡ flown l r.number q.below
-  pub above : flown l r.number q.above ≡ []
+  pub op : as_launched (Some r.what) ≡ operation r.who ∷ []
+  pub rest : operations_in (set_last (siding_at s r.number) None) ≡ operations_of l r.number q.below
+  pub above : operations_of l r.number q.above ≡ []
 
-out_here : (l : Plan) (k : ℕ) (p : Passenger) → siding_of l (kind p) ≡ Some k → p.launched ≡ true → p.recovered ≡ false → is_out l k p ≡ true
+out_here : (l : Plan) (k : ℕ) (p : Passenger) → siding_of l (kind p) ≡ Some k → p.launched ≡ true → p.recovered ≡ false → in_siding l k p ≡ true
 out_here l k p e f g = rw (f, g, e) same
   where
     same : (k == k) ≡ true
@@ -98,12 +99,12 @@ hauls {rest} {out} l s x i acc r q h =
     let n = berthed l acc s (column s) k h.moored (kind p) r.siding in
     let each = rw q.was at h.stands in
     let none = flown_range l k q.above (riders_more (λ j. i < j) (λ j. (launch_stage l k ≤ j) → (j ≤ recover_stage l k) → ⊥) q.above (λ j a b c. omega (arith, r.at_stage)) q.over) (each_front l q.above (old ++ q.below) each) in
-    let was : flown l k (column s) ≡ operation p ∷ flown l k q.below = ap (flown l k) q.was ∙ flown-append l k q.above (old ++ q.below) ∙ ap (λ (z : List Op). z ++ flown l k (old ++ q.below)) none ∙ first_out l k i p q.below (out_here l k p r.siding r.out r.never) in
-    let both : bare (Some r.what) ++ operations (set_last (siding_at s k) None) ≡ operation p ∷ flown l k q.below = sym (operations-last (siding_at s k) r.what r.lies) ∙ h.moored.flown k ∙ was in
-    let two = halves (record r.what { answer = None }) (operation p) (operations (set_last (siding_at s k) None)) (flown l k q.below) both in
+    let was : operations_of l k (column s) ≡ operation p ∷ operations_of l k q.below = ap (operations_of l k) q.was ∙ flown-append l k q.above (old ++ q.below) ∙ ap (λ (z : List Op). z ++ operations_of l k (old ++ q.below)) none ∙ first_out l k i p q.below (out_here l k p r.siding r.out r.never) in
+    let both : as_launched (Some r.what) ++ operations_in (set_last (siding_at s k) None) ≡ operation p ∷ operations_of l k q.below = sym (operations-last (siding_at s k) r.what r.lies) ∙ h.moored.operations k ∙ was in
+    let two = halves (record r.what { answer = None }) (operation p) (operations_in (set_last (siding_at s k) None)) (operations_of l k q.below) both in
     record { cells = n.0; size = n.1; op = ap (λ (z : Op). z ∷ []) two.0; rest = two.1; above = none }
   where
-    first_out : (l : Plan) (k i : ℕ) (p : Passenger) (xs : List Item) → is_out l k p ≡ true → flown l k ((Up i p ∷ []) ++ xs) ≡ operation p ∷ flown l k xs
+    first_out : (l : Plan) (k i : ℕ) (p : Passenger) (xs : List Item) → in_siding l k p ≡ true → operations_of l k ((Up i p ∷ []) ++ xs) ≡ operation p ∷ operations_of l k xs
     first_out l k i p xs e = rw e refl
 
     halves : (a b : Op) (u v : List Op) → a ∷ u ≡ b ∷ v → (a ≡ b) × (u ≡ v)
@@ -116,22 +117,22 @@ back_moored l s t i r q b g e is v h =
     let p = r.who in
     let old = Up i p ∷ [] in
     let new = Up i b ∷ [] in
-    let is_flown : flown l k (column t) ≡ flown l k q.below = ap (flown l k) is ∙ flown-append l k q.above (new ++ q.below) ∙ ap (λ (z : List Op). z ++ flown l k (new ++ q.below)) g.above ∙ gone l k i b q.below v in
-    rehung l s t (column s) (column t) k (set_last (siding_at s k) None) e g.cells g.size (set_last_size (siding_at s k) None) (g.rest ∙ sym is_flown) (λ j a. ap (flown l j) q.was ∙ flown_changed l j q.above old new q.below (other j a) ∙ ap (flown l j) (sym is)) (front_set_last (siding_at s k) None (h.front k)) (λ a. plain_set_last (siding_at s k) (h.plain k a)) h
+    let is_flown : operations_of l k (column t) ≡ operations_of l k q.below = ap (operations_of l k) is ∙ flown-append l k q.above (new ++ q.below) ∙ ap (λ (z : List Op). z ++ operations_of l k (new ++ q.below)) g.above ∙ gone l k i b q.below v in
+    rehung l s t (column s) (column t) k (set_last (siding_at s k) None) e g.cells g.size (set_last_size (siding_at s k) None) (g.rest ∙ sym is_flown) (λ j a. ap (operations_of l j) q.was ∙ flown_changed l j q.above old new q.below (other j a) ∙ ap (operations_of l j) (sym is)) (front_set_last (siding_at s k) None (h.front k)) (λ a. plain_set_last (siding_at s k) (h.plain k a)) h
   where
-    gone : (l : Plan) (k i : ℕ) (b : Passenger) (xs : List Item) → b.recovered ≡ true → flown l k ((Up i b ∷ []) ++ xs) ≡ flown l k xs
+    gone : (l : Plan) (k i : ℕ) (b : Passenger) (xs : List Item) → b.recovered ≡ true → operations_of l k ((Up i b ∷ []) ++ xs) ≡ operations_of l k xs
     gone l k i b xs v = go b.launched refl
       where
-        go : (c : Bool) → b.launched ≡ c → flown l k ((Up i b ∷ []) ++ xs) ≡ flown l k xs
+        go : (c : Bool) → b.launched ≡ c → operations_of l k ((Up i b ∷ []) ++ xs) ≡ operations_of l k xs
         go true f = rw (f, v) refl
         go false f = rw f refl
 
-    other : (j : ℕ) → j ≢ r.number → flown l j (Up i r.who ∷ []) ≡ flown l j (Up i b ∷ [])
+    other : (j : ℕ) → j ≢ r.number → operations_of l j (Up i r.who ∷ []) ≡ operations_of l j (Up i b ∷ [])
     other j a =
-        let c : is_out l j b ≡ false = grind arith in
-        let d : is_out l j r.who ≡ false = not_in (r.number == j) refl in
+        let c : in_siding l j b ≡ false = grind arith in
+        let d : in_siding l j r.who ≡ false = not_in (r.number == j) refl in
         rw (c, d) refl
       where
-        not_in : (z : Bool) → (r.number == j) ≡ z → is_out l j r.who ≡ false
+        not_in : (z : Bool) → (r.number == j) ≡ z → in_siding l j r.who ≡ false
         not_in true f = absurd (a (grind arith))
         not_in false f = let y = r.siding in grind arith

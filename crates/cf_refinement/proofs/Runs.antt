@@ -20,8 +20,8 @@ use Rattle.cf_semantics.specs.Options.{on}
 use Rattle.cf_semantics.specs.Passengers.{cached}
 use Rattle.cf_semantics.specs.Runs.{IsRun, empty_cell, empty_siding, opened, run, start}
 use Rattle.cf_semantics.specs.State.{State, Moment, siding_at}
+use Rattle.cf_semantics.specs.Soundness.{AreUnanswered, LastAnswered, operations_in}
 use Rattle.cf_refinement.specs.Invariant.{HoldsAfter, HoldsAt, IsOver, Sound}
-use Rattle.cf_refinement.specs.Operations.{Front, Plain, operations}
 use Rattle.cf_refinement.specs.Suited.{Suits}
 use Rattle.cf_refinement.proofs.Accesses.{access_kept}
 use Rattle.cf_refinement.proofs.Emit.{emit_kept}
@@ -187,15 +187,15 @@ empty_cells [] k = refl
 empty_cells (s ∷ ss) zero = refl
 empty_cells (s ∷ ss) (suc k) = empty_cells ss k
 
-no_operations : (n : ℕ) → operations (replicate n None) ≡ []
+no_operations : (n : ℕ) → operations_in (replicate n None) ≡ []
 no_operations zero = refl
 no_operations (suc n) = rw (no_operations n) refl
 
-plain_none : (n : ℕ) → Plain (replicate n None)
+plain_none : (n : ℕ) → AreUnanswered (replicate n None)
 plain_none zero = tt
 plain_none (suc n) = (tt, plain_none n)
 
-front_none : (n : ℕ) → Front (replicate n None)
+front_none : (n : ℕ) → LastAnswered (replicate n None)
 front_none zero = tt
 front_none (suc zero) = tt
 front_none (suc (suc n)) = (tt, front_none (suc n))
@@ -229,9 +229,9 @@ opened_sound l x w =
       port_fit = rw e tt;
       port_ends = rw e (record { is_mem = refl; is_code = refl; is_rest = refl; is_out = refl });
       moored = rw e (record {
-        flown = λ k. ap operations (empty_sidings l x k) ∙ no_operations (cells_of l k);
-        front = λ k. subst Front (sym (empty_sidings l x k)) (front_none (cells_of l k));
-        plain = λ k _. subst Plain (sym (empty_sidings l x k)) (plain_none (cells_of l k));
+        operations = λ k. ap operations_in (empty_sidings l x k) ∙ no_operations (cells_of l k);
+        front = λ k. subst LastAnswered (sym (empty_sidings l x k)) (front_none (cells_of l k));
+        plain = λ k _. subst AreUnanswered (sym (empty_sidings l x k)) (plain_none (cells_of l k));
         berths = λ k. ap length (empty_sidings l x k) ∙ replicate_size (cells_of l k) None;
       });
     }

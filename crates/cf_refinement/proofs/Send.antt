@@ -81,5 +81,5 @@ send_kept {rest} {out} l s x i e h =
       lone = lones.send_lone l i r.who r.what _ r.owes k.stands.0;
       stands = (send_stands l i r.who k.stands.0, tt);
       port = send_port (isa_of l) i r.who r.what _ r.owes k.safe (rw k.same k.path_fit);
-      flown = λ n. refl;
+      operations = λ n. refl;
     }) h)

@@ -13,7 +13,6 @@ use Rattle.cf_refinement.proofs.Kept.{bar_row, put_size}
 use Rattle.cf_refinement.proofs.PathServe.{after_call, l3_served, quit_sure, served_sure}
 use Rattle.cf_refinement.proofs.Quiet.{Unchanged}
 use Rattle.cf_refinement.specs.Invariant.{Sound}
-use Rattle.cf_refinement.specs.Operations.{flown}
 use Rattle.cf_refinement.specs.Stands.{Between, Stands}
 use Rattle.cf_refinement.specs.Suited.{Suits}
 use Rattle.cf_semantics.specs.Bars.{bar, is_full, row_bar, serve_bar}
@@ -39,6 +38,7 @@ use Rattle.cf_refinement.proofs.Lone as lones
 use Rattle.cf_refinement.proofs.Path as paths
 use Rattle.cf_refinement.specs.Sure as sure
 use Rattle.cf_semantics.specs.Path as trail
+use Rattle.cf_semantics.specs.Soundness.{Holds, is_lone, operations_of}
 
 pub record Serves (l : Plan) (s : State) : Type 0 where
   pub here : Cell
@@ -103,7 +103,7 @@ quit_at isa p w e k d q h =
       record { source1 = h.1.source1; source2 = h.1.source2 },
     )
   where
-    reads : (z : Fetched) → sure.Reads p z → sure.Reads (quit p e) z
+    reads : (z : Fetched) → Holds p z → Holds (quit p e) z
     reads (Got j) a = a
     reads (Bad b) a = absurd (let u = h.0.unended d in let y = a.1 in cc)
 
@@ -121,7 +121,7 @@ quit_path isa n p w e d b u k o f =
     record { fit = λ h. grind (arith, f); follows = λ h. record { barred = λ z. grind arith; machine = λ z. grind arith; goto = λ z. grind arith; settled = λ z. grind arith; trapped = λ z. grind arith; coming = λ z. grind arith } }
 
 -- nothing stands below it
-serve_lone : (l : Plan) (n : ℕ) (p q : Passenger) → lone.holds p ≡ true → Replaces Bool lone.Fits (lone.past l) lones.Follows (Up n p ∷ []) (Up n q ∷ []) false
+serve_lone : (l : Plan) (n : ℕ) (p q : Passenger) → is_lone p ≡ true → Replaces Bool lone.Fits (lone.past l) lones.Follows (Up n p ∷ []) (Up n q ∷ []) false
 unfolding lone.Fits lone.past
 serve_lone l n p q e = record { fit = λ h. h; follows = λ h. record { shut = λ _. rw e refl } }
 
@@ -144,7 +144,7 @@ idle l [] h = tt
 idle l (Up i p ∷ xs) h = shut_rider i p h.0
 idle l (Down i k ∷ xs) h = idle l xs (subst (λ (b : Bool). Everywhere lone.Fits (lone.past l) xs b) (shut_past l (Down i k)) h.1)
 
-holds_past : (l : Plan) (n : ℕ) (p : Passenger) → lone.holds p ≡ true → lone.past l (Up n p) false ≡ true
+holds_past : (l : Plan) (n : ℕ) (p : Passenger) → is_lone p ≡ true → lone.past l (Up n p) false ≡ true
 unfolding lone.past
 holds_past l n p e = rw e refl
 
@@ -237,7 +237,7 @@ quit_stands l acc p e u k h = record {
   homed = h.homed;
 }
 
-undone_serial : (p : Passenger) → p.dead ≡ false → p.done ≡ false → kind p ≡ Serial → (lone.holds p ≡ true) × (ahead.has_served p ≡ false)
+undone_serial : (p : Passenger) → p.dead ≡ false → p.done ≡ false → kind p ≡ Serial → (is_lone p ≡ true) × (ahead.has_served p ≡ false)
 undone_serial p d u k = (grind arith, grind arith)
 
 -- all that is known where it is served
@@ -247,7 +247,7 @@ pub record Scene (l : Plan) (s : State) (rest out : List ℕ) (x : Machine) (r :
   pub is : (q : Passenger) → column_from 1 (put_cell s.cells l.stages (with_passenger r.here q)) ≡ Up l.stages q ∷ below
   pub certain : sure.SureAt (isa_of l) r.who (trail.top s x)
   pub stands : Stands l l.stages r.who
-  pub holds : lone.holds r.who ≡ true
+  pub holds : is_lone r.who ≡ true
   pub unserved : ahead.has_served r.who ≡ false
   pub idle : Idle below
   pub mem : s.mem ≡ x.hart.mem
@@ -307,7 +307,7 @@ serve_by l acc m x r (called.Value a) c f h =
     (serve_lone l n p q c.holds)
     (gave_stands l acc p a.value r.live r.undone r.serial c.stands, tt)
     (record { fit = rw (c.is q) (d, fit_idle (isa_of l) c.below _ c.idle); ends = rw (c.is q) (record { is_mem = e.is_mem ∙ sym b.mem; is_code = e.is_code ∙ sym b.code; is_rest = e.is_rest ∙ sym b.rest; is_out = ap (λ (o : List ℕ). o ++ a.output) c.output ∙ e.is_out ∙ sym b.out }) })
-    (record { flown = λ k. h.moored.flown k ∙ ap (flown l k) c.was ∙ flown_changed l k [] (Up n p ∷ []) (Up n q ∷ []) c.below refl ∙ ap (flown l k) (sym (c.is q)); front = h.moored.front; plain = h.moored.plain; berths = h.moored.berths })
+    (record { operations = λ k. h.moored.operations k ∙ ap (operations_of l k) c.was ∙ flown_changed l k [] (Up n p ∷ []) (Up n q ∷ []) c.below refl ∙ ap (operations_of l k) (sym (c.is q)); front = h.moored.front; plain = h.moored.plain; berths = h.moored.berths })
     h
 serve_by l acc m x r (called.Exit z) c f h =
     let s = m.state in
@@ -324,7 +324,7 @@ serve_by l acc m x r (called.Exit z) c f h =
     (serve_lone l n p q c.holds)
     (quit_stands l acc p z r.undone r.serial c.stands, tt)
     (record { fit = rw (c.is q) (d, fit_idle (isa_of l) c.below _ c.idle); ends = rw (c.is q) (record { is_mem = c.mem ∙ sym e.mem ∙ sym b.mem; is_code = ap code_of c.mem ∙ sym e.code ∙ sym b.code; is_rest = c.input ∙ sym e.rest ∙ sym b.rest; is_out = c.output ∙ sym e.out ∙ sym b.out }) })
-    (record { flown = λ k. h.moored.flown k ∙ ap (flown l k) c.was ∙ flown_changed l k [] (Up n p ∷ []) (Up n q ∷ []) c.below refl ∙ ap (flown l k) (sym (c.is q)); front = h.moored.front; plain = h.moored.plain; berths = h.moored.berths })
+    (record { operations = λ k. h.moored.operations k ∙ ap (operations_of l k) c.was ∙ flown_changed l k [] (Up n p ∷ []) (Up n q ∷ []) c.below refl ∙ ap (operations_of l k) (sym (c.is q)); front = h.moored.front; plain = h.moored.plain; berths = h.moored.berths })
     h
 
 pub serve_kept : (l : Plan) (m : Moment) (x : Machine) → Suits l → bar l m.state Serve ≡ None → SoundAt l m x → SoundAt l (next l m Serve) x

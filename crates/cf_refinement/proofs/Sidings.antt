@@ -5,7 +5,7 @@ use Rattle.cf_bind.specs.declared.cell.Op.{Op}
 use Rattle.cf_bind.specs.declared.passenger.Passenger.{Passenger}
 use Rattle.cf_layout.specs.Layout.{Plan, cells_of, launch_stage, recover_stage, siding_of}
 use Rattle.cf_refinement.proofs.Sorted.{Riders}
-use Rattle.cf_refinement.specs.Operations.{Front, IsMoored, Plain, Unanswered, flown, is_out, operations}
+use Rattle.cf_refinement.specs.Operations.{IsMoored}
 use Rattle.cf_refinement.specs.Stands.{Each, Stands}
 use Rattle.cf_refinement.specs.Suited.{Suits}
 use Rattle.cf_semantics.specs.Bars.{last_op}
@@ -15,6 +15,7 @@ use Rattle.cf_semantics.specs.Moves.{set_last}
 use Rattle.cf_semantics.specs.Options.{on}
 use Rattle.cf_semantics.specs.Passengers.{kind}
 use Rattle.cf_semantics.specs.State.{State, siding_at}
+use Rattle.cf_semantics.specs.Soundness.{AreUnanswered, IsUnanswered, LastAnswered, in_siding, operations_in, operations_of}
 use Rattle.rv_machine.specs.Machine.{Machine}
 use Rattle.cf_refinement.specs.Port as dock
 
@@ -46,20 +47,20 @@ last_set (a ∷ b ∷ []) n o e = refl
 last_set (a ∷ b ∷ c ∷ l) zero o e = absurd (omega arith)
 last_set (a ∷ b ∷ c ∷ l) (suc n) o e = last_set (b ∷ c ∷ l) n o (omega arith)
 
-pub front_set_last : (l : List (Option Op)) (o : Option Op) → Front l → Front (set_last l o)
+pub front_set_last : (l : List (Option Op)) (o : Option Op) → LastAnswered l → LastAnswered (set_last l o)
 front_set_last [] o h = tt
 front_set_last (a ∷ []) o h = tt
 front_set_last (a ∷ b ∷ []) o h = (h.0, tt)
 front_set_last (a ∷ b ∷ c ∷ l) o h = (h.0, front_set_last (b ∷ c ∷ l) o h.1)
 
-pub plain_set_last : (l : List (Option Op)) → Plain l → Plain (set_last l None)
+pub plain_set_last : (l : List (Option Op)) → AreUnanswered l → AreUnanswered (set_last l None)
 plain_set_last [] h = tt
 plain_set_last (a ∷ []) h = (tt, tt)
 plain_set_last (a ∷ b ∷ l) h = (h.0, plain_set_last (b ∷ l) h.1)
 
-pub plain_last : (l : List (Option Op)) (op : Op) → Plain l → last_op l ≡ Some op → op.answer ≡ None
+pub plain_last : (l : List (Option Op)) (op : Op) → AreUnanswered l → last_op l ≡ Some op → op.answer ≡ None
 plain_last [] op h e = absurd (cc)
-plain_last (a ∷ []) op h e = subst Unanswered e h.0
+plain_last (a ∷ []) op h e = subst IsUnanswered e h.0
 plain_last (a ∷ b ∷ l) op h e = plain_last (b ∷ l) op h.1 e
 
 -- a siding's class and number
@@ -67,8 +68,8 @@ pub berthed : (l : Plan) → Suits l → (s : State) (xs : List Item) (k : ℕ) 
 berthed l acc s xs k h c e = let b = acc.berth c k e in (b.0, h.berths k ∙ b.1)
 
 -- one siding's cells change, the others stay
-pub rehung : (l : Plan) (s t : State) (xs ys : List Item) (k : ℕ) (q : List (Option Op)) → t.sidings ≡ slice_set s.sidings k q → (n : ℕ) → length (siding_at s k) ≡ suc n → length q ≡ length (siding_at s k) → operations q ≡ flown l k ys → ((j : ℕ) → j ≢ k → flown l j xs ≡ flown l j ys) → Front q → (k ≢ (port l) → Plain q) → IsMoored l s xs → IsMoored l t ys
-rehung l s t xs ys k q e n b z f g fr pl h = record { flown = λ j. go1 j (j == k) refl; front = λ j. go2 j (j == k) refl; plain = λ j. go3 j (j == k) refl; berths = λ j. go4 j (j == k) refl }
+pub rehung : (l : Plan) (s t : State) (xs ys : List Item) (k : ℕ) (q : List (Option Op)) → t.sidings ≡ slice_set s.sidings k q → (n : ℕ) → length (siding_at s k) ≡ suc n → length q ≡ length (siding_at s k) → operations_in q ≡ operations_of l k ys → ((j : ℕ) → j ≢ k → operations_of l j xs ≡ operations_of l j ys) → LastAnswered q → (k ≢ (port l) → AreUnanswered q) → IsMoored l s xs → IsMoored l t ys
+rehung l s t xs ys k q e n b z f g fr pl h = record { operations = λ j. go1 j (j == k) refl; front = λ j. go2 j (j == k) refl; plain = λ j. go3 j (j == k) refl; berths = λ j. go4 j (j == k) refl }
   where
     same : (j : ℕ) → (j == k) ≡ true → j ≡ k
     same j e = grind arith
@@ -82,24 +83,24 @@ rehung l s t xs ys k q e n b z f g fr pl h = record { flown = λ j. go1 j (j == 
     other : (j : ℕ) → (j == k) ≡ false → siding_at t j ≡ siding_at s j
     other j d = rw e (put_other s.sidings k j q (apart j d))
 
-    go1 : (j : ℕ) (b : Bool) → (j == k) ≡ b → operations (siding_at t j) ≡ flown l j ys
-    go1 j true d = ap operations (here j d) ∙ f ∙ ap (λ (m : ℕ). flown l m ys) (sym (same j d))
-    go1 j false d = ap operations (other j d) ∙ h.flown j ∙ g j (apart j d)
+    go1 : (j : ℕ) (b : Bool) → (j == k) ≡ b → operations_in (siding_at t j) ≡ operations_of l j ys
+    go1 j true d = ap operations_in (here j d) ∙ f ∙ ap (λ (m : ℕ). operations_of l m ys) (sym (same j d))
+    go1 j false d = ap operations_in (other j d) ∙ h.operations j ∙ g j (apart j d)
 
-    go2 : (j : ℕ) (b : Bool) → (j == k) ≡ b → Front (siding_at t j)
-    go2 j true d = subst Front (sym (here j d)) fr
-    go2 j false d = subst Front (sym (other j d)) (h.front j)
+    go2 : (j : ℕ) (b : Bool) → (j == k) ≡ b → LastAnswered (siding_at t j)
+    go2 j true d = subst LastAnswered (sym (here j d)) fr
+    go2 j false d = subst LastAnswered (sym (other j d)) (h.front j)
 
-    go3 : (j : ℕ) (b : Bool) → (j == k) ≡ b → j ≢ (port l) → Plain (siding_at t j)
-    go3 j true d a = subst Plain (sym (here j d)) (pl (λ z. a (same j d ∙ z)))
-    go3 j false d a = subst Plain (sym (other j d)) (h.plain j a)
+    go3 : (j : ℕ) (b : Bool) → (j == k) ≡ b → j ≢ (port l) → AreUnanswered (siding_at t j)
+    go3 j true d a = subst AreUnanswered (sym (here j d)) (pl (λ z. a (same j d ∙ z)))
+    go3 j false d a = subst AreUnanswered (sym (other j d)) (h.plain j a)
 
     go4 : (j : ℕ) (b : Bool) → (j == k) ≡ b → length (siding_at t j) ≡ cells_of l j
     go4 j true d = ap length (here j d) ∙ z ∙ h.berths k ∙ ap (cells_of l) (sym (same j d))
     go4 j false d = ap length (other j d) ∙ h.berths j
 
 -- outside its siding's stages no passenger is out
-out_range : (l : Plan) (k i : ℕ) (p : Passenger) → Stands l i p → ((launch_stage l k ≤ i) → (i ≤ recover_stage l k) → ⊥) → is_out l k p ≡ false
+out_range : (l : Plan) (k i : ℕ) (p : Passenger) → Stands l i p → ((launch_stage l k ≤ i) → (i ≤ recover_stage l k) → ⊥) → in_siding l k p ≡ false
 out_range l k i p h n = go p.launched p.recovered (siding_of l (kind p)) refl refl refl
   where
     apart : (j : ℕ) → (launch_stage l j ≤ i) × (i ≤ recover_stage l j) → (j == k) ≡ false
@@ -109,13 +110,13 @@ out_range l k i p h n = go p.launched p.recovered (siding_of l (kind p)) refl re
         decide false e = e
         decide true e = let s : j ≡ k = grind arith in let t = subst (λ (m : ℕ). (launch_stage l m ≤ i) × (i ≤ recover_stage l m)) s q in absurd (n t.0 t.1)
 
-    go : (a b : Bool) (o : Option ℕ) → p.launched ≡ a → p.recovered ≡ b → siding_of l (kind p) ≡ o → is_out l k p ≡ false
+    go : (a b : Bool) (o : Option ℕ) → p.launched ≡ a → p.recovered ≡ b → siding_of l (kind p) ≡ o → in_siding l k p ≡ false
     go false b o e f g = rw e refl
     go true true o e f g = rw (e, f) refl
     go true false None e f g = rw (e, f, g) refl
     go true false (Some j) e f g = let w = rw g at (h.out e f) in rw (e, f, g) (apart j w)
 
-pub flown_range : (l : Plan) (k : ℕ) (xs : List Item) → Riders (λ i. (launch_stage l k ≤ i) → (i ≤ recover_stage l k) → ⊥) xs → Each l xs → flown l k xs ≡ []
+pub flown_range : (l : Plan) (k : ℕ) (xs : List Item) → Riders (λ i. (launch_stage l k ≤ i) → (i ≤ recover_stage l k) → ⊥) xs → Each l xs → operations_of l k xs ≡ []
 flown_range l k [] f h = refl
 flown_range l k (Up i p ∷ xs) f h = rw (out_range l k i p h.0 f.0) (flown_range l k xs f.1 h.1)
 flown_range l k (Down i q ∷ xs) f h = flown_range l k xs f h
@@ -131,7 +132,7 @@ pub last_cons : (o : Option Op) (l : List (Option Op)) (n : ℕ) → length l �
 last_cons o [] n e = absurd (cc)
 last_cons o (a ∷ l) n e = refl
 
-pub front_cons : (o : Option Op) (l : List (Option Op)) → Unanswered o → Front l → Front (o ∷ l)
+pub front_cons : (o : Option Op) (l : List (Option Op)) → IsUnanswered o → LastAnswered l → LastAnswered (o ∷ l)
 front_cons o [] a h = tt
 front_cons o (b ∷ l) a h = (a, h)
 

@@ -8,7 +8,6 @@ use Rattle.cf_refinement.proofs.Flown.{operations-slide}
 use Rattle.cf_refinement.proofs.Kept.{bar_row}
 use Rattle.cf_refinement.proofs.Sidings.{answer_here, front_cons, last_answer, last_cons, rehung, some_cells, top_same}
 use Rattle.cf_refinement.specs.Invariant.{Sound}
-use Rattle.cf_refinement.specs.Operations.{Front, Plain, Unanswered}
 use Rattle.cf_semantics.specs.Bars.{bar, row_bar, slide_bar}
 use Rattle.cf_semantics.specs.Column.{column}
 use Rattle.cf_semantics.specs.Layouts.{isa_of}
@@ -16,6 +15,7 @@ use Rattle.cf_semantics.specs.Moves.{moved}
 use Rattle.cf_semantics.specs.Options.{on}
 use Rattle.cf_semantics.specs.State.{State, siding_at, with_siding}
 use Rattle.cf_semantics.specs.Walks.{Everywhere, walk}
+use Rattle.cf_semantics.specs.Soundness.{AreUnanswered, IsUnanswered, LastAnswered}
 use Rattle.rv_machine.specs.Machine.{Machine}
 use Rattle.cf_refinement.specs.Port as dock
 
@@ -41,24 +41,24 @@ next-slide l s k c op e = rw (e, add-one) refl
 pub slide_size : (l : List (Option Op)) (c : ℕ) (op : Op) → length (slice_set (slice_set l c None) (suc c) (Some op)) ≡ length l
 slide_size l c op = length-set (slice_set l c None) (suc c) (Some op) ∙ length-set l c None
 
-slide_plain : (l : List (Option Op)) (c : ℕ) (op : Op) → slice_get l c ≡ Some (Some op) → Plain l → Plain (slice_set (slice_set l c None) (suc c) (Some op))
+slide_plain : (l : List (Option Op)) (c : ℕ) (op : Op) → slice_get l c ≡ Some (Some op) → AreUnanswered l → AreUnanswered (slice_set (slice_set l c None) (suc c) (Some op))
 slide_plain [] c op e h = tt
 slide_plain (o ∷ []) zero op e h = (tt, tt)
-slide_plain (o ∷ q ∷ l) zero op e h = let z : o ≡ Some op = cc in (tt, (subst Unanswered z h.0, h.1.1))
+slide_plain (o ∷ q ∷ l) zero op e h = let z : o ≡ Some op = cc in (tt, (subst IsUnanswered z h.0, h.1.1))
 slide_plain (o ∷ l) (suc c) op e h = (h.0, slide_plain l c op e h.1)
 
-slide_front : (l : List (Option Op)) (c : ℕ) (op : Op) → slice_get l c ≡ Some (Some op) → Front l → Front (slice_set (slice_set l c None) (suc c) (Some op))
+slide_front : (l : List (Option Op)) (c : ℕ) (op : Op) → slice_get l c ≡ Some (Some op) → LastAnswered l → LastAnswered (slice_set (slice_set l c None) (suc c) (Some op))
 slide_front [] c op e h = tt
 slide_front (o ∷ []) zero op e h = tt
 slide_front (o ∷ q ∷ []) zero op e h = (tt, tt)
-slide_front (o ∷ q ∷ r ∷ l) zero op e h = let z : o ≡ Some op = cc in (tt, (subst Unanswered z h.0, h.1.1))
+slide_front (o ∷ q ∷ r ∷ l) zero op e h = let z : o ≡ Some op = cc in (tt, (subst IsUnanswered z h.0, h.1.1))
 slide_front (o ∷ []) (suc c) op e h = tt
 slide_front (o ∷ q ∷ l) (suc c) op e h = front_cons o _ h.0 (slide_front (q ∷ l) c op e h.1)
 
-slide_answer : (l : List (Option Op)) (c : ℕ) (op : Op) → slice_get l c ≡ Some (Some op) → slice_get l (suc c) ≡ Some None → Front l → last_answer (slice_set (slice_set l c None) (suc c) (Some op)) ≡ last_answer l
+slide_answer : (l : List (Option Op)) (c : ℕ) (op : Op) → slice_get l c ≡ Some (Some op) → slice_get l (suc c) ≡ Some None → LastAnswered l → last_answer (slice_set (slice_set l c None) (suc c) (Some op)) ≡ last_answer l
 slide_answer [] c op e f h = refl
 slide_answer (o ∷ []) zero op e f h = absurd (cc)
-slide_answer (o ∷ q ∷ []) zero op e f h = let z : o ≡ Some op = cc in let y : q ≡ None = cc in rw y (subst Unanswered z h.0)
+slide_answer (o ∷ q ∷ []) zero op e f h = let z : o ≡ Some op = cc in let y : q ≡ None = cc in rw y (subst IsUnanswered z h.0)
 slide_answer (o ∷ q ∷ r ∷ l) zero op e f h = refl
 slide_answer (o ∷ []) (suc c) op e f h = absurd (cc)
 slide_answer (o ∷ q ∷ l) (suc c) op e f h = ap (λ (z : Option Op). on z None (λ p. p.answer)) (last_cons o _ (length l) (slide_size (q ∷ l) c op)) ∙ slide_answer (q ∷ l) c op e f h.1
@@ -83,5 +83,5 @@ slide_kept {rest} {out} l s x k c e h =
       stands = h.stands;
       port_fit = subst (λ (w : dock.Dock). Everywhere (dock.Fits (isa_of l)) (dock.past (isa_of l)) (column s) w) (sym top) h.port_fit;
       port_ends = subst (λ (w : dock.Dock). dock.Ends (walk (dock.past (isa_of l)) (column s) w) s.mem rest out) (sym top) h.port_ends;
-      moored = rehung l s t (column s) (column s) k new refl n.0 n.1 (slide_size old c r.what) (operations-slide old c r.what r.here r.there ∙ h.moored.flown k) (λ j a. refl) (slide_front old c r.what r.here (h.moored.front k)) (λ a. slide_plain old c r.what r.here (h.moored.plain k a)) h.moored;
+      moored = rehung l s t (column s) (column s) k new refl n.0 n.1 (slide_size old c r.what) (operations-slide old c r.what r.here r.there ∙ h.moored.operations k) (λ j a. refl) (slide_front old c r.what r.here (h.moored.front k)) (λ a. slide_plain old c r.what r.here (h.moored.plain k a)) h.moored;
     })

@@ -1,30 +1,22 @@
 -- From the invariant: what nothing follows, parts (h) and (i) of soundness.
-use Rattle.std.proofs.Common.{◌≡◌, ℕ, ◌<◌, List, [], ◌∷◌, ◌++◌, Some, Bool, true, false, refl, sym, ap, subst, ◌∙◌, arith}
+use Rattle.std.proofs.Common.{◌≡◌, ℕ, ◌<◌, List, [], ◌∷◌, ◌++◌, Some, Bool, true, false, refl, ap, subst, ◌∙◌, arith}
 use Rattle.std.proofs.lemmas.Bool.Decides.{nat_tests}
 use Rattle.rv_machine.specs.Machine.{Machine}
 use Rattle.cf_layout.specs.Accepted.{memory_launch}
 use Rattle.cf_layout.specs.Layout.{Plan}
 use Rattle.cf_bind.specs.declared.packet.Fetch.TheVariants.{Waiting}
 use Rattle.cf_bind.specs.declared.packet.Packet.{Packet}
-use Rattle.cf_bind.specs.declared.passenger.Guess.{Guess}
 use Rattle.cf_bind.specs.declared.passenger.Passenger.{Passenger}
 use Rattle.cf_semantics.specs.Column.{Down, Item, Up, column}
 use Rattle.cf_semantics.specs.Path.{turns}
 use Rattle.cf_semantics.specs.Places.{IsHarmless}
-use Rattle.cf_semantics.specs.Soundness.{HighBarriers, NoFollower, is_lone, waits}
+use Rattle.cf_semantics.specs.Soundness.{HighBarriers, NoFollower, is_lone}
 use Rattle.cf_semantics.specs.State.{State}
 use Rattle.cf_semantics.specs.Walks.{Everywhere, walk}
 use Rattle.cf_refinement.specs.Invariant.{Sound}
 use Rattle.cf_refinement.specs.Lone as lone
 use Rattle.cf_refinement.proofs.Accepted.{launch_is}
 use Rattle.cf_refinement.proofs.Fold.{fit_back, walk-append}
-
--- the two words for a guess to wait agree
-waits_is : (g : Guess) → waits g ≡ lone.waits g
-waits_is g = grind arith
-
-lone_is : (p : Passenger) → is_lone p ≡ lone.holds p
-lone_is p = rw (waits_is p.guess) refl
 
 -- below what nothing may follow
 shut_past : (plan : Plan) (i : Item) → lone.past plan i true ≡ true
@@ -63,12 +55,12 @@ alone plan s x above i below e shut h =
     (harmless plan below (subst (λ (z : Bool). Everywhere lone.Fits (lone.past plan) below z) (shut b) fit.1), h.lone_ends all)
 
 -- (h) no follower
-lone_shuts : (plan : Plan) (i : ℕ) (p : Passenger) (b : Bool) → lone.holds p ≡ true → lone.past plan (Up i p) b ≡ true
+lone_shuts : (plan : Plan) (i : ℕ) (p : Passenger) (b : Bool) → is_lone p ≡ true → lone.past plan (Up i p) b ≡ true
 unfolding lone.past
 lone_shuts plan i p b e = grind arith
 
 pub no_follower : {rest out : List ℕ} (plan : Plan) (s : State) (x : Machine) → Sound plan s rest out x → NoFollower s
-no_follower plan s x h p e = alone plan s x p.above (Up p.stage p.who) p.below p.split (λ b. lone_shuts plan p.stage p.who b (sym (lone_is p.who) ∙ e)) h
+no_follower plan s x h p e = alone plan s x p.above (Up p.stage p.who) p.below p.split (λ b. lone_shuts plan p.stage p.who b e) h
 
 -- (i) high barriers
 is_high : (plan : Plan) (i : ℕ) → memory_launch plan < i → lone.is_high plan i ≡ true

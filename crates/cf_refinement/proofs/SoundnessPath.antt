@@ -10,14 +10,14 @@ use Rattle.cf_bind.specs.declared.packet.Packet.TheVariants.{Value, Turn, Halt}
 use Rattle.cf_bind.specs.declared.passenger.End.{End}
 use Rattle.cf_bind.specs.declared.passenger.Passenger.{Passenger}
 use Rattle.cf_semantics.specs.Column.{Down, Item, Up}
-use Rattle.cf_semantics.specs.Instructions.{Bad, Fetched, Got, behind, fetched, step_at}
+use Rattle.cf_semantics.specs.Instructions.{behind, fetched, step_at}
 use Rattle.cf_semantics.specs.Layouts.{isa_of}
 use Rattle.cf_semantics.specs.Options.{When, is_some}
 use Rattle.cf_semantics.specs.Passengers.{goto, missing, unknown}
 use Rattle.cf_semantics.specs.Path as trail
 use Rattle.cf_semantics.specs.Path.{Walk, has_reg, is_sure, is_trap, turns}
 use Rattle.cf_semantics.specs.Places.{known}
-use Rattle.cf_semantics.specs.Soundness.{FirstBarrier, HasValue, HasValues, Holds, IsFirstBarrier, IsKnown, IsOnItsWay, IsPath, OwesValue, PacketHasValue, SourcesCome, Values, brings_value, owes_value}
+use Rattle.cf_semantics.specs.Soundness.{FirstBarrier, HasValues, Holds, IsFirstBarrier, IsOnItsWay, IsPath, OwesValue, PacketHasValue, SourcesCome, Values, brings_value, owes_value}
 use Rattle.cf_semantics.specs.State.{State}
 use Rattle.cf_semantics.specs.Walks.{Everywhere, walk}
 use Rattle.cf_refinement.specs.Invariant.{Sound}
@@ -41,14 +41,6 @@ unfolding sure.Fits
 fitting isa i k w h = h
 
 -- (a) values
-has_value : (o : Option Binding) (regs : List ℕ) → sure.Agrees o regs → HasValue o regs
-has_value None regs h = tt
-has_value (Some b) regs h = h
-
-is_known : (o : Option Binding) → sure.Known o → IsKnown o
-is_known None h = tt
-is_known (Some b) h = h
-
 owes_its_value : (o : Option Packet) (p : Passenger) → sure.Owed o p → OwesValue o p.dst
 owes_its_value None p h = tt
 owes_its_value (Some (Value r v)) p h = h.0
@@ -58,13 +50,13 @@ owes_its_value (Some Halt) p h = tt
 has_values : (isa : Isa) (p : Passenger) (w : Walk) → sure.SureAt isa p w → HasValues p w.machine (step_at isa w.machine p.pc)
 unfolding sure.SureAt
 has_values isa p w h = record {
-  first = has_value p.src1 w.machine.hart.regs h.0.value1;
-  second = has_value p.src2 w.machine.hart.regs h.0.value2;
-  destination = has_value p.dst (behind (step_at isa w.machine p.pc) w.machine).hart.regs h.0.value3;
+  first = h.0.value1;
+  second = h.0.value2;
+  destination = h.0.value3;
   owed = owes_its_value p.owes p h.0.owed;
   goes = h.0.goes;
   next = h.0.next;
-  done = λ d e. is_known p.dst (h.0.known d e);
+  done = h.0.known;
   ends = h.0.ends;
 }
 
@@ -87,13 +79,9 @@ values plan s x h = record {
 }
 
 -- (b) path
-holds : (p : Passenger) (f : Fetched) → sure.Reads p f → Holds p f
-holds p (Got i) h = h
-holds p (Bad e) h = h
-
 on_path : (isa : Isa) (p : Passenger) (w : Walk) → sure.SureAt isa p w → (w.goto ≡ Some p.pc) × Holds p (fetched isa w.machine.hart.mem p.pc)
 unfolding sure.SureAt
-on_path isa p w h = (h.0.path, holds p (fetched isa w.machine.hart.mem p.pc) h.0.reads)
+on_path isa p w h = (h.0.path, h.0.reads)
 
 pub path : {rest out : List ℕ} (plan : Plan) (s : State) (x : Machine) → Sound plan s rest out x → IsPath (isa_of plan) s x
 path plan s x h p =

@@ -2,7 +2,6 @@
 use Rattle.std.proofs.Common.{◌≡◌, ℕ, zero, suc, ◌+◌, List, [], ◌∷◌, ◌++◌, Option, Bool, true, false, ◌||◌, not, refl, sym, ap, ◌∙◌, arith, ◌⊎◌, inl, inr}
 use Rattle.std.specs.Prelude.{if◌then◌else◌}
 use Rattle.std.specs.List.{list_any}
-use Rattle.rv_inst.specs.declared.classes.Class.{Class}
 use Rattle.rv_inst.specs.declared.isa.Isa.{Isa}
 use Rattle.rv_machine.specs.Machine.{Machine}
 use Rattle.cf_layout.specs.Layout.{Plan}
@@ -16,7 +15,7 @@ use Rattle.cf_semantics.specs.Layouts.{isa_of}
 use Rattle.cf_semantics.specs.Passengers.{kind}
 use Rattle.cf_semantics.specs.Path as trail
 use Rattle.cf_semantics.specs.Places.{machine_behind}
-use Rattle.cf_semantics.specs.Soundness.{MemoryOrder, PortAgrees, may_turn, steers}
+use Rattle.cf_semantics.specs.Soundness.{MemoryOrder, PortAgrees, may_turn}
 use Rattle.cf_semantics.specs.State.{State}
 use Rattle.cf_semantics.specs.Walks.{Everywhere, walk}
 use Rattle.cf_refinement.specs.Invariant.{Sound}
@@ -30,11 +29,8 @@ use Rattle.cf_refinement.proofs.Port.{ported_calm}
 use Rattle.cf_refinement.proofs.Serve.{Idle}
 
 -- (j) memory order
-steers_is : (c : Class) → steers c ≡ dock.steers c
-steers_is c = grind arith
-
 may_turn_rider : (isa : Isa) (i : ℕ) (p : Passenger) (w : dock.Dock) → (dock.past isa (Up i p) w).risky ≡ false → may_turn (Up i p) ≡ false
-may_turn_rider isa i p w e = let q = (risk_past isa i p w e).1 in rw (steers_is (kind p)) q
+may_turn_rider isa i p w e = (risk_past isa i p w e).1
 
 may_turn_packet : (isa : Isa) (i : ℕ) (k : Packet) (w : dock.Dock) → (dock.past isa (Down i k) w).risky ≡ false → may_turn (Down i k) ≡ false
 unfolding dock.past

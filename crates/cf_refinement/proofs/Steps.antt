@@ -48,7 +48,8 @@ use Rattle.cf_semantics.specs.Passengers.{kind, instruction, reg_in}
 use Rattle.cf_semantics.specs.Steps.{onward, served, stepped_as}
 use Rattle.cf_semantics.specs.Path.{is_trap, has_reg}
 use Rattle.cf_semantics.specs.Fetches.{area_text, code_of}
-use Rattle.cf_refinement.specs.Sure.{IsSure, Reads}
+use Rattle.cf_semantics.specs.Soundness.{Holds}
+use Rattle.cf_refinement.specs.Sure.{IsSure}
 use Rattle.cf_refinement.specs.Suited.{is_plain}
 
 -- what was fetched: the word there, which is read as the instruction
@@ -408,7 +409,7 @@ not_reg o d r e f g = grind (arith, nat_tests)
 pub sure_keeps : (isa : Isa) (p : Passenger) (x : Machine) (g : Option ℕ) → IsSure isa p x (step_at isa x p.pc) g → (r : ℕ) → has_reg p.dst r ≡ false → slice_index (behind (step_at isa x p.pc) x).hart.regs r ≡ slice_index x.hart.regs r
 sure_keeps isa p x g h r f = go (fetched isa x.hart.mem p.pc) refl h.reads
   where
-    go : (q : Fetched) → fetched isa x.hart.mem p.pc ≡ q → Reads p q → slice_index (behind (step_at isa x p.pc) x).hart.regs r ≡ slice_index x.hart.regs r
+    go : (q : Fetched) → fetched isa x.hart.mem p.pc ≡ q → Holds p q → slice_index (behind (step_at isa x p.pc) x).hart.regs r ≡ slice_index x.hart.regs r
     go (Got i) e k = (step_keeps isa x p.pc i e).other r (not_reg p.dst (dst_of i) r (h.shape i k).three f)
     go (Bad b) e k = rw (bad_stays isa x p.pc b e) refl
 
@@ -559,7 +560,7 @@ leaves_at (Stops e) x pc h = record { code = refl; rest = refl; out = refl }
 pub sure_leaves : (isa : Isa) (p : Passenger) (x : Machine) (g : Option ℕ) → IsSure isa p x (step_at isa x p.pc) g → is_serial (kind p) ≡ false → Leaves x (behind (step_at isa x p.pc) x)
 sure_leaves isa p x g h c = go (fetched isa x.hart.mem p.pc) refl h.reads
   where
-    go : (q : Fetched) → fetched isa x.hart.mem p.pc ≡ q → Reads p q → Leaves x (behind (step_at isa x p.pc) x)
+    go : (q : Fetched) → fetched isa x.hart.mem p.pc ≡ q → Holds p q → Leaves x (behind (step_at isa x p.pc) x)
     go (Got i) e k = leaves_at (step_at isa x p.pc) x p.pc (rw (step_is isa x p.pc i e) (class_leaves (kind_of i) i (value_read x.hart.regs (src1_of i)) (value_read x.hart.regs (src2_of i)) (at_pc x p.pc) (rw (kind_is p i k) at c)))
     go (Bad b) e k = rw (bad_stays isa x p.pc b e) (record { code = refl; rest = refl; out = refl })
 
@@ -611,6 +612,6 @@ step_writes isa x pc i n f e = class_writes (kind_of i) i (value_read x.hart.reg
 pub sure_dst_below : (isa : Isa) (p : Passenger) (x : Machine) (s : Stepped) (g : Option ℕ) (i : Instr) → p.what ≡ Some i → IsSure isa p x s g → (r : ℕ) → dst_of i ≡ Some r → r < 32
 sure_dst_below isa p x s g i w h = go (fetched isa x.hart.mem p.pc) refl h.reads
   where
-    go : (q : Fetched) → fetched isa x.hart.mem p.pc ≡ q → Reads p q → (r : ℕ) → dst_of i ≡ Some r → r < 32
+    go : (q : Fetched) → fetched isa x.hart.mem p.pc ≡ q → Holds p q → (r : ℕ) → dst_of i ≡ Some r → r < 32
     go (Got j) e k = let y : j ≡ i = cc in dst_below isa x.hart.mem p.pc i (e ∙ ap Got y)
     go (Bad b) e k = absurd (let y = k.0 in cc)

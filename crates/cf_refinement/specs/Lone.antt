@@ -1,33 +1,21 @@
 -- What nothing may follow.
-use Rattle.std.specs.Prelude.{◌≡◌, ℕ, Some, Bool, true, false, ◌&&◌, ◌||◌, not, nat_lt}
+use Rattle.std.specs.Prelude.{◌≡◌, ℕ, Some, Bool, true, false, ◌&&◌, ◌||◌, nat_lt}
 use Rattle.cf_layout.specs.Layout.{Plan, launch_stage}
 use Rattle.cf_bind.specs.declared.packet.Fetch.{Fetch}
 use Rattle.cf_bind.specs.declared.packet.Fetch.TheVariants.{Waiting}
-use Rattle.cf_bind.specs.declared.passenger.Guess.{Guess}
-use Rattle.cf_bind.specs.declared.passenger.Guess.TheVariants.{Wait}
 use Rattle.cf_bind.specs.declared.passenger.Passenger.{Passenger}
-use Rattle.cf_semantics.specs.Options.{is_some}
-use Rattle.cf_semantics.specs.Instructions.{is_serial, is_free}
 use Rattle.cf_semantics.specs.Column.{Item, Up, Down}
-use Rattle.cf_semantics.specs.Passengers.{kind}
 use Rattle.cf_semantics.specs.Layouts.{port}
 use Rattle.cf_semantics.specs.Path.{turns}
-
-abbrev pub waits : Guess → Bool
-waits Wait = true
-waits _ = false
+use Rattle.cf_semantics.specs.Soundness.{is_lone}
 
 -- above the stage from which memory is reached
 abbrev pub is_high : Plan → ℕ → Bool
 is_high plan i = nat_lt (launch_stage plan (port plan)) i
 
--- it is live, and not executed while fetch waits for it, or it ended when it was issued or served
-abbrev pub holds : Passenger → Bool
-holds p = not p.dead && ((not p.done && (is_serial (kind p) || waits p.guess)) || (is_some p.ending && (is_free (kind p) || is_serial (kind p))))
-
 -- nothing may follow it
 abbrev pub shuts : Plan → ℕ → Passenger → Bool
-shuts plan i p = holds p || (turns p.owes && is_high plan i)
+shuts plan i p = is_lone p || (turns p.owes && is_high plan i)
 
 -- an item, with whether something above it lets nothing follow
 unfoldable pub Fits : Item → Bool → Type 0

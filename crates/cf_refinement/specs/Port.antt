@@ -1,13 +1,10 @@
 -- The order of memory operations, and what memory, input and output have come to.
-use Rattle.std.specs.Prelude.{◌≡◌, ℕ, List, Option, Some, None, Bool, true, false, ◌&&◌, ◌||◌, not, if◌then◌else◌, slice_index}
+use Rattle.std.specs.Prelude.{◌≡◌, ℕ, List, Option, Some, None, Bool, true, false, ◌&&◌, ◌||◌, not, if◌then◌else◌}
 use Rattle.mem_regions.specs.Memory.{Memory}
 use Rattle.mem_regions.specs.Access.{bounds_of}
 use Rattle.rv_inst.specs.declared.isa.Isa.{Isa}
-use Rattle.rv_inst.specs.declared.classes.Class.{Class}
-use Rattle.rv_inst.specs.declared.classes.Class.TheVariants.{Branch, Jump, Serial}
 use Rattle.rv_machine.specs.Machine.{Machine}
 use Rattle.cf_layout.specs.Layout.{Plan}
-use Rattle.cf_bind.specs.declared.binding.Binding.{Binding}
 use Rattle.cf_bind.specs.declared.passenger.Passenger.{Passenger}
 use Rattle.cf_semantics.specs.Options.{is_some}
 use Rattle.cf_semantics.specs.Instructions.{is_memory, step_at, behind, access_trap}
@@ -17,6 +14,7 @@ use Rattle.cf_semantics.specs.Passengers.{instruction, kind, value_in}
 use Rattle.cf_semantics.specs.Ahead.{has_served, flies, has_ported, answer_there}
 use Rattle.cf_semantics.specs.Path as path
 use Rattle.cf_semantics.specs.Fetches.{Text, code_of}
+use Rattle.cf_semantics.specs.Soundness.{IsAnswer, steers}
 
 -- what is known on the way down, besides the path: whether memory may not be touched further down; what memory, code, input and output have come to; and the answer at the end of Memory's siding, while no passenger so far is its own
 pub record Dock : Type 0 where
@@ -28,21 +26,9 @@ pub record Dock : Type 0 where
   pub out : List ℕ
   pub answer : Option ℕ
 
--- the classes that decide where the program goes on
-abbrev pub steers : Class → Bool
-steers Branch = true
-steers Jump = true
-steers Serial = true
-steers _ = false
-
 -- no memory operation may be launched below it
 abbrev pub risks : Passenger → Bool
 risks p = (not p.dead && ((not p.done && steers (kind p)) || is_some p.ending)) || path.turns p.owes
-
--- the answer is the destination's value
-abbrev pub Answers : Option Binding → List ℕ → ℕ → Type 0
-Answers None regs a = Unit {0}
-Answers (Some b) regs a = slice_index regs b.reg ≡ a
 
 -- what holds of a passenger at the memory port
 pub record IsDocked (isa : Isa) (p : Passenger) (x : Machine) (risky : Bool) (answer : Option ℕ) : Type 0 where
@@ -50,7 +36,7 @@ pub record IsDocked (isa : Isa) (p : Passenger) (x : Machine) (risky : Bool) (an
   pub order : is_memory (kind p) ≡ true → (p.launched || p.recovered) ≡ true → risky ≡ false
   pub served : has_served p ≡ true → risky ≡ false
   pub permitted : is_memory (kind p) ≡ true → (p.launched || p.recovered) ≡ true → access_trap (instruction p) p.pc (value_in p.src1) (bounds_of x.hart.mem) ≡ None
-  pub answered : flies p ≡ true → (a : ℕ) → answer ≡ Some a → Answers p.dst (behind (step_at isa x p.pc) x).hart.regs a
+  pub answered : flies p ≡ true → (a : ℕ) → answer ≡ Some a → IsAnswer p.dst (behind (step_at isa x p.pc) x).hart.regs a
 
 unfoldable pub DockedAt : Isa → Passenger → Dock → Type 0
 DockedAt isa p w = IsDocked isa p w.path.machine w.risky w.answer

@@ -10,21 +10,12 @@ use Rattle.cf_bind.specs.declared.packet.Fetch.{Fetch}
 use Rattle.cf_bind.specs.declared.passenger.Passenger.{Passenger}
 use Rattle.cf_bind.specs.declared.passenger.End.{End}
 use Rattle.cf_semantics.specs.Options.{When}
-use Rattle.cf_semantics.specs.Instructions.{src1_of, src2_of, dst_of, Fetched, Got, Bad, fetched, Stepped, Goes, Stops, step_at, behind}
+use Rattle.cf_semantics.specs.Instructions.{src1_of, src2_of, dst_of, fetched, Stepped, Goes, Stops, step_at, behind}
 use Rattle.cf_semantics.specs.Column.{Item, Up, Down}
 use Rattle.cf_semantics.specs.Passengers.{reg_in, cached}
 use Rattle.cf_semantics.specs.Moves.{fetch_at}
 use Rattle.cf_semantics.specs.Path.{Walk, is_trap, is_sure}
-
--- a known value is that of the registers
-abbrev pub Agrees : Option Binding → List ℕ → Type 0
-Agrees None regs = Unit {0}
-Agrees (Some b) regs = (v : ℕ) → b.value ≡ Some v → v ≡ slice_index regs b.reg
-
--- the value is known
-abbrev pub Known : Option Binding → Type 0
-Known None = Unit {0}
-Known (Some b) = (v : ℕ) × (b.value ≡ Some v)
+use Rattle.cf_semantics.specs.Soundness.{HasValue, Holds, IsKnown}
 
 -- a value that is not known is on its way
 abbrev pub Comes : Option Binding → (ℕ → Bool) → Type 0
@@ -38,11 +29,6 @@ Owed (Some (Value r v)) p = (p.dst ≡ Some (record { reg = r; value = Some v })
 Owed (Some (Turn pc)) p = (p.next ≡ Some pc) × (p.ending ≡ None)
 Owed (Some Halt) p = is_trap p.ending ≡ true
 
--- it holds what stands at its address
-abbrev pub Reads : Passenger → Fetched → Type 0
-Reads p (Got i) = p.what ≡ Some i
-Reads p (Bad e) = (p.what ≡ None) × (p.ending ≡ Some e)
-
 -- its bindings are the registers of its instruction
 pub record IsShaped (p : Passenger) (i : Instr) : Type 0 where
   pub one : reg_in p.src1 ≡ src1_of i
@@ -52,14 +38,14 @@ pub record IsShaped (p : Passenger) (i : Instr) : Type 0 where
 -- a sure passenger: x is the machine before it, s the step there, and the program goes on at g
 pub record IsSure (isa : Isa) (p : Passenger) (x : Machine) (s : Stepped) (g : Option ℕ) : Type 0 where
   pub path : g ≡ Some p.pc
-  pub reads : Reads p (fetched isa x.hart.mem p.pc)
+  pub reads : Holds p (fetched isa x.hart.mem p.pc)
   pub shape : (i : Instr) → p.what ≡ Some i → IsShaped p i
-  pub value1 : Agrees p.src1 x.hart.regs
-  pub value2 : Agrees p.src2 x.hart.regs
-  pub value3 : Agrees p.dst (behind s x).hart.regs
+  pub value1 : HasValue p.src1 x.hart.regs
+  pub value2 : HasValue p.src2 x.hart.regs
+  pub value3 : HasValue p.dst (behind s x).hart.regs
   pub goes : p.done ≡ true → p.ending ≡ None → s ≡ Goes (behind s x)
   pub next : p.done ≡ true → p.ending ≡ None → p.next ≡ Some (behind s x).hart.pc
-  pub known : p.done ≡ true → p.ending ≡ None → Known p.dst
+  pub known : p.done ≡ true → p.ending ≡ None → IsKnown p.dst
   pub ends : (e : End) → p.ending ≡ Some e → s ≡ Stops e
   pub unended : p.done ≡ false → p.ending ≡ None
   pub unowing : p.done ≡ false → p.owes ≡ None
@@ -89,9 +75,9 @@ abbrev pub Ends : Walk → Fetch → Type 0
 Ends w f = When (not w.barred) (f ≡ fetch_at w.goto)
 
 -- each value that is kept is the register's
-abbrev pub Holds : List (Option ℕ) → List ℕ → Type 0
-Holds cache regs = (r v : ℕ) → cached cache r ≡ Some v → v ≡ slice_index regs r
+abbrev pub AreRegisters : List (Option ℕ) → List ℕ → Type 0
+AreRegisters cache regs = (r v : ℕ) → cached cache r ≡ Some v → v ≡ slice_index regs r
 
 -- below all, with no barrier
 abbrev pub Keeps : Walk → List (Option ℕ) → Type 0
-Keeps w cache = When (not w.barred) (Holds cache w.machine.hart.regs)
+Keeps w cache = When (not w.barred) (AreRegisters cache w.machine.hart.regs)

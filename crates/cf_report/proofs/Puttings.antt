@@ -1,5 +1,5 @@
 -- What a report has after one text was put and then another, or after the first one failed.
-use Rattle.std.proofs.Common.{◌≡◌, ℕ, ◌+◌, ◌≤◌, List, [], ◌++◌, length, take, Option, Some, None, Ok, Err, sym, ap, ◌∙◌, subst, append-nil, append_assoc, arith}
+use Rattle.std.proofs.Common.{◌≡◌, ℕ, ◌+◌, ◌≤◌, List, [], ◌++◌, length, take, Option, Some, None, Ok, Err, refl, sym, ap, ◌∙◌, subst, append-nil, append_assoc, arith}
 use Rattle.std.specs.Prelude.{Result}
 use Rattle.std.specs.Result.{IsErr}
 use Rattle.std.proofs.lemmas.Bool.{false≢true}
@@ -36,7 +36,7 @@ again : {T U E : Type 0} (a b c : Option (List ℕ)) (i j k : ℕ) (x y : List �
 again a b c i j k x y t (Ok u) h g = record {
   all = writes-again a b c x y h.all g.all;
   front = tt;
-  cause = record { never_falls = omega (arith, h.cause.never_falls, g.cause.never_falls); rose = tt };
+  cause = record { never_falls = omega (arith, h.cause.never_falls, g.cause.never_falls); rose = tt; still = g.cause.still ∙ h.cause.still };
 }
 again a b c i j k x y t (Err e) h g = record {
   all = tt;
@@ -44,6 +44,7 @@ again a b c i j k x y t (Err e) h g = record {
   cause = record {
     never_falls = omega (arith, h.cause.never_falls, g.cause.never_falls);
     rose = omega (arith, h.cause.never_falls, g.cause.rose);
+    still = tt;
   };
 }
 
@@ -59,7 +60,7 @@ stopped a b i j x y e (Ok u) failed h = absurd (false≢true failed)
 stopped a b i j x y e (Err f) failed h = record {
   all = tt;
   front = front-more a b x y h.front;
-  cause = record { never_falls = h.cause.never_falls; rose = h.cause.rose };
+  cause = record { never_falls = h.cause.never_falls; rose = h.cause.rose; still = tt };
 }
 
 -- a text failed, behind which another was to follow
@@ -68,18 +69,18 @@ pub puts-stopped : {T U E : Type 0} {a b : Option (List ℕ)} {i j : ℕ} {x : L
 puts-stopped {a = a} {b = b} {i = i} {j = j} {x = x} y z {answer = answer} {e = e} err both failed h =
     rw both at (stopped a b i j x y e answer failed (rw err at h))
 
--- a text was put so far, and no count fell
+-- a text was put so far, and no fault was counted
 pub record HasPut (written after : Option (List ℕ)) (before now : ℕ) (text : List ℕ) : Type 0 where
   pub told : Writes written after text
-  pub never_falls : before ≤ now
+  pub still : now ≡ before
 
 pub put-nothing : (told : Option (List ℕ)) (faults : ℕ) → HasPut told told faults faults []
-put-nothing told faults = record { told = writes-nothing told; never_falls = omega arith }
+put-nothing told faults = record { told = writes-nothing told; still = refl }
 
 put-more : {T E : Type 0} (a b c : Option (List ℕ)) (i j k : ℕ) (x y : List ℕ) (t : T) → HasPut a b i j x → PutsText {E = E} b c j k y (Ok t) → HasPut a c i k (x ++ y)
 put-more a b c i j k x y t h g = record {
   told = writes-again a b c x y h.told g.all;
-  never_falls = omega (arith, h.never_falls, g.cause.never_falls);
+  still = g.cause.still ∙ h.still;
 }
 
 -- one more text was put behind it
@@ -92,21 +93,22 @@ has-same y same h = rw (← same) h
 
 -- and that is all
 pub put-all : {E : Type 0} {a b : Option (List ℕ)} {i j : ℕ} {x : List ℕ} (z : List ℕ) (answer : Result (Unit {0}) E) → answer ≡ Ok tt → x ≡ z → HasPut a b i j x → PutsText a b i j z answer
-put-all z answer ok same h = rw (ok, ← same) (record { all = h.told; front = tt; cause = record { never_falls = h.never_falls; rose = tt } })
+put-all z answer ok same h = rw (ok, ← same) (record { all = h.told; front = tt; cause = record { never_falls = omega (arith, h.still); rose = tt; still = h.still } })
 
 -- the last text was put behind it, or failed
 put-last : {T E : Type 0} (a b c : Option (List ℕ)) (i j k : ℕ) (x y : List ℕ) (answer : Result T E) → HasPut a b i j x → PutsText b c j k y answer → PutsText a c i k (x ++ y) answer
 put-last a b c i j k x y (Ok t) h g = record {
   all = writes-again a b c x y h.told g.all;
   front = tt;
-  cause = record { never_falls = omega (arith, h.never_falls, g.cause.never_falls); rose = tt };
+  cause = record { never_falls = omega (arith, h.still, g.cause.never_falls); rose = tt; still = g.cause.still ∙ h.still };
 }
 put-last a b c i j k x y (Err e) h g = record {
   all = tt;
   front = front-again a b c x y h.told g.front;
   cause = record {
-    never_falls = omega (arith, h.never_falls, g.cause.never_falls);
-    rose = omega (arith, h.never_falls, g.cause.rose);
+    never_falls = omega (arith, h.still, g.cause.never_falls);
+    rose = omega (arith, h.still, g.cause.rose);
+    still = tt;
   };
 }
 
@@ -118,7 +120,7 @@ pub has-failed : {T U E : Type 0} {a b : Option (List ℕ)} {i j : ℕ} {x : Lis
 has-failed (Ok u) err failed h = absurd (false≢true failed)
 has-failed {a = a} {b = b} {i = i} {j = j} {x = x} (Err f) {e = e} err failed h =
     let g = rw err at h in
-    record { all = tt; front = g.front; cause = record { never_falls = g.cause.never_falls; rose = g.cause.rose } }
+    record { all = tt; front = g.front; cause = record { never_falls = g.cause.never_falls; rose = g.cause.rose; still = tt } }
 
 -- a failed text is a front of a longer one
 pub failed-more : {T E : Type 0} {a b : Option (List ℕ)} {i j : ℕ} {x : List ℕ} (y : List ℕ) (answer : Result T E) → IsErr answer → PutsText a b i j x answer → PutsText a b i j (x ++ y) answer

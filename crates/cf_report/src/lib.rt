@@ -9,7 +9,7 @@ mod putting;
 mod stages;
 mod tally;
 
-pub use lines::{put_move, put_registers, put_retired, put_tally};
+pub use lines::{move_number, put_move, put_registers, put_retired, put_tally};
 pub use picture::put_picture;
 pub use tally::Tally;
 

@@ -33,7 +33,8 @@ fn put_move_text<R: Sink>(mv: Move, report: &mut R) -> Result<(), Failed>
     put_text(b"\n", report)
 }
 
-fn move_page(n: u64) -> Page
+/// What stands in front of a move in its line, the `n`th.
+pub fn move_number(n: u64) -> Page
     ensures { result ≡ codes "move " ++ decimal n ++ codes " " }
 {
     let mut page = Page::new();
@@ -48,7 +49,7 @@ pub fn put_move<R: Sink>(n: u64, mv: Move, report: &mut R) -> Result<(), Failed>
     ensures { PutsText (R.written report.old) (R.written report.new)
         (R.faults report.old) (R.faults report.new) (numbered_move n mv) result }
 {
-    let page = move_page(n);
+    let page = move_number(n);
     put_text(page.bytes(), report)?;
     put_move_text(mv, report)
 }

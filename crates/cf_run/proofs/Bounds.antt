@@ -29,7 +29,7 @@ use Rattle.cf_run.proofs.Arrived.{begins}
 use Rattle.cf_run.proofs.Picking.{picks-paced}
 
 -- an opened processor has the registers and the count of its hart
-opened_wide : (core : Processor) (o : IsOpened core) → length core.state.regs ≡ 32 → length o.hart.regs ≡ 32
+pub opened_wide : (core : Processor) (o : IsOpened core) → length core.state.regs ≡ 32 → length o.hart.regs ≡ 32
 unfolding opened opened_on
 opened_wide core o wide = ap (λ (p : Processor). length p.state.regs) (sym o.is) ∙ wide
 
@@ -58,30 +58,41 @@ counted-moves : (trace : List Made) → (tally_of trace).moves ≡ length (moves
 unfolding tally_of
 counted-moves trace = sym (length-map trace (λ made. made.move))
 
-pub reached-bounded : {P : Type 0} (picked : P → List Move → ℕ) (onward : P → List Move → P) (limit : ℕ) (shows : Show) (begin now : Place) (policy : P) (at : Chooser P) → IsAccepted begin.core.plan → length begin.core.state.regs ≡ 32 → IsOpened begin.core → (h : Reaches limit shows begin now) → Picks picked onward begin.core.plan (fresh policy) begin.core.state h.trace at
+pub paced-bounded : (limit : ℕ) (shows : Show) (begin now : Place) → IsAccepted begin.core.plan → length begin.core.state.regs ≡ 32 → (o : IsOpened begin.core) → (h : Reaches limit shows begin now) (written : List Line) → PacesTo begin.core.plan 0 (start_on begin.core.plan (machine_of begin.core o h.rest)) (moves_of h.trace) h.last written
     → now.tally.moves ≤ most_moves begin.core.plan (now.core.state.retired - begin.core.state.retired)
-reached-bounded {P} picked onward limit shows begin now policy at accepted wide o h picks =
+paced-bounded limit shows begin now accepted wide o h written paces =
     let plan : Plan = begin.core.plan in
     let x : Machine = machine_of begin.core o h.rest in
-    let paces = reached-paced picked onward limit shows begin now policy at accepted wide o h picks in
-    let bound : length (moves_of h.trace) ≤ most_moves plan (gained x h.last.state) = paced_bounded_anew plan x (moves_of h.trace) h.last paces.0 accepted (opened_wide begin.core o wide) paces.1 in
+    let bound : length (moves_of h.trace) ≤ most_moves plan (gained x h.last.state) = paced_bounded_anew plan x (moves_of h.trace) h.last written accepted (opened_wide begin.core o wide) paces in
     let count : now.tally.moves ≡ length (moves_of h.trace) = ap (λ tally. tally.moves) h.tally ∙ counted-moves h.trace in
     let retired : h.last.state.retired ≡ now.core.state.retired = ap (λ (p : Processor). p.state.retired) (sym h.core) in
     let grown : gained x h.last.state ≡ now.core.state.retired - begin.core.state.retired = omega (arith, retired, opened_count begin.core o) in
     subst (λ (n : ℕ). n ≤ most_moves plan (now.core.state.retired - begin.core.state.retired)) (sym count)
     (subst (λ (r : ℕ). length (moves_of h.trace) ≤ most_moves plan r) grown bound)
 
--- and while it goes on the policy is offered a move
-pub reached-offered : {P : Type 0} (picked : P → List Move → ℕ) (onward : P → List Move → P) (limit : ℕ) (shows : Show) (begin now : Place) (policy : P) (at : Chooser P) → IsAccepted begin.core.plan → length begin.core.state.regs ≡ 32 → IsOpened begin.core → (h : Reaches limit shows begin now) → Picks picked onward begin.core.plan (fresh policy) begin.core.state h.trace at
+-- and while it goes on a move is offered
+pub paced-offered : (limit : ℕ) (shows : Show) (begin now : Place) → IsAccepted begin.core.plan → length begin.core.state.regs ≡ 32 → (o : IsOpened begin.core) → (h : Reaches limit shows begin now) (written : List Line) → PacesTo begin.core.plan 0 (start_on begin.core.plan (machine_of begin.core o h.rest)) (moves_of h.trace) h.last written
     → now.core.state.ending ≡ None → (count : ℕ) → 1 ≤ length (offered now.core.plan count now.core.state)
-reached-offered {P} picked onward limit shows begin now policy at accepted wide o h picks unended count =
+paced-offered limit shows begin now accepted wide o h written paces unended count =
     let plan : Plan = begin.core.plan in
     let x : Machine = machine_of begin.core o h.rest in
-    let paces = reached-paced picked onward limit shows begin now policy at accepted wide o h picks in
-    let holds : HoldsAnew plan x paces.0 h.last = holds_anew plan x (moves_of h.trace) h.last paces.0 accepted (opened_wide begin.core o wide) (paces_leads plan 0 (start_on plan x) h.last (moves_of h.trace) paces.0 paces.1) in
+    let holds : HoldsAnew plan x written h.last = holds_anew plan x (moves_of h.trace) h.last written accepted (opened_wide begin.core o wide) (paces_leads plan 0 (start_on plan x) h.last (moves_of h.trace) written paces) in
     let P : Processor → Type 0 = λ p. p.state.ending ≡ None → 1 ≤ length (offered p.plan count p.state) in
-    let there : P (in_state begin.core h.last.state) = offered_some plan x h.last count paces.0 accepted holds in
+    let there : P (in_state begin.core h.last.state) = offered_some plan x h.last count written accepted holds in
     subst P (sym h.core) there unended
+
+-- so it is of the picks of a policy
+pub reached-bounded : {P : Type 0} (picked : P → List Move → ℕ) (onward : P → List Move → P) (limit : ℕ) (shows : Show) (begin now : Place) (policy : P) (at : Chooser P) → IsAccepted begin.core.plan → length begin.core.state.regs ≡ 32 → IsOpened begin.core → (h : Reaches limit shows begin now) → Picks picked onward begin.core.plan (fresh policy) begin.core.state h.trace at
+    → now.tally.moves ≤ most_moves begin.core.plan (now.core.state.retired - begin.core.state.retired)
+reached-bounded {P} picked onward limit shows begin now policy at accepted wide o h picks =
+    let paces = reached-paced picked onward limit shows begin now policy at accepted wide o h picks in
+    paced-bounded limit shows begin now accepted wide o h paces.0 paces.1
+
+pub reached-offered : {P : Type 0} (picked : P → List Move → ℕ) (onward : P → List Move → P) (limit : ℕ) (shows : Show) (begin now : Place) (policy : P) (at : Chooser P) → IsAccepted begin.core.plan → length begin.core.state.regs ≡ 32 → IsOpened begin.core → (h : Reaches limit shows begin now) → Picks picked onward begin.core.plan (fresh policy) begin.core.state h.trace at
+    → now.core.state.ending ≡ None → (count : ℕ) → 1 ≤ length (offered now.core.plan count now.core.state)
+reached-offered {P} picked onward limit shows begin now policy at accepted wide o h picks =
+    let paces = reached-paced picked onward limit shows begin now policy at accepted wide o h picks in
+    paced-offered limit shows begin now accepted wide o h paces.0 paces.1
 
 -- no siding has more than eight cells
 few_cells : (plan : Plan) (sidings : List SidingPlan) → All (IsSiding plan) sidings → most_cells sidings ≤ 8
@@ -92,10 +103,10 @@ few_cells plan (siding ∷ sidings) h =
     let more = few_cells plan sidings (λ k d inside. h (suc k) d (omega (arith, inside))) in
     grind (arith, nat_tests, one, more)
 
--- so the bound is a number that can be counted
-pub bound_small : (plan : Plan) (r : ℕ) → IsAccepted plan → r ≤ 1000000000 → most_moves plan r + 1 < 2 ^ 63
+-- so the bound is at most this number
+pub bound_number : (plan : Plan) (r : ℕ) → IsAccepted plan → r ≤ 1000000000 → most_moves plan r ≤ 128 * 272 * 1000000001
 unfolding moves_per_issue
-bound_small plan r accepted few =
+bound_number plan r accepted few =
     let n = accepted.stages.1 in
     let d = few_cells plan plan.sidings accepted.sidings in
     let k : moves_per_issue plan ≤ 272 = omega (arith, n, d) in
@@ -104,12 +115,15 @@ bound_small plan r accepted few =
     times : (a b c d : ℕ) → a ≤ b → c ≤ d → a * c ≤ b * d
     times a b c d f g = grind (arith, f, g)
 
-    product : (a b c : ℕ) → a ≤ 32 → b ≤ 272 → c ≤ 1000000001 → 4 * a * b * c + 1 < 2 ^ 63
+    product : (a b c : ℕ) → a ≤ 32 → b ≤ 272 → c ≤ 1000000001 → 4 * a * b * c ≤ 128 * 272 * 1000000001
     product a b c f g h =
         let one : 4 * a ≤ 128 = omega (arith, f) in
         let two : 4 * a * b ≤ 128 * 272 = times (4 * a) 128 b 272 one g in
-        let three : 4 * a * b * c ≤ 128 * 272 * 1000000001 = times (4 * a * b) (128 * 272) c 1000000001 two h in
-        omega (arith, three)
+        times (4 * a * b) (128 * 272) c 1000000001 two h
+
+-- which can be counted
+pub bound_small : (plan : Plan) (r : ℕ) → IsAccepted plan → r ≤ 1000000000 → most_moves plan r + 1 < 2 ^ 63
+bound_small plan r accepted few = let n = bound_number plan r accepted few in omega (arith, n)
 
 -- more retirements allow for more moves
 pub bound_grows : (plan : Plan) (r s : ℕ) → r ≤ s → most_moves plan r ≤ most_moves plan s

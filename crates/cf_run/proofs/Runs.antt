@@ -204,6 +204,12 @@ pub reached-trace : (limit : ℕ) (show : Show) (start now new : Place) (mv : Mo
 unfolding reached-more
 reached-trace limit show start now new mv e h below d = refl
 
+-- and the input that they found
+pub reached-rest : (limit : ℕ) (show : Show) (start now new : Place) (mv : Move) (e : Event) (h : Reaches limit show start now) (below : now.core.state.retired < limit) (d : MakesAndShows show mv e now new)
+    → (reached-more limit show start now new mv e h below d).rest ≡ h.rest
+unfolding reached-more
+reached-rest limit show start now new mv e h below d = refl
+
 pub followed-more : (limit : ℕ) (show : Show) (start now new : Stand) → Follows limit show start now → Tries limit show now new None → Follows limit show start new
 unfolding DoesLine Does reached-more
 followed-more limit show start now new f t =

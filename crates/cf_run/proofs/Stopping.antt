@@ -44,7 +44,7 @@ told_lines : (shows : Show) (begin new : Place) (answer : Scripted) (trace : Lis
     → Gets begin.report new.report answer (all_shown shows begin.core.plan 1 trace) → ReportsLines shows n written begin new answer
 told_lines show.Retired begin new answer trace n written texts gets = (all_shown show.Retired begin.core.plan 1 trace, texts, gets)
 told_lines show.Report begin new answer trace n written texts gets = tt
-told_lines show.Moves begin new answer trace n written texts gets = tt
+told_lines show.Moves begin new answer trace n written texts gets = (trace, texts, gets)
 
 -- a run that does not go on from where it has come to
 stays : (shows : Show) (begin now new : Place) (answer : Scripted) → new ≡ now → ((x : Machine) (m : Moment) → StandsAt m begin new → StopsAt x m begin new answer)

@@ -28,6 +28,7 @@ use Rattle.cf_run.specs.declared.answer.Scripted.{Scripted}
 use Rattle.cf_run.specs.declared.answer.Scripted.TheVariants.{Ran}
 use Rattle.cf_run.specs.declared.show.Show.{Show}
 use Rattle.cf_run.specs.declared.show.Show.TheVariants as show
+use Rattle.cf_run.specs.Made.{Made, all_shown}
 use Rattle.cf_run.specs.Moving.{Place}
 
 -- The sequential machine as a run begins: the hart on which the processor was opened, with this input before it and nothing written.
@@ -114,12 +115,14 @@ unfoldable pub Gets : Option (List ℕ) → Option (List ℕ) → Scripted → L
 Gets before after (Ran ran.ReportFault) text = WritesFront before after text
 Gets before after answer text = Writes before after text
 
--- Where retirements alone are shown, the report got the lines of these instructions.
+-- What the report got of these instructions: where retirements alone are shown, their lines; where moves are shown, a group for each move, and the lines of retirement in these groups are theirs.
 abbrev pub ReportsLines : Show → ℕ → List Line → (begin new : Place) → Scripted → Type 0
 ReportsLines show.Retired n written begin new answer =
     (text : List ℕ) × AreTexts n written text × Gets begin.report new.report answer text
+ReportsLines show.Moves n written begin new answer =
+    (trace : List Made) × AreTexts n written (all_shown show.Retired begin.core.plan 1 trace)
+    × Gets begin.report new.report answer (all_shown show.Moves begin.core.plan 1 trace)
 ReportsLines show.Report n written begin new answer = Unit {0}
-ReportsLines show.Moves n written begin new answer = Unit {0}
 
 -- The run is one of this machine, by these moves: they are right, it stops at the moment to which they lead, and the instructions that it reports are those that the machine retires, numbered by the machine's count.
 pub record RunsAs (shows : Show) (x : Machine) (moves : List Move) (begin new : Place) (answer : Scripted) : Type 0 where

@@ -3,16 +3,19 @@
 
 mod answer;
 mod counting;
-mod known;
+mod facts;
+mod finished;
 pub mod laws;
 mod moving;
-mod over;
 mod policy;
 mod script;
 mod show;
 mod showing;
 
 pub use answer::{Ran, Scripted};
+pub use facts::known;
+pub use finished::over;
+pub use moving::make;
 pub use policy::run_policy;
 pub use script::run_script;
 pub use show::Show;

@@ -13,9 +13,9 @@ ghost use Rattle.cf_run.specs.Policies.{chooser, input_stopped, output_stopped, 
 ghost use Rattle.cf_run.specs.Reaching.{no_tally};
 
 use crate::answer::Ran;
-use crate::known::known;
+use crate::facts::known;
+use crate::finished::over;
 use crate::moving::make;
-use crate::over::over;
 use crate::show::Show;
 use cf_bind::Move;
 use cf_core::Core;
@@ -34,9 +34,7 @@ fn choose<P: Policy>(core: &Core, candidates: &mut Candidates, policy: &mut P, p
         (P.picked policy.old (offered core.now.plan pace.now.count core.now.state)) }
     ensures onward { policy.new ≡ P.onward policy.old (offered core.now.plan pace.now.count core.now.state) }
 {
-    pace.offer(core, candidates);
-    let place = policy.pick(candidates);
-    candidates.pick(place)
+    policy.choose(core, candidates, pace)
 }
 
 /// Makes the move that the policy picks, or says why the run stops.

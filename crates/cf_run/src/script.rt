@@ -13,9 +13,9 @@ ghost use Rattle.cf_run.specs.Reaching.{no_tally};
 ghost use Rattle.cf_run.specs.Scripts.{stand_of, first_moves, DoesLine, RunsScript, Turns, input_scripted, output_scripted, report_scripted};
 
 use crate::answer::Scripted;
-use crate::known::known;
+use crate::facts::known;
+use crate::finished::over;
 use crate::moving::make;
-use crate::over::over;
 use crate::show::Show;
 use cf_bind::Move;
 use cf_core::Core;

@@ -40,10 +40,10 @@ fn put_whole<R: Sink>(
     put_picture(core, report)
 }
 
-/// Puts what is to be shown of a move, the `n`th, that left the processor as it is.
+/// Puts the lines that are shown of a move, the `n`th, that left the processor as it is.
 // A page is large, and would slow the run down if it were a local of its loop.
 #[inline(never)]
-pub(crate) fn put_shown<R: Sink>(
+fn put_lines<R: Sink>(
     core: &Core,
     show: Show,
     n: u64,
@@ -60,5 +60,26 @@ pub(crate) fn put_shown<R: Sink>(
         Show::Report => Ok(()),
         Show::Retired => put_retirement(core.retired(), event, report),
         Show::Moves => put_whole(core, n, mv, event, report),
+    }
+}
+
+/// Puts what is to be shown of a move, the `n`th, that left the processor as it is. Most runs show nothing.
+#[inline(always)]
+pub(crate) fn put_shown<R: Sink>(
+    core: &Core,
+    show: Show,
+    n: u64,
+    mv: Move,
+    event: &Event,
+    report: &mut R,
+) -> Result<(), Failed>
+    ensures { PutsText (R.written report.old) (R.written report.new)
+        (R.faults report.old) (R.faults report.new)
+        (shown show core.now.plan n
+        (record { move = mv; event = event.now; state = core.now.state })) result }
+{
+    match show {
+        Show::Report => Ok(()),
+        Show::Retired | Show::Moves => put_lines(core, show, n, mv, event, report),
     }
 }

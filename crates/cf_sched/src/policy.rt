@@ -1,18 +1,22 @@
 //! What picks the next move of a run.
 
-ghost use Rattle.std.specs.Prelude.{◌≡◌, ℕ, ◌<◌, List, length};
-ghost use Rattle.cf_bind.specs.declared.moves.Move.{Move};
+ghost use Rattle.std.specs.Prelude.{◌≡◌, ℕ, ◌<◌, List, Some, length, slice_get};
+ghost use Rattle.cf_bind.specs.declared.moves.Move.{Move as Step};
+ghost use Rattle.cf_sched.specs.Paces.{offers};
 
+use crate::pace::Pace;
+use cf_bind::Move;
+use cf_core::Core;
 use cf_index::Candidates;
 
 /// What picks one of the candidates after another. What it picks, and what it is afterwards, depends on nothing but what
 /// it was and on the list of the candidates.
 pub trait Policy {
     /// The place in the list of what it picks.
-    ghost picked: { Self → List Move → ℕ };
+    ghost picked: { Self → List Step → ℕ };
 
     /// The policy after the pick.
-    ghost onward: { Self → List Move → Self };
+    ghost onward: { Self → List Step → Self };
 
     /// Picks one of the candidates, by its place.
     fn pick(&mut self, candidates: &Candidates) -> usize
@@ -20,4 +24,18 @@ pub trait Policy {
         ensures within { result < length candidates.now }
         ensures picked { result ≡ picked self.old candidates.now }
         ensures onward { self.new ≡ onward self.old candidates.now };
+
+    /// Picks one of the moves that a processor offers under the hold rule. What it leaves in the candidates is not told, so
+    /// that a policy that needs few of them need not look for all.
+    #[inline(always)]
+    fn choose(&mut self, core: &Core, candidates: &mut Candidates, pace: &Pace) -> Move
+        requires { 0 < length (offers pace.now core.now.plan core.now.state) }
+        ensures choice { Some result ≡ slice_get (offers pace.now core.now.plan core.now.state)
+            (picked self.old (offers pace.now core.now.plan core.now.state)) }
+        ensures onward { self.new ≡ onward self.old (offers pace.now core.now.plan core.now.state) }
+    {
+        pace.offer(core, candidates);
+        let place = self.pick(candidates);
+        candidates.pick(place)
+    }
 }

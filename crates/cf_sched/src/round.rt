@@ -3,8 +3,10 @@
 ghost use Rattle.std.specs.Prelude.{◌≡◌, ◌<◌, None, length};
 ghost use Rattle.cf_sched.specs.Policies.{round_on, round_pick};
 
+use crate::pace::Pace;
 use crate::policy::Policy;
 use cf_bind::Move;
+use cf_core::Core;
 use cf_index::Candidates;
 use std::marker::Model;
 
@@ -43,5 +45,18 @@ impl Policy for Round {
         let place = candidates.first_behind(self.last);
         self.last = Some(candidates.pick(place));
         place
+    }
+
+    #[inline(always)]
+    fn choose(&mut self, core: &Core, candidates: &mut Candidates, pace: &Pace) -> Move {
+        if let Some(last) = self.last {
+            if let Some(next) = Candidates::soon(core, last) {
+                self.last = Some(next);
+                return next;
+            }
+        }
+        pace.offer(core, candidates);
+        let place = self.pick(candidates);
+        candidates.pick(place)
     }
 }

@@ -1,6 +1,6 @@
 -- The kinds of moves by their names (a format of this project).
 use Rattle.std.specs.Prelude.{ℕ, Option, List, [], ◌∷◌, codes}
-use Rattle.std.specs.List.{find}
+use Rattle.std.specs.List.{find, position}
 use Rattle.std.specs.Str.{bytes_eq}
 use Rattle.cf_scripts.specs.declared.kind.Kind.{Kind}
 use Rattle.cf_scripts.specs.declared.kind.Kind.TheVariants.{Issue, Emit, Climb, Fall, Meet, Execute, Send, Launch, Slide, Access, Recover, Leave, Exit, Serve}
@@ -30,3 +30,7 @@ kinds =
 -- the kind whose name a word is
 unfoldable pub kind_named : List ℕ → Option Kind
 kind_named word = find (λ kind. bytes_eq (name_of kind) word) kinds
+
+-- the place of that kind among all
+unfoldable pub place_named : List ℕ → Option ℕ
+place_named word = position (λ kind. bytes_eq (name_of kind) word) kinds

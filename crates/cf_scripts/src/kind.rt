@@ -1,6 +1,6 @@
 //! The kinds of moves by their names.
-ghost use Rattle.std.specs.Prelude.{◌≡◌};
-ghost use Rattle.cf_scripts.specs.Kinds.{name_of, kind_named};
+ghost use Rattle.std.specs.Prelude.{◌≡◌, ◌<◌, IfSome};
+ghost use Rattle.cf_scripts.specs.Kinds.{name_of, kind_named, place_named};
 
 /// A move without its numbers and its guess: what the first word of its line tells.
 #[derive(Clone, Copy)]
@@ -68,4 +68,13 @@ impl Kind {
     {
         KINDS.iter().copied().find(|kind| kind.name() == word)
     }
+}
+
+/// The place of the kind whose name the word is, among the kinds in the order of `Move`, from 0.
+#[tactic(auto, unfolding(crate::specs::Kinds::place_named))]
+pub fn place_named(word: &[u8]) -> Option<usize>
+    ensures place { result ≡ place_named word.now }
+    ensures within { IfSome result (λ place. place < 14) }
+{
+    KINDS.iter().position(|kind| kind.name() == word)
 }

@@ -9,9 +9,10 @@ mod script;
 mod words;
 mod writing;
 
-pub use reading::read_move;
+pub use kind::place_named;
+pub use reading::{is_ascii, read_move};
 pub use refusal::{ScriptErr, ScriptKind};
-pub use script::Script;
+pub use script::{Script, is_skipped};
 pub use words::Words;
 pub use writing::write_move;
 

@@ -57,8 +57,9 @@ fn read_next(words: &mut Words<'_>) -> Result<Move, ScriptKind>
     read_kind(kind, words)
 }
 
+/// Whether no byte of the line is above 127.
 #[tactic(auto, unfolding(crate::specs::MoveLines::is_ascii))]
-fn is_ascii(line: &[u8]) -> bool
+pub fn is_ascii(line: &[u8]) -> bool
     ensures { result ≡ is_ascii line.now }
 {
     line.iter().all(|byte| *byte < 128)

@@ -35,7 +35,7 @@ impl<'a> Model for Script<'a> {
 
 /// Whether a line is a comment or has no words.
 #[tactic(auto, unfolding(crate::specs::Scripts::is_skipped))]
-fn is_skipped(line: &[u8]) -> bool
+pub fn is_skipped(line: &[u8]) -> bool
     ensures { result ≡ is_skipped line.now }
 {
     line.starts_with(b"#") || Words::of(line).is_empty()

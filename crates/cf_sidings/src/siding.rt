@@ -63,6 +63,16 @@ impl Siding {
         self.cells[c]
     }
 
+    /// Lets something else, or nothing, stand in the cell.
+    #[inline(always)]
+    pub(crate) fn set(&mut self, c: usize, op: Option<Op>)
+        requires { c < length self.old }
+        ensures cells { self.new ≡ slice_set self.old c op }
+        ensures count { length self.new ≡ length self.old }
+    {
+        self.cells[c] = op;
+    }
+
     /// Puts an operation into the first cell.
     #[inline(always)]
     pub(crate) fn enter(&mut self, op: Op)

@@ -113,4 +113,15 @@ impl Sidings {
     {
         self.list[k as usize].take_last()
     }
+
+    /// Puts back what stood in a cell of a siding.
+    #[inline(always)]
+    pub fn put_back(&mut self, k: u32, c: u32, op: Option<Op>)
+        requires siding { k < length self.old }
+        requires cell { c < length (cells_in self.old k) }
+        ensures sidings { self.new ≡ with_cells self.old k (slice_set (cells_in self.old k) c op) }
+        ensures cells { map length self.new ≡ map length self.old }
+    {
+        self.list[k as usize].set(c as usize, op);
+    }
 }

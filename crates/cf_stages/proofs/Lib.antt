@@ -8,3 +8,4 @@ pub mod Neighbours
 pub mod Order
 pub mod Parts
 pub mod Sameness
+pub mod Returned

@@ -3,12 +3,13 @@
 ghost use Rattle.std.specs.Prelude.{◌≡◌, ◌<◌, ◌≤◌, IsSome, IsTrue, length};
 ghost use Rattle.cf_semantics.specs.Moves.{with_passenger};
 ghost use Rattle.cf_semantics.specs.Options.{is_some};
-ghost use Rattle.cf_stages.specs.Changes.{changed, passenger_at, with_new_passenger};
+ghost use Rattle.cf_semantics.specs.State.{put_cell};
+ghost use Rattle.cf_stages.specs.Changes.{IsCell, changed, passenger_at, with_new_passenger};
 ghost use Rattle.cf_stages.specs.Parts.{with_place};
 
 use crate::stages::Stages;
 use crate::words::{is_there, with_bit};
-use cf_bind::{Packet, Passenger};
+use cf_bind::{Cell, Packet, Passenger};
 
 impl Stages {
     /// An instruction comes to the stage, or goes from it. It has met nothing there.
@@ -52,5 +53,19 @@ impl Stages {
         ensures count { length self.new ≡ length self.old }
     {
         self.passengers[i as usize - 1] = Some(passenger);
+    }
+
+    /// Puts back what stood in the stage.
+    #[inline(always)]
+    #[tactic(auto, using(crate::proofs::Returned::returning))]
+    pub fn put_back(&mut self, i: u32, cell: Cell)
+        requires above { 0 < i }
+        requires within { i ≤ length self.old }
+        requires met { IsCell cell }
+        ensures stages { self.new ≡ put_cell self.old i cell }
+        ensures count { length self.new ≡ length self.old }
+    {
+        self.place_passenger(i, cell.passenger);
+        self.place_packet(i, cell.packet, cell.met);
     }
 }

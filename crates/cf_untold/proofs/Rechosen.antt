@@ -21,6 +21,7 @@ use Rattle.cf_semantics.specs.State.{State}
 use Rattle.cf_semantics.specs.Walks.{Everywhere, walk}
 use Rattle.cf_semantics.specs.Ahead as ahead
 use Rattle.cf_semantics.specs.Path as trail
+use Rattle.cf_semantics.specs.Soundness.{HasValue}
 use Rattle.cf_refinement.specs.Invariant.{Sound}
 use Rattle.cf_refinement.specs.Port as dock
 use Rattle.cf_refinement.specs.Stands.{Blank}
@@ -82,12 +83,12 @@ ends_alike f awaited w v a h = rw (a.barred, a.goto) h
 keeps_alike : (cache : List (Option ℕ)) (awaited : ℕ → Bool) (w v : trail.Walk) → Alike awaited w v → clear.Ends awaited cache → sure.Keeps w cache → sure.Keeps v cache
 keeps_alike cache awaited w v a c h = rw a.barred (go w.barred h)
   where
-    go : (b : Bool) → When (not b) (sure.Holds cache w.machine.hart.regs) → When (not b) (sure.Holds cache v.machine.hart.regs)
+    go : (b : Bool) → When (not b) (sure.AreRegisters cache w.machine.hart.regs) → When (not b) (sure.AreRegisters cache v.machine.hart.regs)
     go true f = tt
     go false f = λ r n e. f r n e ∙ sym (a.regs r (c r n e))
 
 -- a destination without a value agrees with all registers
-blank_agrees : (o : Option Binding) (regs : List ℕ) → Blank o → sure.Agrees o regs
+blank_agrees : (o : Option Binding) (regs : List ℕ) → Blank o → HasValue o regs
 blank_agrees None regs e = tt
 blank_agrees (Some b) regs e = λ v f. absurd (let z = sym e ∙ f in cc)
 

@@ -5,43 +5,19 @@ use Rattle.std.proofs.Math.Seq.{take-length}
 use Rattle.std.proofs.lemmas.Bool.{cases_order}
 use Rattle.cf_words.specs.Words.{Asked, Asks, IsBadAt}
 use Rattle.cf_words.specs.Reading.{State, start, follow, completed}
-use Rattle.cf_words.proofs.Settings.{after, reads}
+use Rattle.cf_words.proofs.InTurn.{after, reads, reads-append}
 use Rattle.cf_words.proofs.Grammar.{reads-sound, asks-read}
-use Rattle.cf_words.proofs.Reached.{reached-last}
 use Rattle.cf_words.proofs.Completions.{complete-reached}
-
--- reading in two parts
-after-after : {A B C : Type 0} → (o : Option A) (f : A → Option B) (g : B → Option C) →
-    after (after o f) g ≡ after o (λ x. after (f x) g)
-after-after None f g = refl
-after-after (Some x) f g = refl
-
-after-same : (o : Option State) (f g : State → Option State) → ((s : State) → f s ≡ g s) →
-    after o f ≡ after o g
-after-same None f g same = refl
-after-same (Some s) f g same = same s
-
-pub reads-append : (state : State) (words more : List (List ℕ)) →
-    reads state (words ++ more) ≡ after (reads state words) (λ s. reads s more)
-reads-append state [] more = refl
-reads-append state (word ∷ words) more =
-    after-same (follow state word) (λ s. reads s (words ++ more))
-    (λ s. after (reads s words) (λ t. reads t more))
-    (λ s. reads-append s words more)
-    ∙ sym (after-after (follow state word) (λ s. reads s words) (λ s. reads s more))
 
 -- words that were read begin those of a command
 begun : (words : List (List ℕ)) (last : State) → reads start words ≡ Some last →
     (command : List (List ℕ)) × (asked : Asked) × Asks command asked ×
     (take (length words) command ≡ words)
 begun words last h =
-    let c = complete-reached last (reached-last words start last tt h) in
-    let r : reads start (words ++ c.words) ≡ Some c.last =
-    reads-append start words c.words ∙ (ap (λ (o : Option State). after o (λ s. reads s c.words)) h ∙
-    c.read) in
-    let t : take (length words) (words ++ c.words) ≡ words =
-    take-append-le (length words) words c.words (omega arith) ∙ take-length words in
-    (words ++ c.words, c.asked, reads-sound (words ++ c.words) c.last c.asked r c.done, t)
+    let c = complete-reached words last h in
+    let t : take (length words) (words ++ c.more) ≡ words =
+    take-append-le (length words) words c.more (omega arith) ∙ take-length words in
+    (words ++ c.more, c.asked, reads-sound (words ++ c.more) c.last c.asked c.read c.done, t)
 
 -- a word that cannot follow has no place
 read-prefix : (found : Option State) (words more : List (List ℕ)) (last : State) →
@@ -107,7 +83,7 @@ whole words command same =
     sym c ∙ (same ∙ w)
 
 bad-behind : (words : List (List ℕ)) (state : State) → reads start words ≡ Some state →
-    completed state ≡ None →
+    completed words state ≡ None →
     (command : List (List ℕ)) (asked : Asked) → Asks command asked →
     take (length words + 1) command ≡ take (length words + 1) words → ⊥
 bad-behind words state h none command asked asks same =
@@ -115,11 +91,13 @@ bad-behind words state h none command asked asks same =
     let c : reads start words ≡ Some r.last =
     ap (λ (ws : List (List ℕ)). reads start ws) (sym (whole words command same)) ∙ r.read in
     let l : state ≡ r.last = cc (h, c) in
-    let d : completed r.last ≡ None = subst (λ s. completed s ≡ None) l none in
-    cc (d, r.done)
+    let d : completed words r.last ≡ None = subst (λ s. completed words s ≡ None) l none in
+    let e : completed words r.last ≡ Some asked =
+    subst (λ (ws : List (List ℕ)). completed ws r.last ≡ Some asked) (whole words command same) r.done in
+    cc (d, e)
 
 pub bad-end : (words : List (List ℕ)) (index : ℕ) (state : State) → index ≡ length words →
-    reads start (take index words) ≡ Some state → completed state ≡ None → IsBadAt words index
+    reads start (take index words) ≡ Some state → completed words state ≡ None → IsBadAt words index
 bad-end words index state at-end h none =
     let w : take index words ≡ words = take_all index words (omega arith) in
     let h1 : reads start words ≡ Some state = subst

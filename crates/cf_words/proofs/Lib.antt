@@ -1,9 +1,11 @@
 pub mod BadWords
+pub mod Bounds
 pub mod Completions
 pub mod Digits
 pub mod Grammar
 pub mod Loop
 pub mod Reached
+pub mod InTurn
 pub mod Settings
 pub mod Steps
 pub mod Texts

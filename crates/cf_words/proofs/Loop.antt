@@ -2,12 +2,13 @@
 use Rattle.std.proofs.Common.{◌≡◌, ◌≤◌, ◌<◌, ◌+◌, ℕ, List, [], ◌∷◌, length, map, take, get_or, arith, Option, Some, None, option_map, Result, Ok, Err, MatchResult, IfOk, sym, ◌∙◌, subst, ap}
 use Rattle.std.specs.Option.{ok_or}
 use Rattle.std.proofs.lemmas.List.{get_or-map, length-map, length-take-le, take_more, take_all}
-use Rattle.cf_words.specs.Words.{Asked, Asks, IsBadAt, IsBounded}
+use Rattle.cf_words.specs.Words.{Asked, Asks, IsBadAt, IsBounded, IsBuilt}
 use Rattle.cf_words.specs.Reading.{State, start, follow, completed}
-use Rattle.cf_words.proofs.Settings.{after, reads}
-use Rattle.cf_words.proofs.Grammar.{reads-sound, asks-bounded}
+use Rattle.cf_words.proofs.InTurn.{after, reads, reads-append}
+use Rattle.cf_words.proofs.Bounds.{asks-bounded, asks-built}
+use Rattle.cf_words.proofs.Grammar.{reads-sound}
 use Rattle.cf_words.proofs.Reached.{few-read}
-use Rattle.cf_words.proofs.BadWords.{reads-append, bad-word, bad-end}
+use Rattle.cf_words.proofs.BadWords.{bad-word, bad-end}
 
 -- the word that the loop looks at
 word-at : {X : Type 0} → (bytes : X → List ℕ) (items : List X) (index : ℕ) (item : X) →
@@ -51,9 +52,9 @@ goes-on bytes items index count item state behind word inside at counted h word-
 
 -- the count of words stays small
 pub count-few : {X : Type 0} → (bytes : X → List ℕ) (items : List X) (count : ℕ) (state : State) →
-    count ≤ length items → reads start (take count (map bytes items)) ≡ Some state → count ≤ 11
+    count ≤ length items → reads start (take count (map bytes items)) ≡ Some state → count ≤ 22
 count-few bytes items count state inside h =
-    let f : length (take count (map bytes items)) ≤ 11 = few-read (take count (map bytes items)) state
+    let f : length (take count (map bytes items)) ≤ 22 = few-read (take count (map bytes items)) state
     h in
     omega (arith, length-take-le count (map bytes items) (omega (arith, length-map items bytes)))
 
@@ -67,11 +68,16 @@ pub answers-bounded : {C : Type 0} → (words : List (List ℕ)) (asks : C → A
 answers-bounded words asks (Ok command) answers = asks-bounded words (asks command) answers
 answers-bounded words asks (Err index) answers = tt
 
+pub answers-built : {C : Type 0} → (words : List (List ℕ)) (asks : C → Asked) (result : Result C ℕ) →
+    Answers words asks result → IfOk result (λ command. IsBuilt (asks command))
+answers-built words asks (Ok command) answers = asks-built words (asks command) answers
+answers-built words asks (Err index) answers = tt
+
 -- behind the last word
 pub ends : {X C : Type 0} → (bytes : X →
     List ℕ) (items : List X) (count : ℕ) (state : State) (asks : C → Asked)
     (found : Option C) → count ≡ length items → reads start (take count (map bytes items)) ≡ Some state →
-    option_map asks found ≡ completed state →
+    option_map asks found ≡ completed (map bytes items) state →
     MatchResult (ok_or found count) (λ command. Asks (map bytes items) (asks command))
     (λ index. IsBadAt (map bytes items) index)
 ends bytes items count state asks None counted h done =

@@ -1,44 +1,14 @@
 -- The options behind the positional words: read in turn they are a list of which none stands twice, and give what stands in it.
-use Rattle.std.proofs.Common.{◌≡◌, ◌≢◌, ℕ, List, [], ◌∷◌, ◌++◌, Bool, true, false, refl, Option, Some, None, ◌&&◌, ◌||◌, sym, ◌∙◌, subst, ap}
+use Rattle.std.proofs.Common.{◌≡◌, ◌≢◌, ℕ, List, [], ◌∷◌, ◌++◌, codes, Bool, true, false, refl, Option, Some, None, ◌&&◌, ◌||◌, sym, ◌∙◌, subst, ap}
 use Rattle.std.specs.Option.{option_or}
 use Rattle.std.specs.List.{list_all}
 use Rattle.cf_words.specs.declared.options.Key.{Key}
 use Rattle.cf_words.specs.declared.options.Key.TheVariants as keys
-use Rattle.cf_words.specs.Options.{key_word, show_word, key_of, value_words, written, takes_key, is_value, takes, Matter, limits, showing, schedules, multiplies, matter_of, Without, NoneTwice, Setting, limit_to, show_lines, script_from, seed_from, with_mul, Given, given_in}
-use Rattle.cf_words.specs.Words.{Subject, name_of, Asked, asked_by}
-use Rattle.cf_words.specs.Reading.{State, options, valued, follow, behind_key, has_key, is_settled, is_there, nothing_given, completed}
-use Rattle.cf_words.proofs.Steps.{put, option-read, value-read, option-follows, limit-follows, lines-follow, script-follows, seed-follows}
-
--- all words in turn
-abbrev pub after : {A B : Type 0} → Option A → (A → Option B) → Option B
-after None f = None
-after (Some x) f = f x
-
-abbrev pub reads : State → List (List ℕ) → Option State
-reads state [] = Some state
-reads state (word ∷ words) = after (follow state word) (λ behind. reads behind words)
-
-pub record Split (state : State) (word : List ℕ) (words : List (List ℕ)) (last : State) : Type 0 where
-  pub behind : State
-  pub followed : follow state word ≡ Some behind
-  pub rest : reads behind words ≡ Some last
-
-split-at : (found : Option State) (state : State) (word : List ℕ) (words : List (List ℕ)) (last : State) →
-    follow state word ≡ found → after found (λ behind. reads behind words) ≡ Some last →
-    Split state word words last
-split-at None state word words last e h = absurd (cc)
-split-at (Some behind) state word words last e h = record { behind = behind; followed = e; rest = h }
-
-pub reads-split : (state : State) (word : List ℕ) (words : List (List ℕ)) (last : State) →
-    reads state (word ∷ words) ≡ Some last → Split state word words last
-reads-split state word words last h = split-at (follow state word) state word words last refl h
-
-pub reads-step : (state : State) (word : List ℕ) (words : List (List ℕ)) (behind : State) →
-    follow state word ≡ Some behind → reads state (word ∷ words) ≡ reads behind words
-reads-step state word words behind h = ap (λ (o : Option State). after o (λ behind. reads behind words)) h
-
-pub none-left : (state last : State) → reads state [] ≡ Some last → state ≡ last
-none-left state last h = cc
+use Rattle.cf_words.specs.declared.reading.Subject.{Subject}
+use Rattle.cf_words.specs.Options.{key_word, show_word, key_of, value_words, written, takes_key, is_value, takes, Matter, limits, showing, schedules, multiplies, running, matter_of, Without, NoneTwice, Setting, limit_to, show_lines, show_sites, script_from, seed_from, with_mul, with_run, Given, given_in}
+use Rattle.cf_words.specs.Reading.{State, start, placed, options, valued, behind_key, has_key, is_settled, is_there, nothing_given}
+use Rattle.cf_words.proofs.InTurn.{reads, reads-split, reads-step, none-left}
+use Rattle.cf_words.proofs.Steps.{put, option-read, value-read, option-follows, limit-follows, lines-follow, sites-follow, script-follows, seed-follows}
 
 -- none of the options settles what is settled already
 abbrev pub Fresh : Given → List Setting → Type 0
@@ -50,12 +20,18 @@ abbrev pub put_all : Given → List Setting → Given
 put_all given [] = given
 put_all given (setting ∷ settings) = put_all (put given setting) settings
 
+or-true : (b : Bool) → (b || true) ≡ true
+or-true true = refl
+or-true false = refl
+
 put-has : (given : Given) (setting : Setting) → has_key (put given setting) (key_of setting) ≡ true
+put-has given show_sites = or-true (is_there given.show)
 put-has given (limit_to digits) = refl
 put-has given (show_lines lines) = refl
 put-has given (script_from file) = refl
 put-has given (seed_from digits) = refl
 put-has given with_mul = refl
+put-has given with_run = refl
 
 put-keeps : (given : Given) (setting : Setting) (matter : Matter) → is_settled given matter ≡ true →
     is_settled (put given setting) matter ≡ true
@@ -63,22 +39,37 @@ put-keeps given (limit_to digits) limits h = refl
 put-keeps given (limit_to digits) showing h = h
 put-keeps given (limit_to digits) schedules h = h
 put-keeps given (limit_to digits) multiplies h = h
+put-keeps given (limit_to digits) running h = h
 put-keeps given (show_lines lines) limits h = h
 put-keeps given (show_lines lines) showing h = refl
 put-keeps given (show_lines lines) schedules h = h
 put-keeps given (show_lines lines) multiplies h = h
+put-keeps given (show_lines lines) running h = h
+put-keeps given show_sites limits h = h
+put-keeps given show_sites showing h = or-true (is_there given.show)
+put-keeps given show_sites schedules h = h
+put-keeps given show_sites multiplies h = h
+put-keeps given show_sites running h = h
 put-keeps given (script_from file) limits h = h
 put-keeps given (script_from file) showing h = h
 put-keeps given (script_from file) schedules h = refl
 put-keeps given (script_from file) multiplies h = h
+put-keeps given (script_from file) running h = h
 put-keeps given (seed_from digits) limits h = h
 put-keeps given (seed_from digits) showing h = h
 put-keeps given (seed_from digits) schedules h = refl
 put-keeps given (seed_from digits) multiplies h = h
+put-keeps given (seed_from digits) running h = h
 put-keeps given with_mul limits h = h
 put-keeps given with_mul showing h = h
 put-keeps given with_mul schedules h = h
 put-keeps given with_mul multiplies h = refl
+put-keeps given with_mul running h = h
+put-keeps given with_run limits h = h
+put-keeps given with_run showing h = h
+put-keeps given with_run schedules h = h
+put-keeps given with_run multiplies h = h
+put-keeps given with_run running h = refl
 
 put-other : (given : Given) (setting : Setting) (matter : Matter) → is_settled given matter ≡ false →
     matter_of (key_of setting) ≢ matter → is_settled (put given setting) matter ≡ false
@@ -86,22 +77,37 @@ put-other given (limit_to digits) limits h other = absurd (other refl)
 put-other given (limit_to digits) showing h other = h
 put-other given (limit_to digits) schedules h other = h
 put-other given (limit_to digits) multiplies h other = h
+put-other given (limit_to digits) running h other = h
 put-other given (show_lines lines) limits h other = h
 put-other given (show_lines lines) showing h other = absurd (other refl)
 put-other given (show_lines lines) schedules h other = h
 put-other given (show_lines lines) multiplies h other = h
+put-other given (show_lines lines) running h other = h
+put-other given show_sites limits h other = h
+put-other given show_sites showing h other = absurd (other refl)
+put-other given show_sites schedules h other = h
+put-other given show_sites multiplies h other = h
+put-other given show_sites running h other = h
 put-other given (script_from file) limits h other = h
 put-other given (script_from file) showing h other = h
 put-other given (script_from file) schedules h other = absurd (other refl)
 put-other given (script_from file) multiplies h other = h
+put-other given (script_from file) running h other = h
 put-other given (seed_from digits) limits h other = h
 put-other given (seed_from digits) showing h other = h
 put-other given (seed_from digits) schedules h other = absurd (other refl)
 put-other given (seed_from digits) multiplies h other = h
+put-other given (seed_from digits) running h other = h
 put-other given with_mul limits h other = h
 put-other given with_mul showing h other = h
 put-other given with_mul schedules h other = h
 put-other given with_mul multiplies h other = absurd (other refl)
+put-other given with_mul running h other = h
+put-other given with_run limits h other = h
+put-other given with_run showing h other = h
+put-other given with_run schedules h other = h
+put-other given with_run multiplies h other = h
+put-other given with_run running h other = absurd (other refl)
 
 -- fresh options settle nothing twice
 fresh-without : (settings : List Setting) (given : Given) (matter : Matter) →
@@ -150,6 +156,7 @@ nothing-has keys.Show = refl
 nothing-has keys.Script = refl
 nothing-has keys.Seed = refl
 nothing-has keys.Mul = refl
+nothing-has keys.Run = refl
 
 clear-nothing : (settings : List Setting) → Clear nothing_given settings
 clear-nothing [] = tt
@@ -163,22 +170,31 @@ abbrev joined : Given → Given → Given
 joined given more = record {
   limit = option_or given.limit more.limit;
   show = option_or given.show more.show;
+  sites = given.sites || more.sites;
   schedule = option_or given.schedule more.schedule;
   mul = given.mul || more.mul;
+  run = given.run || more.run;
 }
 
 not-there : {A : Type 0} → (o : Option A) → is_there o ≡ false → o ≡ None
 not-there None h = refl
 not-there (Some x) h = absurd (cc)
 
+neither : (a b : Bool) → (a || b) ≡ false → (a ≡ false) × (b ≡ false)
+neither true b h = absurd (cc)
+neither false b h = (refl, h)
+
 joined-put : (given : Given) (setting : Setting) (settings : List Setting) →
     has_key given (key_of setting) ≡ false →
     joined (put given setting) (given_in settings) ≡ joined given (given_in (setting ∷ settings))
 joined-put given (limit_to digits) settings h = let e = not-there given.limit h in rw e
-joined-put given (show_lines lines) settings h = let e = not-there given.show h in rw e
+joined-put given (show_lines lines) settings h =
+    let e = not-there given.show (neither (is_there given.show) given.sites h).0 in rw e
+joined-put given show_sites settings h = rw (neither (is_there given.show) given.sites h).1
 joined-put given (script_from file) settings h = let e = not-there given.schedule h in rw e
 joined-put given (seed_from digits) settings h = let e = not-there given.schedule h in rw e
 joined-put given with_mul settings h = rw h
+joined-put given with_run settings h = rw h
 
 or-none : {A : Type 0} → (o : Option A) → option_or o None ≡ o
 or-none None = refl
@@ -191,7 +207,14 @@ or-false false = refl
 put-joined : (settings : List Setting) (given : Given) → Fresh given settings →
     put_all given settings ≡ joined given (given_in settings)
 put-joined [] given fresh =
-    sym (rw (or-none given.limit, or-none given.show, or-none given.schedule, or-false given.mul))
+    sym (rw (
+      or-none given.limit,
+      or-none given.show,
+      or-false given.sites,
+      or-none given.schedule,
+      or-false given.mul,
+      or-false given.run,
+    ))
 put-joined (setting ∷ settings) given fresh =
     put-joined settings (put given setting) fresh.1 ∙ joined-put given setting settings fresh.0
 
@@ -199,127 +222,121 @@ pub put-given : (settings : List Setting) → Fresh nothing_given settings →
     put_all nothing_given settings ≡ given_in settings
 put-given settings fresh = put-joined settings nothing_given fresh
 
+-- no value is missing
+abbrev pub IsWhole : State → Type 0
+IsWhole start = ⊥
+IsWhole (placed subject) = Unit {0}
+IsWhole (options subject given) = Unit {0}
+IsWhole (valued subject given key) = ⊥
+
 -- the words behind the positional ones, as a list of options
-pub record Tail (subject : Subject) (given : Given) (words : List (List ℕ)) (asked : Asked) : Type 0 where
+pub record Tail (subject : Subject) (given : Given) (words : List (List ℕ)) (last : State) : Type 0 where
   pub settings : List Setting
   pub words_are : words ≡ written settings
-  pub taken : list_all (takes (name_of subject)) settings ≡ true
+  pub taken : list_all (takes subject.name) settings ≡ true
   pub fresh : Fresh given settings
-  pub means : asked_by subject (put_all given settings) ≡ asked
+  pub last_is : last ≡ options subject (put_all given settings)
 
-tail-none : (subject : Subject) (given : Given) (last : State) (asked : Asked) →
-    reads (options subject given) [] ≡ Some last → completed last ≡ Some asked →
-    Tail subject given [] asked
-unfolding completed
-tail-none subject given last asked h done =
-    let e : options subject given ≡ last = cc in
-    let m : completed (options subject given) ≡ Some asked = subst (λ s. completed s ≡ Some asked)
-    (sym e) done in
-    record { settings = []; words_are = refl; taken = refl; fresh = tt; means = cc m }
+tail-none : (subject : Subject) (given : Given) (last : State) →
+    reads (options subject given) [] ≡ Some last → Tail subject given [] last
+tail-none subject given last h =
+    record { settings = []; words_are = refl; taken = refl; fresh = tt; last_is = cc }
 
 -- one more option before the others
-tail-more : (subject : Subject) (given : Given) (setting : Setting) (words : List (List ℕ))
-    (asked : Asked) →
-    takes_key (name_of subject) (key_of setting) ≡ true → is_value (name_of subject) setting ≡ true →
-    has_key given (key_of setting) ≡ false → Tail subject (put given setting) words asked →
-    Tail subject given (key_word (key_of setting) ∷ (value_words setting ++ words)) asked
-tail-more subject given setting words asked taken allowed fresh tail = record {
+tail-more : (subject : Subject) (given : Given) (setting : Setting) (words : List (List ℕ)) (last : State) →
+    takes_key subject.name (key_of setting) ≡ true → is_value subject.name setting ≡ true →
+    has_key given (key_of setting) ≡ false → Tail subject (put given setting) words last →
+    Tail subject given (key_word (key_of setting) ∷ (value_words setting ++ words)) last
+tail-more subject given setting words last taken allowed fresh tail = record {
   settings = setting ∷ tail.settings;
   words_are = ap (λ (ws : List (List ℕ)). key_word (key_of setting) ∷ (value_words setting ++ ws))
       tail.words_are;
   taken = rw (taken, allowed) tail.taken;
   fresh = (fresh, tail.fresh);
-  means = tail.means;
+  last_is = tail.last_is;
 }
 
 -- an option with a value: what the words behind its own word are
-tail-valued : (key : Key) (subject : Subject) (given : Given) (words : List (List ℕ)) (last : State)
-    (asked : Asked) →
-    takes_key (name_of subject) key ≡ true → has_key given key ≡ false →
-    reads (valued subject given key) words ≡ Some last → completed last ≡ Some asked →
+tail-valued : (key : Key) (subject : Subject) (given : Given) (words : List (List ℕ)) (last : State) →
+    takes_key subject.name key ≡ true → has_key given key ≡ false →
+    reads (valued subject given key) words ≡ Some last → IsWhole last →
     ((value : List ℕ) (later : List (List ℕ)) → words ≡ value ∷ later → (more : Given) →
-    reads (options subject more) later ≡ Some last → Tail subject more later asked) →
-    Tail subject given (key_word key ∷ words) asked
-unfolding completed
-tail-valued key subject given [] last asked taken fresh h done later =
-    let e : valued subject given key ≡ last = cc in
-    let m : completed (valued subject given key) ≡ Some asked = subst (λ s. completed s ≡ Some asked)
-    (sym e) done in
-    absurd (cc)
-tail-valued key subject given (value ∷ words) last asked taken fresh h done later =
+    reads (options subject more) later ≡ Some last → Tail subject more later last) →
+    Tail subject given (key_word key ∷ words) last
+tail-valued key subject given [] last taken fresh h whole later =
+    absurd (subst IsWhole (sym (none-left (valued subject given key) last h)) whole)
+tail-valued key subject given (value ∷ words) last taken fresh h whole later =
     let s = reads-split (valued subject given key) value words last h in
     let v = value-read key subject given value s.behind s.followed in
     let r : reads (options subject (put given v.setting)) words ≡ Some last =
     subst (λ b. reads b words ≡ Some last) v.behind_is s.rest in
-    let t : Tail subject (put given v.setting) words asked = later value words refl
+    let t : Tail subject (put given v.setting) words last = later value words refl
     (put given v.setting) r in
-    let a : takes_key (name_of subject) (key_of v.setting) ≡ true =
-    subst (λ k. takes_key (name_of subject) k ≡ true) (sym v.key_is) taken in
+    let a : takes_key subject.name (key_of v.setting) ≡ true =
+    subst (λ k. takes_key subject.name k ≡ true) (sym v.key_is) taken in
     let f : has_key given (key_of v.setting) ≡ false =
     subst (λ k. has_key given k ≡ false) (sym v.key_is) fresh in
-    let m : Tail subject given (key_word (key_of v.setting) ∷ (value_words v.setting ++ words)) asked =
-    tail-more subject given v.setting words asked a v.allowed f t in
-    let m1 : Tail subject given (key_word key ∷ (value_words v.setting ++ words)) asked =
-    subst (λ k. Tail subject given (key_word k ∷ (value_words v.setting ++ words)) asked) v.key_is m in
-    subst (λ (ws : List (List ℕ)). Tail subject given (key_word key ∷ (ws ++ words)) asked) v.word_is m1
+    let m : Tail subject given (key_word (key_of v.setting) ∷ (value_words v.setting ++ words)) last =
+    tail-more subject given v.setting words last a v.allowed f t in
+    let m1 : Tail subject given (key_word key ∷ (value_words v.setting ++ words)) last =
+    subst (λ k. Tail subject given (key_word k ∷ (value_words v.setting ++ words)) last) v.key_is m in
+    subst (λ (ws : List (List ℕ)). Tail subject given (key_word key ∷ (ws ++ words)) last) v.word_is m1
 
-tail-keyed : (key : Key) (subject : Subject) (given : Given) (words : List (List ℕ)) (last : State)
-    (asked : Asked) →
-    takes_key (name_of subject) key ≡ true → has_key given key ≡ false →
-    reads (behind_key subject given key) words ≡ Some last → completed last ≡ Some asked →
-    ((more : Given) → reads (options subject more) words ≡ Some last → Tail subject more words asked) →
+tail-keyed : (key : Key) (subject : Subject) (given : Given) (words : List (List ℕ)) (last : State) →
+    takes_key subject.name key ≡ true → has_key given key ≡ false →
+    reads (behind_key subject given key) words ≡ Some last → IsWhole last →
+    ((more : Given) → reads (options subject more) words ≡ Some last → Tail subject more words last) →
     ((value : List ℕ) (later : List (List ℕ)) → words ≡ value ∷ later → (more : Given) →
-    reads (options subject more) later ≡ Some last → Tail subject more later asked) →
-    Tail subject given (key_word key ∷ words) asked
-tail-keyed keys.Limit subject given words last asked taken fresh h done next later =
-    tail-valued keys.Limit subject given words last asked taken fresh h done later
-tail-keyed keys.Show subject given words last asked taken fresh h done next later =
-    tail-valued keys.Show subject given words last asked taken fresh h done later
-tail-keyed keys.Script subject given words last asked taken fresh h done next later =
-    tail-valued keys.Script subject given words last asked taken fresh h done later
-tail-keyed keys.Seed subject given words last asked taken fresh h done next later =
-    tail-valued keys.Seed subject given words last asked taken fresh h done later
-tail-keyed keys.Mul subject given words last asked taken fresh h done next later =
-    tail-more subject given with_mul words asked taken refl fresh (next (put given with_mul) h)
+    reads (options subject more) later ≡ Some last → Tail subject more later last) →
+    Tail subject given (key_word key ∷ words) last
+tail-keyed keys.Limit subject given words last taken fresh h whole next later =
+    tail-valued keys.Limit subject given words last taken fresh h whole later
+tail-keyed keys.Show subject given words last taken fresh h whole next later =
+    tail-valued keys.Show subject given words last taken fresh h whole later
+tail-keyed keys.Script subject given words last taken fresh h whole next later =
+    tail-valued keys.Script subject given words last taken fresh h whole later
+tail-keyed keys.Seed subject given words last taken fresh h whole next later =
+    tail-valued keys.Seed subject given words last taken fresh h whole later
+tail-keyed keys.Mul subject given words last taken fresh h whole next later =
+    tail-more subject given with_mul words last taken refl fresh (next (put given with_mul) h)
+tail-keyed keys.Run subject given words last taken fresh h whole next later =
+    tail-more subject given with_run words last taken refl fresh (next (put given with_run) h)
 
-tail-word : (subject : Subject) (given : Given) (word : List ℕ) (words : List (List ℕ)) (last : State)
-    (asked : Asked) →
-    reads (options subject given) (word ∷ words) ≡ Some last → completed last ≡ Some asked →
-    ((more : Given) → reads (options subject more) words ≡ Some last → Tail subject more words asked) →
+tail-word : (subject : Subject) (given : Given) (word : List ℕ) (words : List (List ℕ)) (last : State) →
+    reads (options subject given) (word ∷ words) ≡ Some last → IsWhole last →
+    ((more : Given) → reads (options subject more) words ≡ Some last → Tail subject more words last) →
     ((value : List ℕ) (later : List (List ℕ)) → words ≡ value ∷ later → (more : Given) →
-    reads (options subject more) later ≡ Some last → Tail subject more later asked) →
-    Tail subject given (word ∷ words) asked
-tail-word subject given word words last asked h done next later =
+    reads (options subject more) later ≡ Some last → Tail subject more later last) →
+    Tail subject given (word ∷ words) last
+tail-word subject given word words last h whole next later =
     let s = reads-split (options subject given) word words last h in
     let k = option-read subject given word s.behind s.followed in
     let r : reads (behind_key subject given k.key) words ≡ Some last =
     subst (λ b. reads b words ≡ Some last) k.behind_is s.rest in
-    let t : Tail subject given (key_word k.key ∷ words) asked =
-    tail-keyed k.key subject given words last asked k.taken k.fresh r done next later in
-    subst (λ (w : List ℕ). Tail subject given (w ∷ words) asked) (sym k.word_is) t
+    let t : Tail subject given (key_word k.key ∷ words) last =
+    tail-keyed k.key subject given words last k.taken k.fresh r whole next later in
+    subst (λ (w : List ℕ). Tail subject given (w ∷ words) last) (sym k.word_is) t
 
-pub tail-read : (words : List (List ℕ)) (subject : Subject) (given : Given) (last : State)
-    (asked : Asked) →
-    reads (options subject given) words ≡ Some last → completed last ≡ Some asked →
-    Tail subject given words asked
-tail-read [] subject given last asked h done = tail-none subject given last asked h done
-tail-read (word ∷ []) subject given last asked h done =
-    tail-word subject given word [] last asked h done
-    (λ more r. tail-none subject more last asked r done)
+pub tail-read : (words : List (List ℕ)) (subject : Subject) (given : Given) (last : State) →
+    reads (options subject given) words ≡ Some last → IsWhole last → Tail subject given words last
+tail-read [] subject given last h whole = tail-none subject given last h
+tail-read (word ∷ []) subject given last h whole =
+    tail-word subject given word [] last h whole
+    (λ more r. tail-none subject more last r)
     (λ value later e more r. absurd (cc))
-tail-read (word ∷ value ∷ words) subject given last asked h done =
-    tail-word subject given word (value ∷ words) last asked h done
-    (λ more r. tail-read (value ∷ words) subject more last asked r done)
+tail-read (word ∷ value ∷ words) subject given last h whole =
+    tail-word subject given word (value ∷ words) last h whole
+    (λ more r. tail-read (value ∷ words) subject more last r whole)
     (λ same later e more r.
     let l : words ≡ later = cc in
     let r1 : reads (options subject more) words ≡ Some last =
     subst (λ (ws : List (List ℕ)). reads (options subject more) ws ≡ Some last) (sym l) r in
-    subst (λ (ws : List (List ℕ)). Tail subject more ws asked) l
-    (tail-read words subject more last asked r1 done))
+    subst (λ (ws : List (List ℕ)). Tail subject more ws last) l
+    (tail-read words subject more last r1 whole))
 
 -- one option is read as it is written
 setting-read : (setting : Setting) (subject : Subject) (given : Given) (words : List (List ℕ)) →
-    takes_key (name_of subject) (key_of setting) ≡ true → is_value (name_of subject) setting ≡ true →
+    takes_key subject.name (key_of setting) ≡ true → is_value subject.name setting ≡ true →
     has_key given (key_of setting) ≡ false →
     reads (options subject given) (key_word (key_of setting) ∷ (value_words setting ++ words))
     ≡ reads (options subject (put given setting)) words
@@ -337,6 +354,13 @@ setting-read (show_lines lines) subject given words taken allowed fresh =
     ∙ reads-step (valued subject given keys.Show) (show_word lines) words
     (options subject (put given (show_lines lines)))
     (lines-follow subject given lines allowed)
+setting-read show_sites subject given words taken allowed fresh =
+    reads-step (options subject given) (key_word keys.Show) (codes "sites" ∷ words)
+    (valued subject given keys.Show)
+    (option-follows subject given keys.Show taken fresh)
+    ∙ reads-step (valued subject given keys.Show) (codes "sites") words
+    (options subject (put given show_sites))
+    (sites-follow subject given allowed)
 setting-read (script_from file) subject given words taken allowed fresh =
     reads-step (options subject given) (key_word keys.Script) (file ∷ words)
     (valued subject given keys.Script)
@@ -354,19 +378,22 @@ setting-read (seed_from digits) subject given words taken allowed fresh =
 setting-read with_mul subject given words taken allowed fresh =
     reads-step (options subject given) (key_word keys.Mul) words (options subject (put given with_mul))
     (option-follows subject given keys.Mul taken fresh)
+setting-read with_run subject given words taken allowed fresh =
+    reads-step (options subject given) (key_word keys.Run) words (options subject (put given with_run))
+    (option-follows subject given keys.Run taken fresh)
 
-both : (a b : Bool) → (a && b) ≡ true → (a ≡ true) × (b ≡ true)
+pub both : (a b : Bool) → (a && b) ≡ true → (a ≡ true) × (b ≡ true)
 both true true h = (refl, refl)
 both true false h = absurd (cc)
 both false b h = absurd (cc)
 
 pub settings-read : (settings : List Setting) (subject : Subject) (given : Given) →
-    list_all (takes (name_of subject)) settings ≡ true → Fresh given settings →
+    list_all (takes subject.name) settings ≡ true → Fresh given settings →
     reads (options subject given) (written settings) ≡ Some (options subject (put_all given settings))
 settings-read [] subject given taken fresh = refl
 settings-read (setting ∷ settings) subject given taken fresh =
-    let a = both (takes (name_of subject) setting) (list_all (takes (name_of subject)) settings) taken in
-    let t = both (takes_key (name_of subject) (key_of setting)) (is_value (name_of subject) setting)
+    let a = both (takes subject.name setting) (list_all (takes subject.name) settings) taken in
+    let t = both (takes_key subject.name (key_of setting)) (is_value subject.name setting)
     a.0 in
     setting-read setting subject given (written settings) t.0 t.1 fresh.0
     ∙ settings-read settings subject (put given setting) a.1 fresh.1

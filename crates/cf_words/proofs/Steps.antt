@@ -1,23 +1,28 @@
 -- What one more word tells: which words may follow in each state, and what is known behind them.
-use Rattle.std.proofs.Common.{◌≡◌, ℕ, List, [], ◌∷◌, Bool, true, false, refl, if◌then◌else◌, Option, Some, None, not, ◌&&◌, sym, ap}
+use Rattle.std.proofs.Common.{◌≡◌, ◌≤◌, ◌<◌, ◌⊎◌, ℕ, List, [], ◌∷◌, codes, Bool, true, false, refl, arith, if◌then◌else◌, Option, Some, None, inl, inr, not, ◌&&◌, sym, ap}
+use Rattle.std.specs.Prelude.{is_some, nat_le, nat_lt}
 use Rattle.std.specs.Str.Parse.{digits_value}
+use Rattle.std.proofs.lemmas.Bool.Decides.{nat_tests}
 use Rattle.cf_words.specs.declared.names.Name.{Name}
 use Rattle.cf_words.specs.declared.options.Show.{Show}
 use Rattle.cf_words.specs.declared.options.Key.{Key}
 use Rattle.cf_words.specs.declared.options.Key.TheVariants as keys
-use Rattle.cf_words.specs.Values.{is_file_name, is_number}
-use Rattle.cf_words.specs.Options.{key_word, show_word, key_of, value_words, takes_key, has_lines, is_value, most_limit, most_seed, Setting, limit_to, show_lines, script_from, seed_from, with_mul, by_script, by_seed, Given}
-use Rattle.cf_words.specs.Words.{is_built, word_of, Subject, run_on, name_of}
-use Rattle.cf_words.specs.Reading.{State, start, named, laid, options, valued, follow, when, behind_name, behind_first, behind_key, behind_option, behind_value, has_key, with_value, with_limit, with_seed, with_lines, name_in, key_in, lines_in, number_in, nothing_given}
-use Rattle.cf_words.proofs.Texts.{name-read, name-written, key-read, key-written, lines-read, lines-written}
+use Rattle.cf_words.specs.declared.reading.Subject.{Subject}
+use Rattle.cf_words.specs.Values.{is_file_name, is_number, count_in}
+use Rattle.cf_words.specs.Commands.{is_built, word_of, fewest, most, counts, is_positional}
+use Rattle.cf_words.specs.Options.{key_word, show_word, key_of, value_words, takes_key, has_lines, has_sites, is_value, most_limit, most_seed, Setting, limit_to, show_lines, show_sites, script_from, seed_from, with_mul, with_run, by_script, by_seed, Given}
+use Rattle.cf_words.specs.Reading.{State, start, placed, options, valued, bare, one_more, follow, when, behind_name, behind_key, behind_option, behind_value, has_place, has_key, is_text, with_value, with_limit, with_seed, with_lines, name_in, key_in, lines_in, number_in, nothing_given}
+use Rattle.cf_words.proofs.Texts.{is-text, name-read, name-written, key-read, key-written, lines-read, lines-written, lines-no-sites}
 
 -- what is given with one more option
 abbrev pub put : Given → Setting → Given
 put given (limit_to digits) = record given { limit = Some (digits_value 10 digits) }
 put given (show_lines lines) = record given { show = Some lines }
+put given show_sites = record given { sites = true }
 put given (script_from file) = record given { schedule = Some (by_script file) }
 put given (seed_from digits) = record given { schedule = Some (by_seed (digits_value 10 digits)) }
 put given with_mul = record given { mul = true }
+put given with_run = record given { run = true }
 
 when-some : {A : Type 0} → (b : Bool) (x y : A) → when b x ≡ Some y → (b ≡ true) × (y ≡ x)
 when-some true x y h = (refl, cc)
@@ -42,50 +47,115 @@ pub record NameRead (word : List ℕ) (behind : State) : Type 0 where
   pub name : Name
   pub word_is : word ≡ word_of name
   pub built : is_built name ≡ true
-  pub behind_is : behind ≡ named name
+  pub behind_is : behind ≡ placed (bare name)
 
 name-found : (found : Option Name) (word : List ℕ) (behind : State) → name_in word ≡ found →
     behind_name found ≡ Some behind → NameRead word behind
 name-found None word behind e h = absurd (cc)
 name-found (Some name) word behind e h =
-    let w = when-some (is_built name) (named name) behind h in
+    let w = when-some (is_built name) (placed (bare name)) behind h in
     record { name = name; word_is = name-read word name e; built = w.0; behind_is = w.1 }
 
 pub start-read : (word : List ℕ) (behind : State) → follow start word ≡ Some behind → NameRead word behind
 unfolding follow
 start-read word behind h = name-found (name_in word) word behind refl h
 
-pub start-follows : (name : Name) → is_built name ≡ true → follow start (word_of name) ≡ Some (named name)
+pub start-follows : (name : Name) → is_built name ≡ true → follow start (word_of name) ≡ Some (placed (bare name))
 unfolding follow
-start-follows name built = rw (name-written name) (when-true (is_built name) (named name) built)
+start-follows name built = rw (name-written name) (when-true (is_built name) (placed (bare name)) built)
 
--- the positional words
-pub named-read : (name : Name) (word : List ℕ) (behind : State) → follow (named name) word ≡ Some behind →
-    (is_file_name word ≡ true) × (behind ≡ behind_first name word)
-unfolding follow
-named-read name word behind h = when-some (is_file_name word) (behind_first name word) behind h
+-- one more positional word, or the first option
+both-tests : (a b : Bool) → (a && b) ≡ true → (a ≡ true) × (b ≡ true)
+both-tests true true h = (refl, refl)
+both-tests true false h = absurd (cc)
+both-tests false b h = absurd (cc)
 
-pub named-follows : (name : Name) (word : List ℕ) → is_file_name word ≡ true →
-    follow (named name) word ≡ Some (behind_first name word)
-unfolding follow
-named-follows name word h = when-true (is_file_name word) (behind_first name word) h
+-- a word that has a place there
+pub place-tests : (subject : Subject) (word : List ℕ) → has_place subject word ≡ true →
+    (subject.count < most subject.name) × (is_positional subject.name word ≡ true)
+place-tests subject word h =
+    let b = both-tests (nat_lt subject.count (most subject.name)) (is_positional subject.name word) h in
+    (grind (arith, nat_tests, b.0), b.1)
 
-pub laid-read : (layout word : List ℕ) (behind : State) → follow (laid layout) word ≡ Some behind →
-    (is_file_name word ≡ true) × (behind ≡ options (run_on layout word) nothing_given)
-unfolding follow
-laid-read layout word behind h =
-    when-some (is_file_name word) (options (run_on layout word) nothing_given) behind h
+pub tests-place : (subject : Subject) (word : List ℕ) → subject.count < most subject.name →
+    is_positional subject.name word ≡ true → has_place subject word ≡ true
+tests-place subject word room h =
+    let b : nat_lt subject.count (most subject.name) ≡ true = grind (arith, nat_tests) in rw (b, h) refl
 
-pub laid-follows : (layout word : List ℕ) → is_file_name word ≡ true →
-    follow (laid layout) word ≡ Some (options (run_on layout word) nothing_given)
+place-tried : (has enough : Bool) (subject : Subject) (word : List ℕ) (behind : State) →
+    has_place subject word ≡ has → nat_le (fewest subject.name) subject.count ≡ enough →
+    (if has then Some (placed (one_more subject))
+    else if enough then behind_option subject nothing_given (key_in word) else None) ≡ Some behind →
+    ((has_place subject word ≡ true) × (behind ≡ placed (one_more subject)))
+    ⊎ ((nat_le (fewest subject.name) subject.count ≡ true)
+    × (behind_option subject nothing_given (key_in word) ≡ Some behind))
+place-tried true enough subject word behind e f h = inl (e, cc)
+place-tried false true subject word behind e f h = inr (f, h)
+place-tried false false subject word behind e f h = absurd (cc)
+
+pub placed-read : (subject : Subject) (word : List ℕ) (behind : State) →
+    follow (placed subject) word ≡ Some behind →
+    ((has_place subject word ≡ true) × (behind ≡ placed (one_more subject)))
+    ⊎ ((nat_le (fewest subject.name) subject.count ≡ true)
+    × (follow (options subject nothing_given) word ≡ Some behind))
 unfolding follow
-laid-follows layout word h = when-true (is_file_name word) (options (run_on layout word) nothing_given) h
+placed-read subject word behind h =
+    place-tried (has_place subject word) (nat_le (fewest subject.name) subject.count) subject word behind
+    refl refl h
+
+pub placed-follows : (subject : Subject) (word : List ℕ) → has_place subject word ≡ true →
+    follow (placed subject) word ≡ Some (placed (one_more subject))
+unfolding follow
+placed-follows subject word h = rw h refl
+
+-- the word of an option has no place among positional words
+key-no-file : (key : Key) → is_file_name (key_word key) ≡ false
+key-no-file keys.Limit = refl
+key-no-file keys.Show = refl
+key-no-file keys.Script = refl
+key-no-file keys.Seed = refl
+key-no-file keys.Mul = refl
+key-no-file keys.Run = refl
+
+key-no-count : (key : Key) → is_some (count_in (key_word key)) ≡ false
+unfolding count_in
+key-no-count keys.Limit = refl
+key-no-count keys.Show = refl
+key-no-count keys.Script = refl
+key-no-count keys.Seed = refl
+key-no-count keys.Mul = refl
+key-no-count keys.Run = refl
+
+key-tried : (numbers : Bool) (key : Key) →
+    (if numbers then is_some (count_in (key_word key)) else is_file_name (key_word key)) ≡ false
+key-tried true key = key-no-count key
+key-tried false key = key-no-file key
+
+key-no-positional : (name : Name) (key : Key) → is_positional name (key_word key) ≡ false
+unfolding is_positional
+key-no-positional name key = key-tried (counts name) key
+
+and-false : (a : Bool) → (a && false) ≡ false
+and-false true = refl
+and-false false = refl
+
+key-no-place : (subject : Subject) (key : Key) → has_place subject (key_word key) ≡ false
+key-no-place subject key =
+    rw (key-no-positional subject.name key) (and-false (nat_lt subject.count (most subject.name)))
+
+-- so behind enough positional words it is read as that of the first option
+pub first-option : (subject : Subject) (key : Key) → fewest subject.name ≤ subject.count →
+    follow (placed subject) (key_word key) ≡ follow (options subject nothing_given) (key_word key)
+unfolding follow
+first-option subject key enough =
+    let b : nat_le (fewest subject.name) subject.count ≡ true = grind (arith, nat_tests) in
+    rw (key-no-place subject key, b) refl
 
 -- an option's own word
 pub record KeyRead (subject : Subject) (given : Given) (word : List ℕ) (behind : State) : Type 0 where
   pub key : Key
   pub word_is : word ≡ key_word key
-  pub taken : takes_key (name_of subject) key ≡ true
+  pub taken : takes_key subject.name key ≡ true
   pub fresh : has_key given key ≡ false
   pub behind_is : behind ≡ behind_key subject given key
 
@@ -94,9 +164,9 @@ key-found : (found : Option Key) (subject : Subject) (given : Given) (word : Lis
     KeyRead subject given word behind
 key-found None subject given word behind e h = absurd (cc)
 key-found (Some key) subject given word behind e h =
-    let w = when-some (takes_key (name_of subject) key && not (has_key given key))
+    let w = when-some (takes_key subject.name key && not (has_key given key))
     (behind_key subject given key) behind h in
-    let b = both-true (takes_key (name_of subject) key) (has_key given key) w.0 in
+    let b = both-true (takes_key subject.name key) (has_key given key) w.0 in
     record { key = key; word_is = key-read word key e; taken = b.0; fresh = b.1; behind_is = w.1 }
 
 pub option-read : (subject : Subject) (given : Given) (word : List ℕ) (behind : State) →
@@ -105,13 +175,13 @@ unfolding follow
 option-read subject given word behind h = key-found (key_in word) subject given word behind refl h
 
 pub option-follows : (subject : Subject) (given : Given) (key : Key) →
-    takes_key (name_of subject) key ≡ true → has_key given key ≡ false →
+    takes_key subject.name key ≡ true → has_key given key ≡ false →
     follow (options subject given) (key_word key) ≡ Some (behind_key subject given key)
 unfolding follow
 option-follows subject given key taken fresh =
     rw (key-written key)
-    (when-true (takes_key (name_of subject) key && not (has_key given key)) (behind_key subject given key)
-    (true-both (takes_key (name_of subject) key) (has_key given key) taken fresh))
+    (when-true (takes_key subject.name key && not (has_key given key)) (behind_key subject given key)
+    (true-both (takes_key subject.name key) (has_key given key) taken fresh))
 
 -- an option's value
 pub record ValueRead (subject : Subject) (given : Given) (key : Key) (word : List ℕ) (behind : State) :
@@ -119,7 +189,7 @@ pub record ValueRead (subject : Subject) (given : Given) (key : Key) (word : Lis
   pub setting : Setting
   pub key_is : key_of setting ≡ key
   pub word_is : value_words setting ≡ word ∷ []
-  pub allowed : is_value (name_of subject) setting ≡ true
+  pub allowed : is_value subject.name setting ≡ true
   pub behind_is : behind ≡ options subject (put given setting)
 
 if-some : {A : Type 0} → (b : Bool) (x y : A) → (if b then Some x else None) ≡ Some y →
@@ -142,7 +212,7 @@ limit-found (Some number) subject given word behind e h =
 
 lines-tested : (b : Bool) (subject : Subject) (given : Given) (word : List ℕ) (behind : State)
     (lines : Show) →
-    lines_in word ≡ Some lines → has_lines (name_of subject) lines ≡ b →
+    lines_in word ≡ Some lines → has_lines subject.name lines ≡ b →
     behind_value subject (when b (record given { show = Some lines })) ≡ Some behind →
     ValueRead subject given keys.Show word behind
 lines-tested true subject given word behind lines e t h =
@@ -156,13 +226,37 @@ lines-tested true subject given word behind lines e t h =
     }
 lines-tested false subject given word behind lines e t h = absurd (cc)
 
+sites-tested : (b : Bool) (subject : Subject) (given : Given) (word : List ℕ) (behind : State) →
+    is_text word (codes "sites") ≡ true → has_sites subject.name ≡ b →
+    behind_value subject (when b (record given { sites = true })) ≡ Some behind →
+    ValueRead subject given keys.Show word behind
+sites-tested true subject given word behind e t h =
+    record {
+      setting = show_sites;
+      key_is = refl;
+      word_is = ap (λ (w : List ℕ). w ∷ []) (sym (is-text word (codes "sites") e));
+      allowed = t;
+      behind_is = cc;
+    }
+sites-tested false subject given word behind e t h = absurd (cc)
+
 lines-found : (found : Option Show) (subject : Subject) (given : Given) (word : List ℕ) (behind : State) →
     lines_in word ≡ found →
-    behind_value subject (with_lines (name_of subject) given found) ≡ Some behind →
+    behind_value subject (with_lines subject.name given found) ≡ Some behind →
     ValueRead subject given keys.Show word behind
 lines-found None subject given word behind e h = absurd (cc)
 lines-found (Some lines) subject given word behind e h =
-    lines-tested (has_lines (name_of subject) lines) subject given word behind lines e refl h
+    lines-tested (has_lines subject.name lines) subject given word behind lines e refl h
+
+shown-found : (sites : Bool) (subject : Subject) (given : Given) (word : List ℕ) (behind : State) →
+    is_text word (codes "sites") ≡ sites →
+    behind_value subject (if sites then when (has_sites subject.name) (record given { sites = true })
+    else with_lines subject.name given (lines_in word)) ≡ Some behind →
+    ValueRead subject given keys.Show word behind
+shown-found true subject given word behind e h =
+    sites-tested (has_sites subject.name) subject given word behind e refl h
+shown-found false subject given word behind e h =
+    lines-found (lines_in word) subject given word behind refl h
 
 script-tested : (b : Bool) (subject : Subject) (given : Given) (word : List ℕ) (behind : State) →
     is_file_name word ≡ b →
@@ -186,12 +280,13 @@ unfolding follow with_value
 value-read keys.Limit subject given word behind h =
     limit-found (number_in most_limit word) subject given word behind refl h
 value-read keys.Show subject given word behind h =
-    lines-found (lines_in word) subject given word behind refl h
+    shown-found (is_text word (codes "sites")) subject given word behind refl h
 value-read keys.Script subject given word behind h =
     script-tested (is_file_name word) subject given word behind refl h
 value-read keys.Seed subject given word behind h =
     seed-found (number_in most_seed word) subject given word behind refl h
 value-read keys.Mul subject given word behind h = absurd (cc)
+value-read keys.Run subject given word behind h = absurd (cc)
 
 number-is : (most : ℕ) (word : List ℕ) → is_number most word ≡ true →
     number_in most word ≡ Some (digits_value 10 word)
@@ -211,13 +306,18 @@ unfolding follow with_value
 seed-follows subject given word h = rw (number-is most_seed word h)
 
 pub lines-follow : (subject : Subject) (given : Given) (lines : Show) →
-    has_lines (name_of subject) lines ≡ true →
+    has_lines subject.name lines ≡ true →
     follow (valued subject given keys.Show) (show_word lines) ≡ Some
     (options subject (put given (show_lines lines)))
 unfolding follow with_value
-lines-follow subject given lines h = rw (lines-written lines, h)
+lines-follow subject given lines h = rw (lines-no-sites lines, lines-written lines, h)
 
 pub script-follows : (subject : Subject) (given : Given) (word : List ℕ) → is_file_name word ≡ true →
     follow (valued subject given keys.Script) word ≡ Some (options subject (put given (script_from word)))
 unfolding follow with_value
 script-follows subject given word h = rw h
+
+pub sites-follow : (subject : Subject) (given : Given) → has_sites subject.name ≡ true →
+    follow (valued subject given keys.Show) (codes "sites") ≡ Some (options subject (put given show_sites))
+unfolding follow with_value
+sites-follow subject given h = rw h

@@ -13,17 +13,21 @@ use Rattle.cf_words.specs.Values.{is_file_name, is_number}
 pub data Setting : Type 0 where
   limit_to : (digits : List ℕ) → Setting
   show_lines : Show → Setting
+  show_sites : Setting
   script_from : (file : List ℕ) → Setting
   seed_from : (digits : List ℕ) → Setting
   with_mul : Setting
+  with_run : Setting
 
 -- which option it is
 abbrev pub key_of : Setting → Key
 key_of (limit_to digits) = keys.Limit
 key_of (show_lines lines) = keys.Show
+key_of show_sites = keys.Show
 key_of (script_from file) = keys.Script
 key_of (seed_from digits) = keys.Seed
 key_of with_mul = keys.Mul
+key_of with_run = keys.Run
 
 -- the option's own word
 abbrev pub key_word : Key → List ℕ
@@ -32,20 +36,23 @@ key_word keys.Show = codes "--show"
 key_word keys.Script = codes "--script"
 key_word keys.Seed = codes "--seed"
 key_word keys.Mul = codes "--mul"
+key_word keys.Run = codes "--run"
 
--- the word for what is shown
+-- the word for what is shown of a run
 abbrev pub show_word : Show → List ℕ
 show_word shows.Report = codes "report"
 show_word shows.Retired = codes "retired"
 show_word shows.Moves = codes "moves"
 
--- the value is one word behind it, and `--mul` has none
+-- the value is one word behind it; `--mul` and `--run` have none
 abbrev pub value_words : Setting → List (List ℕ)
 value_words (limit_to digits) = digits ∷ []
 value_words (show_lines lines) = show_word lines ∷ []
+value_words show_sites = codes "sites" ∷ []
 value_words (script_from file) = file ∷ []
 value_words (seed_from digits) = digits ∷ []
 value_words with_mul = []
+value_words with_run = []
 
 -- the words of the options, in their order
 abbrev pub written : List Setting → List (List ℕ)
@@ -56,21 +63,34 @@ written (setting ∷ settings) = key_word (key_of setting) ∷ (value_words sett
 abbrev pub takes_key : Name → Key → Bool
 takes_key names.Machine keys.Limit = true
 takes_key names.Machine keys.Show = true
-takes_key names.Machine keys.Script = false
-takes_key names.Machine keys.Seed = false
 takes_key names.Machine keys.Mul = true
 takes_key names.Run keys.Limit = true
 takes_key names.Run keys.Show = true
 takes_key names.Run keys.Script = true
 takes_key names.Run keys.Seed = true
-takes_key names.Run keys.Mul = false
+takes_key names.Moves keys.Limit = true
+takes_key names.Moves keys.Script = true
+takes_key names.Rounds keys.Limit = true
+takes_key names.Time keys.Limit = true
+takes_key names.Time keys.Show = true
+takes_key names.Gen keys.Run = true
 takes_key _ _ = false
 
--- what each command can show: only a run of the processor has moves
+-- what each command can show of a run: only one of the processor has moves
 abbrev pub has_lines : Name → Show → Bool
 has_lines names.Run lines = true
-has_lines _ shows.Moves = false
-has_lines _ lines = true
+has_lines names.Machine shows.Report = true
+has_lines names.Machine shows.Retired = true
+has_lines _ _ = false
+
+-- whether a command can show what a time is made of
+abbrev pub has_sites : Name → Bool
+has_sites names.Time = true
+has_sites _ = false
+
+-- the limit where none is given
+abbrev pub default_limit : ℕ
+default_limit = 10000000
 
 -- the greatest limit
 abbrev pub most_limit : ℕ
@@ -84,9 +104,11 @@ most_seed = 4294967295
 abbrev pub is_value : Name → Setting → Bool
 is_value name (limit_to digits) = is_number most_limit digits
 is_value name (show_lines lines) = has_lines name lines
+is_value name show_sites = has_sites name
 is_value name (script_from file) = is_file_name file
 is_value name (seed_from digits) = is_number most_seed digits
 is_value name with_mul = true
+is_value name with_run = true
 
 -- the command has the option, and it may have that value
 abbrev pub takes : Name → Setting → Bool
@@ -98,6 +120,7 @@ pub data Matter : Type 0 where
   showing : Matter
   schedules : Matter
   multiplies : Matter
+  running : Matter
 
 -- each option settles one matter; a script and a seed both settle the schedule
 abbrev pub matter_of : Key → Matter
@@ -106,6 +129,7 @@ matter_of keys.Show = showing
 matter_of keys.Script = schedules
 matter_of keys.Seed = schedules
 matter_of keys.Mul = multiplies
+matter_of keys.Run = running
 
 -- none of these options settles the matter
 abbrev pub Without : Matter → List Setting → Type 0
@@ -123,13 +147,13 @@ pub data Schedule : Type 0 where
   by_seed : (seed : ℕ) → Schedule
   by_rule : Schedule
 
--- the limit among them
+-- the limit among some options
 abbrev pub limit_in : List Setting → Option ℕ
 limit_in [] = None
 limit_in (limit_to digits ∷ settings) = Some (digits_value 10 digits)
 limit_in (_ ∷ settings) = limit_in settings
 
--- what is shown
+-- what is shown of a run
 abbrev pub show_in : List Setting → Option Show
 show_in [] = None
 show_in (show_lines lines ∷ settings) = Some lines
@@ -142,24 +166,40 @@ schedule_in (script_from file ∷ settings) = Some (by_script file)
 schedule_in (seed_from digits ∷ settings) = Some (by_seed (digits_value 10 digits))
 schedule_in (_ ∷ settings) = schedule_in settings
 
+-- whether it is asked what a time is made of
+abbrev pub sites_in : List Setting → Bool
+sites_in [] = false
+sites_in (show_sites ∷ settings) = true
+sites_in (_ ∷ settings) = sites_in settings
+
 -- whether `--mul` is there
 abbrev pub mul_in : List Setting → Bool
 mul_in [] = false
 mul_in (with_mul ∷ settings) = true
 mul_in (_ ∷ settings) = mul_in settings
 
+-- whether `--run` is there
+abbrev pub run_in : List Setting → Bool
+run_in [] = false
+run_in (with_run ∷ settings) = true
+run_in (_ ∷ settings) = run_in settings
+
 -- all that options give
 pub record Given : Type 0 where
   pub limit : Option ℕ
   pub show : Option Show
+  pub sites : Bool
   pub schedule : Option Schedule
   pub mul : Bool
+  pub run : Bool
 
--- what stands among them
+-- what some options give
 abbrev pub given_in : List Setting → Given
 given_in settings = record {
   limit = limit_in settings;
   show = show_in settings;
+  sites = sites_in settings;
   schedule = schedule_in settings;
   mul = mul_in settings;
+  run = run_in settings;
 }

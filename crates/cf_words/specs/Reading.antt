@@ -1,5 +1,5 @@
 -- How the words of the command line are read one by one: what is known behind each of them, and which words may follow.
-use Rattle.std.specs.Prelude.{ℕ, List, codes, nat_eq, Bool, true, false, not, ◌&&◌, Option, Some, None, if◌then◌else◌}
+use Rattle.std.specs.Prelude.{ℕ, ◌+◌, List, codes, take, drop, nat_eq, nat_le, nat_lt, Bool, true, false, not, ◌&&◌, ◌||◌, Option, Some, None, if◌then◌else◌}
 use Rattle.std.specs.Str.Parse.{digits_value}
 use lib.Pointwise.{pointwise}
 use Rattle.cf_words.specs.declared.names.Name.{Name}
@@ -8,9 +8,11 @@ use Rattle.cf_words.specs.declared.options.Show.{Show}
 use Rattle.cf_words.specs.declared.options.Show.TheVariants as shows
 use Rattle.cf_words.specs.declared.options.Key.{Key}
 use Rattle.cf_words.specs.declared.options.Key.TheVariants as keys
+use Rattle.cf_words.specs.declared.reading.Subject.{Subject}
 use Rattle.cf_words.specs.Values.{is_file_name, is_number}
-use Rattle.cf_words.specs.Options.{takes_key, has_lines, most_limit, most_seed, Matter, limits, showing, schedules, multiplies, matter_of, by_script, by_seed, Given}
-use Rattle.cf_words.specs.Words.{is_built, Subject, machine_on, check_on, list_on, asm_on, run_on, name_of, Asked, asked_by}
+use Rattle.cf_words.specs.Commands.{is_built, fewest, most, is_positional}
+use Rattle.cf_words.specs.Options.{takes_key, has_lines, has_sites, most_limit, most_seed, Matter, limits, showing, schedules, multiplies, running, matter_of, by_script, by_seed, Given}
+use Rattle.cf_words.specs.Words.{Asked, asked_by}
 
 -- a word that is this text
 abbrev pub is_text : List ℕ → List ℕ → Bool
@@ -20,10 +22,19 @@ is_text word text = pointwise nat_eq word text
 unfoldable pub name_in : List ℕ → Option Name
 name_in word =
     if is_text word (codes "machine") then Some names.Machine
-    else if is_text word (codes "check") then Some names.Check
-    else if is_text word (codes "list") then Some names.List
-    else if is_text word (codes "asm") then Some names.Asm
     else if is_text word (codes "run") then Some names.Run
+    else if is_text word (codes "moves") then Some names.Moves
+    else if is_text word (codes "rounds") then Some names.Rounds
+    else if is_text word (codes "debug") then Some names.Debug
+    else if is_text word (codes "time") then Some names.Time
+    else if is_text word (codes "audit") then Some names.Audit
+    else if is_text word (codes "check") then Some names.Check
+    else if is_text word (codes "asm") then Some names.Asm
+    else if is_text word (codes "list") then Some names.List
+    else if is_text word (codes "gen") then Some names.Gen
+    else if is_text word (codes "help") then Some names.Help
+    else if is_text word (codes "--help") then Some names.HelpOption
+    else if is_text word (codes "--version") then Some names.Version
     else None
 
 -- the option whose own word it is
@@ -34,9 +45,10 @@ key_in word =
     else if is_text word (codes "--script") then Some keys.Script
     else if is_text word (codes "--seed") then Some keys.Seed
     else if is_text word (codes "--mul") then Some keys.Mul
+    else if is_text word (codes "--run") then Some keys.Run
     else None
 
--- what it asks to be shown
+-- what it asks to be shown of a run
 unfoldable pub lines_in : List ℕ → Option Show
 lines_in word =
     if is_text word (codes "report") then Some shows.Report
@@ -50,7 +62,8 @@ number_in most word = if is_number most word then Some (digits_value 10 word) el
 
 -- no option yet
 abbrev pub nothing_given : Given
-nothing_given = record { limit = None; show = None; schedule = None; mul = false }
+nothing_given =
+    record { limit = None; show = None; sites = false; schedule = None; mul = false; run = false }
 
 -- whether there is one
 abbrev pub is_there : {A : Type 0} → Option A → Bool
@@ -60,19 +73,20 @@ is_there (Some x) = true
 -- whether a matter is settled already
 abbrev pub is_settled : Given → Matter → Bool
 is_settled given limits = is_there given.limit
-is_settled given showing = is_there given.show
+is_settled given showing = is_there given.show || given.sites
 is_settled given schedules = is_there given.schedule
 is_settled given multiplies = given.mul
+is_settled given running = given.run
 
--- whether what an option settles is settled already
+-- whether what an option settles is
 abbrev pub has_key : Given → Key → Bool
 has_key given key = is_settled given (matter_of key)
 
--- what is known behind the words that were read
+-- what is known behind the words that were read: nothing yet, a command with so many positional words, options behind
+-- them, or an option whose value comes next
 pub data State : Type 0 where
   start : State
-  named : Name → State
-  laid : (layout : List ℕ) → State
+  placed : Subject → State
   options : Subject → Given → State
   valued : Subject → Given → Key → State
 
@@ -81,18 +95,17 @@ abbrev pub when : {A : Type 0} → Bool → A → Option A
 when true x = Some x
 when false x = None
 
+-- a command without positional words yet, and one with one more
+abbrev pub bare : Name → Subject
+bare name = record { name = name; count = 0 }
+
+abbrev pub one_more : Subject → Subject
+one_more subject = record { name = subject.name; count = subject.count + 1 }
+
 -- behind the first word
 abbrev pub behind_name : Option Name → Option State
 behind_name None = None
-behind_name (Some name) = when (is_built name) (named name)
-
--- behind the first positional word
-abbrev pub behind_first : Name → List ℕ → State
-behind_first names.Machine word = options (machine_on word) nothing_given
-behind_first names.Check word = options (check_on word) nothing_given
-behind_first names.List word = options (list_on word) nothing_given
-behind_first names.Asm word = options (asm_on word) nothing_given
-behind_first names.Run word = laid word
+behind_name (Some name) = when (is_built name) (placed (bare name))
 
 -- behind an option's own word
 abbrev pub behind_key : Subject → Given → Key → State
@@ -101,17 +114,35 @@ behind_key subject given keys.Show = valued subject given keys.Show
 behind_key subject given keys.Script = valued subject given keys.Script
 behind_key subject given keys.Seed = valued subject given keys.Seed
 behind_key subject given keys.Mul = options subject (record given { mul = true })
+behind_key subject given keys.Run = options subject (record given { run = true })
 
 -- the same, where the word is one that the command has and that did not stand before
 abbrev pub behind_option : Subject → Given → Option Key → Option State
 behind_option subject given None = None
 behind_option subject given (Some key) =
-    when (takes_key (name_of subject) key && not (has_key given key)) (behind_key subject given key)
+    when (takes_key subject.name key && not (has_key given key)) (behind_key subject given key)
+
+-- whether one more positional word may stand there, and this is one
+abbrev pub has_place : Subject → List ℕ → Bool
+has_place subject word = nat_lt subject.count (most subject.name) && is_positional subject.name word
+
+-- behind one more positional word, or behind the first option's own word where there are enough of them
+abbrev pub behind_place : Subject → List ℕ → Option State
+behind_place subject word =
+    if has_place subject word then Some (placed (one_more subject))
+    else if nat_le (fewest subject.name) subject.count then behind_option subject nothing_given (key_in word)
+    else None
 
 -- what is given with one more value: lines that the command can show
 abbrev pub with_lines : Name → Given → Option Show → Option Given
 with_lines name given None = None
 with_lines name given (Some lines) = when (has_lines name lines) (record given { show = Some lines })
+
+-- or what a time is made of
+abbrev pub with_shown : Name → Given → List ℕ → Option Given
+with_shown name given word =
+    if is_text word (codes "sites") then when (has_sites name) (record given { sites = true })
+    else with_lines name given (lines_in word)
 
 -- a limit
 abbrev pub with_limit : Given → Option ℕ → Option Given
@@ -126,11 +157,12 @@ with_seed given (Some seed) = Some (record given { schedule = Some (by_seed seed
 -- what is given with the value of an option
 unfoldable pub with_value : Name → Given → Key → List ℕ → Option Given
 with_value name given keys.Limit word = with_limit given (number_in most_limit word)
-with_value name given keys.Show word = with_lines name given (lines_in word)
+with_value name given keys.Show word = with_shown name given word
 with_value name given keys.Script word =
     when (is_file_name word) (record given { schedule = Some (by_script word) })
 with_value name given keys.Seed word = with_seed given (number_in most_seed word)
 with_value name given keys.Mul word = None
+with_value name given keys.Run word = None
 
 -- behind an option's value
 abbrev pub behind_value : Subject → Option Given → Option State
@@ -140,12 +172,17 @@ behind_value subject (Some given) = Some (options subject given)
 -- what is known behind one more word, which has no place where there is no answer
 unfoldable pub follow : State → List ℕ → Option State
 follow start word = behind_name (name_in word)
-follow (named name) word = when (is_file_name word) (behind_first name word)
-follow (laid layout) word = when (is_file_name word) (options (run_on layout word) nothing_given)
+follow (placed subject) word = behind_place subject word
 follow (options subject given) word = behind_option subject given (key_in word)
-follow (valued subject given key) word = behind_value subject (with_value (name_of subject) given key word)
+follow (valued subject given key) word = behind_value subject (with_value subject.name given key word)
+
+-- the positional words: so many behind the first word
+abbrev pub positional_in : ℕ → List (List ℕ) → List (List ℕ)
+positional_in count words = take count (drop 1 words)
 
 -- what is asked where no word is left, or nothing where one is missing
-unfoldable pub completed : State → Option Asked
-completed (options subject given) = Some (asked_by subject given)
-completed _ = None
+unfoldable pub completed : List (List ℕ) → State → Option Asked
+completed words start = None
+completed words (placed subject) = asked_by subject.name (positional_in subject.count words) nothing_given
+completed words (options subject given) = asked_by subject.name (positional_in subject.count words) given
+completed words (valued subject given key) = None

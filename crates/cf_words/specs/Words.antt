@@ -1,5 +1,5 @@
 -- The grammar of the project's command line: accepted words, what they ask, and the first word that has no place.
-use Rattle.std.specs.Prelude.{◌≡◌, ◌≤◌, ◌+◌, ℕ, List, [], ◌∷◌, ◌++◌, codes, length, take, nat_eq, Bool, true, false, if◌then◌else◌}
+use Rattle.std.specs.Prelude.{◌≡◌, ◌≤◌, ◌+◌, ℕ, List, [], ◌∷◌, ◌++◌, codes, length, map, take, nat_eq, Bool, true, false, Option, Some, None, option_map, if◌then◌else◌}
 use Rattle.std.specs.List.{list_all}
 use Rattle.std.specs.Option.{unwrap_or}
 use lib.Pointwise.{pointwise}
@@ -7,56 +7,20 @@ use Rattle.cf_words.specs.declared.names.Name.{Name}
 use Rattle.cf_words.specs.declared.names.Name.TheVariants as names
 use Rattle.cf_words.specs.declared.options.Show.{Show}
 use Rattle.cf_words.specs.declared.options.Show.TheVariants as shows
-use Rattle.cf_words.specs.Values.{is_file_name}
-use Rattle.cf_words.specs.Options.{Setting, written, takes, most_limit, NoneTwice, Schedule, by_rule, Given, given_in}
-
--- the commands that are built: the one place that says so
-unfoldable pub is_built : Name → Bool
-is_built names.Machine = true
-is_built names.Check = true
-is_built names.List = true
-is_built names.Asm = true
-is_built names.Run = true
-
--- the first word of each command
-abbrev pub word_of : Name → List ℕ
-word_of names.Machine = codes "machine"
-word_of names.Check = codes "check"
-word_of names.List = codes "list"
-word_of names.Asm = codes "asm"
-word_of names.Run = codes "run"
-
--- a command with its positional words
-pub data Subject : Type 0 where
-  machine_on : (program : List ℕ) → Subject
-  check_on : (layout : List ℕ) → Subject
-  list_on : (program : List ℕ) → Subject
-  asm_on : (source : List ℕ) → Subject
-  run_on : (layout : List ℕ) (program : List ℕ) → Subject
-
--- which command it is
-abbrev pub name_of : Subject → Name
-name_of (machine_on program) = names.Machine
-name_of (check_on layout) = names.Check
-name_of (list_on program) = names.List
-name_of (asm_on source) = names.Asm
-name_of (run_on layout program) = names.Run
-
--- its positional words, in their order
-abbrev pub positional_of : Subject → List (List ℕ)
-positional_of (machine_on program) = program ∷ []
-positional_of (check_on layout) = layout ∷ []
-positional_of (list_on program) = program ∷ []
-positional_of (asm_on source) = source ∷ []
-positional_of (run_on layout program) = layout ∷ program ∷ []
+use Rattle.cf_words.specs.Values.{most_statements, count_in}
+use Rattle.cf_words.specs.Commands.{is_built, word_of, fewest, most, is_positional}
+use Rattle.cf_words.specs.Options.{Setting, written, takes, default_limit, most_limit, NoneTwice, Schedule, by_rule, Given, given_in}
 
 -- the words are a built command's, with its positional words and behind them options of that command, which
 -- settle nothing twice
-pub record IsCommand (words : List (List ℕ)) (subject : Subject) (settings : List Setting) : Type 0 where
-  pub built : is_built (name_of subject) ≡ true
-  pub words_are : words ≡ word_of (name_of subject) ∷ (positional_of subject ++ written settings)
-  pub named : list_all is_file_name (positional_of subject) ≡ true
-  pub taken : list_all (takes (name_of subject)) settings ≡ true
+pub record IsCommand (words : List (List ℕ)) (name : Name) (positional : List (List ℕ))
+    (settings : List Setting) : Type 0 where
+  pub built : is_built name ≡ true
+  pub words_are : words ≡ word_of name ∷ (positional ++ written settings)
+  pub enough : fewest name ≤ length positional
+  pub few : length positional ≤ most name
+  pub placed : list_all (is_positional name) positional ≡ true
+  pub taken : list_all (takes name) settings ≡ true
   pub none_twice : NoneTwice settings
 
 -- where a layout is: built in, or in a file
@@ -71,14 +35,22 @@ layout_in word = if pointwise nat_eq word (codes "plain") then plain else in_fil
 -- what words ask: a command, the files that they name, and what the options say
 pub data Asked : Type 0 where
   machine : (program : List ℕ) (limit : ℕ) (retired : Bool) (mul : Bool) → Asked
-  check : Layout → Asked
-  listing : (program : List ℕ) → Asked
-  asm : (source : List ℕ) → Asked
   run : Layout → (program : List ℕ) → Schedule → (limit : ℕ) (lines : Show) → Asked
+  moves : Layout → (program : List ℕ) → Schedule → (limit : ℕ) → Asked
+  rounds : Layout → (program : List ℕ) (limit : ℕ) → Asked
+  debug : Layout → (program : List ℕ) → Asked
+  time : (delays : List ℕ) (program : List ℕ) (layouts : List Layout) (limit : ℕ) (sites : Bool) → Asked
+  audit : Layout → (program : List ℕ) (trace : List ℕ) → Asked
+  check : Layout → Asked
+  asm : (source : List ℕ) → Asked
+  listing : (program : List ℕ) → Asked
+  gen : (number : ℕ) (runs : Bool) → Asked
+  help : Asked
+  version : Asked
 
--- the limit, which is 10,000,000 where none is given
+-- the limit that is given, or the one where none is
 abbrev pub limit_of : Given → ℕ
-limit_of given = unwrap_or given.limit 10000000
+limit_of given = unwrap_or given.limit default_limit
 
 -- what is shown: the report alone where nothing is given
 abbrev pub lines_of : Given → Show
@@ -93,28 +65,68 @@ abbrev pub is_retired : Show → Bool
 is_retired shows.Retired = true
 is_retired _ = false
 
--- what a command asks with what its options give
-abbrev pub asked_by : Subject → Given → Asked
-asked_by (machine_on program) given =
-    machine program (limit_of given) (is_retired (lines_of given)) given.mul
-asked_by (check_on layout) given = check (layout_in layout)
-asked_by (list_on program) given = listing program
-asked_by (asm_on source) given = asm source
-asked_by (run_on layout program) given =
-    run (layout_in layout) program (schedule_of given) (limit_of given) (lines_of given)
-
--- a limit that is asked is within its bound
-abbrev pub IsBounded : Asked → Type 0
-IsBounded (machine program limit retired mul) = limit ≤ most_limit
-IsBounded (run layout program schedule limit lines) = limit ≤ most_limit
-IsBounded _ = Unit {0}
+-- what a command asks with its positional words and what its options give; nothing where a word is missing, which of
+-- `moves` may be the script
+abbrev pub asked_by : Name → List (List ℕ) → Given → Option Asked
+asked_by names.Machine (program ∷ []) given =
+    Some (machine program (limit_of given) (is_retired (lines_of given)) given.mul)
+asked_by names.Run (layout ∷ program ∷ []) given =
+    Some (run (layout_in layout) program (schedule_of given) (limit_of given) (lines_of given))
+asked_by names.Moves (layout ∷ program ∷ []) given =
+    option_map (λ schedule. moves (layout_in layout) program schedule (limit_of given)) given.schedule
+asked_by names.Rounds (layout ∷ program ∷ []) given =
+    Some (rounds (layout_in layout) program (limit_of given))
+asked_by names.Debug (layout ∷ program ∷ []) given = Some (debug (layout_in layout) program)
+asked_by names.Time (delays ∷ program ∷ layout ∷ layouts) given =
+    Some (time delays program (map layout_in (layout ∷ layouts)) (limit_of given) given.sites)
+asked_by names.Audit (layout ∷ program ∷ trace ∷ []) given = Some (audit (layout_in layout) program trace)
+asked_by names.Check (layout ∷ []) given = Some (check (layout_in layout))
+asked_by names.Asm (source ∷ []) given = Some (asm source)
+asked_by names.List (program ∷ []) given = Some (listing program)
+asked_by names.Gen (word ∷ []) given = option_map (λ number. gen number given.run) (count_in word)
+asked_by names.Help [] given = Some help
+asked_by names.HelpOption [] given = Some help
+asked_by names.Version [] given = Some version
+asked_by _ _ _ = None
 
 -- the words are accepted, and ask this
 pub record Asks (words : List (List ℕ)) (asked : Asked) : Type 0 where
-  pub subject : Subject
+  pub name : Name
+  pub positional : List (List ℕ)
   pub settings : List Setting
-  pub command : IsCommand words subject settings
-  pub means : asked_by subject (given_in settings) ≡ asked
+  pub command : IsCommand words name positional settings
+  pub means : asked_by name positional (given_in settings) ≡ Some asked
+
+-- numbers that are asked are within their bounds
+abbrev pub IsBounded : Asked → Type 0
+IsBounded (machine program limit retired mul) = limit ≤ most_limit
+IsBounded (run layout program schedule limit lines) = limit ≤ most_limit
+IsBounded (moves layout program schedule limit) = limit ≤ most_limit
+IsBounded (rounds layout program limit) = limit ≤ most_limit
+IsBounded (time delays program layouts limit sites) =
+    (limit ≤ most_limit) × (1 ≤ length layouts) × (length layouts ≤ 8)
+IsBounded (gen number runs) = (1 ≤ number) × (number ≤ most_statements)
+IsBounded _ = Unit {0}
+
+-- which command is asked
+abbrev pub command_of : Asked → Name
+command_of (machine program limit retired mul) = names.Machine
+command_of (run layout program schedule limit lines) = names.Run
+command_of (moves layout program schedule limit) = names.Moves
+command_of (rounds layout program limit) = names.Rounds
+command_of (debug layout program) = names.Debug
+command_of (time delays program layouts limit sites) = names.Time
+command_of (audit layout program trace) = names.Audit
+command_of (check layout) = names.Check
+command_of (asm source) = names.Asm
+command_of (listing program) = names.List
+command_of (gen number runs) = names.Gen
+command_of help = names.Help
+command_of version = names.Version
+
+-- it is one that is built
+abbrev pub IsBuilt : Asked → Type 0
+IsBuilt asked = is_built (command_of asked) ≡ true
 
 -- the words before this index begin those of some command; with the word at it, or with none there, they begin
 -- those of no command

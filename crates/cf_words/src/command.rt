@@ -1,16 +1,19 @@
 //! What the words of the command line ask.
 #![tactic(auto, unfolding(crate::specs::Reading::completed))]
 
-ghost use Rattle.std.specs.Prelude.{◌≡◌, IfOk, MatchResult, map, string_bytes, option_map};
-ghost use Rattle.cf_words.specs.Words.{Asks, IsBadAt, IsBounded, layout_in};
+ghost use Rattle.std.specs.Prelude.{◌≡◌, ◌≤◌, [], ◌∷◌, IfOk, MatchResult, drop, length, map, string_bytes, option_map, take};
+ghost use Rattle.cf_words.specs.Options.{Given};
+ghost use Rattle.cf_words.specs.Words.{Asks, IsBadAt, IsBounded, IsBuilt, asked_by, layout_in};
 ghost use Rattle.cf_words.specs.Reading.{completed};
-ghost use Rattle.cf_words.specs.Views.{state_of, asked_of, layout_of};
+ghost use Rattle.cf_words.specs.Views.{state_of, given_of, asked_of, layout_of};
 
+use crate::names::Name;
+use crate::numbers::read_count;
 use crate::options::{Options, Schedule, Show};
-use crate::reading::{Reading, Subject};
+use crate::reading::Reading;
 
 /// The limit where `--limit` is not given.
-const DEFAULT_LIMIT: u64 = 10_000_000;
+pub const DEFAULT_LIMIT: u64 = 10_000_000;
 
 /// The options of `machine`.
 #[derive(Clone, Copy)]
@@ -34,6 +37,15 @@ pub struct RunOptions<'a> {
     pub show: Show,
 }
 
+/// The options of `time`.
+#[derive(Clone, Copy)]
+pub struct TimeOptions {
+    /// How many instructions each run retires at most.
+    pub limit: u64,
+    /// Whether it is shown what each time is made of.
+    pub sites: bool,
+}
+
 /// Where a layout is.
 #[derive(Clone, Copy)]
 pub enum LayoutWord<'a> {
@@ -51,68 +63,231 @@ pub enum Command<'a> {
         program: &'a str,
         options: MachineOptions,
     },
-    /// Writes the layout's one text.
-    Check {
-        layout: LayoutWord<'a>,
-    },
-    /// Writes the listing of a program.
-    List {
-        program: &'a str,
-    },
-    /// Assembles.
-    Asm {
-        source: &'a str,
-    },
     /// Runs the processor.
     Run {
         layout: LayoutWord<'a>,
         program: &'a str,
         options: RunOptions<'a>,
     },
+    /// Runs the processor by a script, and tells which moves can be made at its end.
+    Moves {
+        layout: LayoutWord<'a>,
+        program: &'a str,
+        schedule: Schedule<'a>,
+        limit: u64,
+    },
+    /// Runs the processor in rounds of independent moves.
+    Rounds {
+        layout: LayoutWord<'a>,
+        program: &'a str,
+        limit: u64,
+    },
+    /// Debugs a run of the processor.
+    Debug {
+        layout: LayoutWord<'a>,
+        program: &'a str,
+    },
+    /// Compares how long a program takes on one to eight layouts, each named by a word.
+    Time {
+        delays: &'a str,
+        program: &'a str,
+        layouts: &'a [String],
+        options: TimeOptions,
+    },
+    /// Tells whether a recorded trace is one of a run.
+    Audit {
+        layout: LayoutWord<'a>,
+        program: &'a str,
+        trace: &'a str,
+    },
+    /// Writes the layout's one text.
+    Check {
+        layout: LayoutWord<'a>,
+    },
+    /// Assembles.
+    Asm {
+        source: &'a str,
+    },
+    /// Writes the listing of a program.
+    List {
+        program: &'a str,
+    },
+    /// Writes the text of a drawn program, or runs it.
+    Gen {
+        number: u32,
+        run: bool,
+    },
+    /// Writes the help text.
+    Help,
+    /// Writes the version.
+    Version,
 }
 
-fn layout_word<'a>(word: &'a str) -> LayoutWord<'a>
-    ensures { layout_of result ≡ layout_in word.entry.now }
-{
-    match word {
-        "plain" => LayoutWord::Plain,
-        name => LayoutWord::File(name),
+impl<'a> LayoutWord<'a> {
+    /// The layout that a word names.
+    pub fn from_word(word: &'a str) -> Self
+        ensures { layout_of result ≡ layout_in word.entry.now }
+    {
+        match word {
+            "plain" => LayoutWord::Plain,
+            name => LayoutWord::File(name),
+        }
     }
 }
 
-/// What is asked where no word is left, or None where one is missing.
-fn complete<'a>(reading: Reading<'a>) -> Option<Command<'a>>
-    ensures { option_map asked_of result ≡ completed (state_of reading.entry) }
+/// A command without positional words.
+fn bare<'a>(name: Name) -> Option<Command<'a>>
+    ensures { (given : Given) → option_map asked_of result ≡ asked_by name [] given }
 {
-    let Reading::Options(subject, options) = reading else {
-        return None;
-    };
-    let limit = options.limit.unwrap_or(DEFAULT_LIMIT);
-    let show = options.show.unwrap_or(Show::Report);
-    let schedule = options.schedule.unwrap_or(Schedule::Rule);
-    match subject {
-        Subject::Machine(program) => Some(Command::Machine {
-            program,
+    match name {
+        Name::Help | Name::HelpOption => Some(Command::Help),
+        Name::Version => Some(Command::Version),
+        Name::Machine | Name::Run | Name::Moves | Name::Rounds | Name::Debug => None,
+        Name::Time | Name::Audit | Name::Check | Name::Asm | Name::List | Name::Gen => None,
+    }
+}
+
+/// A command with one positional word.
+fn with_one<'a>(name: Name, word: &'a str, options: Options<'a>) -> Option<Command<'a>>
+    ensures { option_map asked_of result ≡ asked_by name (word.entry.now ∷ []) (given_of options.entry) }
+{
+    match name {
+        Name::Machine => Some(Command::Machine {
+            program: word,
             options: MachineOptions {
-                limit,
-                show_retired: matches!(show, Show::Retired),
+                limit: options.limit.unwrap_or(DEFAULT_LIMIT),
+                show_retired: matches!(options.show.unwrap_or(Show::Report), Show::Retired),
                 mul: options.mul,
             },
         }),
-        Subject::Check(layout) => Some(Command::Check {
-            layout: layout_word(layout),
+        Name::Check => Some(Command::Check {
+            layout: LayoutWord::from_word(word),
         }),
-        Subject::List(program) => Some(Command::List { program }),
-        Subject::Asm(source) => Some(Command::Asm { source }),
-        Subject::Run(layout, program) => Some(Command::Run {
-            layout: layout_word(layout),
+        Name::Asm => Some(Command::Asm { source: word }),
+        Name::List => Some(Command::List { program: word }),
+        Name::Gen => {
+            let number = read_count(word)?;
+            Some(Command::Gen {
+                number,
+                run: options.run,
+            })
+        }
+        Name::Run | Name::Moves | Name::Rounds | Name::Debug | Name::Time | Name::Audit => None,
+        Name::Help | Name::HelpOption | Name::Version => None,
+    }
+}
+
+/// A command with two: a layout and a program.
+fn with_two<'a>(
+    name: Name,
+    layout: &'a str,
+    program: &'a str,
+    options: Options<'a>,
+) -> Option<Command<'a>>
+    ensures { option_map asked_of result
+        ≡ asked_by name (layout.entry.now ∷ program.entry.now ∷ []) (given_of options.entry) }
+{
+    let layout = LayoutWord::from_word(layout);
+    let limit = options.limit.unwrap_or(DEFAULT_LIMIT);
+    match name {
+        Name::Run => Some(Command::Run {
+            layout,
             program,
             options: RunOptions {
-                schedule,
+                schedule: options.schedule.unwrap_or(Schedule::Rule),
                 limit,
-                show,
+                show: options.show.unwrap_or(Show::Report),
             },
         }),
+        Name::Moves => {
+            let schedule = options.schedule?;
+            Some(Command::Moves {
+                layout,
+                program,
+                schedule,
+                limit,
+            })
+        }
+        Name::Rounds => Some(Command::Rounds {
+            layout,
+            program,
+            limit,
+        }),
+        Name::Debug => Some(Command::Debug { layout, program }),
+        Name::Machine | Name::Time | Name::Audit | Name::Check | Name::Asm | Name::List => None,
+        Name::Gen | Name::Help | Name::HelpOption | Name::Version => None,
+    }
+}
+
+/// A command with three or more.
+fn with_more<'a>(
+    name: Name,
+    first: &'a str,
+    program: &'a str,
+    others: &'a [String],
+    options: Options<'a>,
+) -> Option<Command<'a>>
+    requires { 1 ≤ length others.now }
+    ensures { option_map asked_of result ≡ asked_by name
+        (first.entry.now ∷ program.entry.now ∷ map string_bytes others.entry.now) (given_of options.entry) }
+{
+    match (name, others) {
+        (Name::Time, layouts) => Some(Command::Time {
+            delays: first,
+            program,
+            layouts,
+            options: TimeOptions {
+                limit: options.limit.unwrap_or(DEFAULT_LIMIT),
+                sites: options.sites,
+            },
+        }),
+        (Name::Audit, [trace]) => Some(Command::Audit {
+            layout: LayoutWord::from_word(first),
+            program,
+            trace: trace.as_str(),
+        }),
+        _ => None,
+    }
+}
+
+/// A command with these positional words and options, or None where a word is missing.
+fn with_words<'a>(name: Name, positional: &'a [String], options: Options<'a>) -> Option<Command<'a>>
+    ensures { option_map asked_of result
+        ≡ asked_by name (map string_bytes positional.entry.now) (given_of options.entry) }
+{
+    match positional {
+        [] => bare(name),
+        [word] => with_one(name, word.as_str(), options),
+        [layout, program] => with_two(name, layout.as_str(), program.as_str(), options),
+        [first, program, others @ ..] => {
+            with_more(name, first.as_str(), program.as_str(), others, options)
+        }
+    }
+}
+
+/// The positional words: so many behind the first word.
+fn positional(words: &[String], count: usize) -> &[String]
+    ensures { result.now ≡ take count (drop 1 words.now) }
+{
+    let behind = words.get(1..).unwrap_or(&[]);
+    behind.get(..count).unwrap_or(behind)
+}
+
+/// What is asked where no word is left, or None where one is missing.
+#[tactic(auto, using(crate::proofs::Completions::mapped), unfolding(crate::specs::Reading::completed))]
+fn complete<'a>(words: &'a [String], reading: Reading<'a>) -> Option<Command<'a>>
+    ensures { option_map asked_of result ≡ completed (map string_bytes words.entry.now) (state_of reading.entry) }
+{
+    match reading {
+        Reading::Placed(subject) => with_words(
+            subject.name,
+            positional(words, subject.count),
+            Options::new(),
+        ),
+        Reading::Options(subject, options) => {
+            with_words(subject.name, positional(words, subject.count), options)
+        }
+        Reading::Start | Reading::Value(..) => None,
     }
 }
 
@@ -122,9 +297,10 @@ pub fn read_words(words: &[String]) -> Result<Command<'_>, u32>
         (λ command. Asks (map string_bytes words.now) (asked_of command))
         (λ index. IsBadAt (map string_bytes words.now) index) }
     ensures bounded { IfOk result (λ command. IsBounded (asked_of command)) }
+    ensures built { IfOk result (λ command. IsBuilt (asked_of command)) }
 {
     let mut reading = Reading::Start;
-    // No command has more than eleven words, so the index stays small.
+    // No command has more than twenty-two words, so the index stays small.
     let mut index: u32 = 0;
     for word in words {
         let Some(behind) = reading.follow(word.as_str()) else {
@@ -133,5 +309,5 @@ pub fn read_words(words: &[String]) -> Result<Command<'_>, u32>
         reading = behind;
         index += 1;
     }
-    complete(reading).ok_or(index)
+    complete(words, reading).ok_or(index)
 }

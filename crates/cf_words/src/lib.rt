@@ -7,7 +7,9 @@ mod numbers;
 mod options;
 mod reading;
 
-pub use command::{Command, LayoutWord, MachineOptions, RunOptions, read_words};
+pub use command::{
+    Command, DEFAULT_LIMIT, LayoutWord, MachineOptions, RunOptions, TimeOptions, read_words,
+};
 pub use options::{Schedule, Show};
 
 #[cfg(test)]

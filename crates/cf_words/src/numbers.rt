@@ -3,11 +3,14 @@
 
 ghost use Rattle.std.specs.Prelude.{◌≡◌, ◌≤◌, IfSome};
 ghost use Rattle.std.specs.List.{list_all};
-ghost use Rattle.cf_words.specs.Values.{is_digit, is_numeral as is_number_word};
+ghost use Rattle.cf_words.specs.Values.{is_digit, is_numeral as is_number_word, count_in};
 ghost use Rattle.cf_words.specs.Reading.{number_in};
 
 /// The longest number: ten decimal digits.
 const MOST_DIGITS: usize = 10;
+
+/// The greatest number of statements of a drawn program.
+const MOST_STATEMENTS: u64 = 30_000;
 
 fn has_only_digits(word: &str) -> bool
     ensures { result ≡ list_all is_digit word.now }
@@ -31,4 +34,13 @@ pub(crate) fn read_number(word: &str, most: u64) -> Option<u64>
     }
     let number = word.parse::<u64>().ok()?;
     (number <= most).then_some(number)
+}
+
+/// The number of statements that a word writes, from 1 to 30,000.
+#[tactic(auto, unfolding(crate::specs::Values::count_in, crate::specs::Reading::number_in))]
+pub(crate) fn read_count(word: &str) -> Option<u32>
+    ensures { result ≡ count_in word.now }
+{
+    let number = read_number(word, MOST_STATEMENTS)?;
+    (number >= 1).then_some(number as u32)
 }

@@ -3,7 +3,7 @@
 
 ghost use Rattle.std.specs.Prelude.{◌≡◌, option_map};
 ghost use Rattle.cf_words.specs.Options.{takes_key, has_lines};
-ghost use Rattle.cf_words.specs.Reading.{key_in, lines_in, has_key, nothing_given, with_value};
+ghost use Rattle.cf_words.specs.Reading.{key_in, lines_in, has_key, nothing_given, with_shown, with_value};
 ghost use Rattle.cf_words.specs.Views.{given_of};
 
 use crate::names::{Name, is_file_name};
@@ -45,6 +45,7 @@ pub(crate) enum Key {
     Script,
     Seed,
     Mul,
+    Run,
 }
 
 /// What the options that were read give.
@@ -52,8 +53,10 @@ pub(crate) enum Key {
 pub(crate) struct Options<'a> {
     pub(crate) limit: Option<u64>,
     pub(crate) show: Option<Show>,
+    pub(crate) sites: bool,
     pub(crate) schedule: Option<Schedule<'a>>,
     pub(crate) mul: bool,
+    pub(crate) run: bool,
 }
 
 impl Key {
@@ -67,6 +70,7 @@ impl Key {
             "--script" => Some(Key::Script),
             "--seed" => Some(Key::Seed),
             "--mul" => Some(Key::Mul),
+            "--run" => Some(Key::Run),
             _ => None,
         }
     }
@@ -78,6 +82,10 @@ impl Key {
         match (name, self) {
             (Name::Machine, Key::Limit | Key::Show | Key::Mul) => true,
             (Name::Run, Key::Limit | Key::Show | Key::Script | Key::Seed) => true,
+            (Name::Moves, Key::Limit | Key::Script) => true,
+            (Name::Rounds, Key::Limit) => true,
+            (Name::Time, Key::Limit | Key::Show) => true,
+            (Name::Gen, Key::Run) => true,
             _ => false,
         }
     }
@@ -96,15 +104,14 @@ impl Show {
         }
     }
 
-    /// Whether a command can show this: only a run of the processor has moves.
+    /// Whether a command can show this of a run: only one of the processor has moves.
     fn is_of(self, name: Name) -> bool
         ensures { result ≡ has_lines name self }
     {
-        match (name, self) {
-            (Name::Run, _) => true,
-            (_, Show::Moves) => false,
-            _ => true,
-        }
+        matches!(
+            (name, self),
+            (Name::Run, _) | (Name::Machine, Show::Report | Show::Retired)
+        )
     }
 }
 
@@ -116,8 +123,10 @@ impl<'a> Options<'a> {
         Options {
             limit: None,
             show: None,
+            sites: false,
             schedule: None,
             mul: false,
+            run: false,
         }
     }
 
@@ -127,10 +136,28 @@ impl<'a> Options<'a> {
     {
         match key {
             Key::Limit => self.limit.is_some(),
-            Key::Show => self.show.is_some(),
+            Key::Show => self.show.is_some() || self.sites,
             Key::Script | Key::Seed => self.schedule.is_some(),
             Key::Mul => self.mul,
+            Key::Run => self.run,
         }
+    }
+
+    /// The options with what is to be shown, where the command has it.
+    fn with_shown(self, name: Name, word: &str) -> Option<Self>
+        ensures { option_map given_of result ≡ with_shown name (given_of self.entry) word.now }
+    {
+        if word == "sites" {
+            return matches!(name, Name::Time).then_some(Options {
+                sites: true,
+                ..self
+            });
+        }
+        let show = Show::from_word(word)?;
+        show.is_of(name).then_some(Options {
+            show: Some(show),
+            ..self
+        })
     }
 
     /// The options with the value of one more, where the command allows it.
@@ -145,13 +172,7 @@ impl<'a> Options<'a> {
                     ..self
                 })
             }
-            Key::Show => {
-                let show = Show::from_word(word)?;
-                show.is_of(name).then_some(Options {
-                    show: Some(show),
-                    ..self
-                })
-            }
+            Key::Show => self.with_shown(name, word),
             Key::Script => is_file_name(word).then_some(Options {
                 schedule: Some(Schedule::Script(word)),
                 ..self
@@ -163,7 +184,7 @@ impl<'a> Options<'a> {
                     ..self
                 })
             }
-            Key::Mul => None,
+            Key::Mul | Key::Run => None,
         }
     }
 }

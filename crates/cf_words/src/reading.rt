@@ -1,22 +1,18 @@
 //! The words read one by one: what is known behind each of them.
 #![tactic(auto, unfolding(crate::specs::Reading::follow))]
 
-ghost use Rattle.std.specs.Prelude.{◌≡◌, option_map};
-ghost use Rattle.cf_words.specs.Words.{name_of};
-ghost use Rattle.cf_words.specs.Reading.{follow, behind_first, behind_option};
-ghost use Rattle.cf_words.specs.Views.{subject_of, given_of, state_of};
+ghost use Rattle.std.specs.Prelude.{◌≡◌, ◌+◌, ◌<◌, ◌^◌, option_map};
+ghost use Rattle.cf_words.specs.Reading.{follow, has_place, one_more, behind_option, behind_place, nothing_given};
+ghost use Rattle.cf_words.specs.Views.{given_of, state_of};
 
-use crate::names::{Name, is_file_name};
+use crate::names::Name;
 use crate::options::{Key, Options};
 
-/// A command with its positional words.
+/// A command with so many positional words.
 #[derive(Clone, Copy)]
-pub(crate) enum Subject<'a> {
-    Machine(&'a str),
-    Check(&'a str),
-    List(&'a str),
-    Asm(&'a str),
-    Run(&'a str, &'a str),
+pub(crate) struct Subject {
+    pub(crate) name: Name,
+    pub(crate) count: usize,
 }
 
 /// What is known behind the words that were read.
@@ -24,54 +20,44 @@ pub(crate) enum Subject<'a> {
 pub(crate) enum Reading<'a> {
     /// No word yet.
     Start,
-    /// The command alone.
-    Named(Name),
-    /// The layout of a run.
-    Layout(&'a str),
+    /// The command and the positional words that stood there.
+    Placed(Subject),
     /// All positional words, and some options.
-    Options(Subject<'a>, Options<'a>),
+    Options(Subject, Options<'a>),
     /// An option whose value comes next.
-    Value(Subject<'a>, Options<'a>, Key),
+    Value(Subject, Options<'a>, Key),
 }
 
-impl<'a> Subject<'a> {
-    fn name(&self) -> Name
-        ensures { result ≡ name_of (subject_of self.now) }
+impl Subject {
+    /// Whether one more positional word may stand there, and this is one.
+    fn has_place(&self, word: &str) -> bool
+        ensures { result ≡ has_place self.now word.now }
     {
-        match self {
-            Subject::Machine(_) => Name::Machine,
-            Subject::Check(_) => Name::Check,
-            Subject::List(_) => Name::List,
-            Subject::Asm(_) => Name::Asm,
-            Subject::Run(..) => Name::Run,
+        self.count < self.name.most() && self.name.is_positional(word)
+    }
+
+    /// With one more positional word.
+    fn one_more(self) -> Self
+        requires { self.count + 1 < 2 ^ 64 }
+        ensures { result ≡ one_more self }
+    {
+        Subject {
+            name: self.name,
+            count: self.count + 1,
         }
     }
 }
 
-/// The first positional word of a command.
-fn behind_name<'a>(name: Name, word: &'a str) -> Reading<'a>
-    ensures { state_of result ≡ behind_first name word.entry.now }
-{
-    let subject = match name {
-        Name::Machine => Subject::Machine(word),
-        Name::Check => Subject::Check(word),
-        Name::List => Subject::List(word),
-        Name::Asm => Subject::Asm(word),
-        Name::Run => return Reading::Layout(word),
-    };
-    Reading::Options(subject, Options::new())
-}
-
 /// An option's own word.
 fn behind_subject<'a>(
-    subject: Subject<'a>,
+    subject: Subject,
     options: Options<'a>,
     key: Option<Key>,
 ) -> Option<Reading<'a>>
-    ensures { option_map state_of result ≡ behind_option (subject_of subject.entry) (given_of options.entry) key }
+    ensures { option_map state_of result ≡ behind_option subject (given_of options.entry) key }
 {
     let key = key?;
-    if !key.is_of(subject.name()) || options.has(key) {
+    if !key.is_of(subject.name) || options.has(key) {
         return None;
     }
     match key {
@@ -82,10 +68,30 @@ fn behind_subject<'a>(
                 ..options
             },
         )),
+        Key::Run => Some(Reading::Options(
+            subject,
+            Options {
+                run: true,
+                ..options
+            },
+        )),
         Key::Limit | Key::Show | Key::Script | Key::Seed => Some(Reading::Value(
             subject, options, key,
         )),
     }
+}
+
+/// One more positional word, or the first option's own word.
+fn behind_place<'a>(subject: Subject, word: &'a str) -> Option<Reading<'a>>
+    ensures { option_map state_of result ≡ behind_place subject word.entry.now }
+{
+    if subject.has_place(word) {
+        return Some(Reading::Placed(subject.one_more()));
+    }
+    if subject.name.fewest() > subject.count {
+        return None;
+    }
+    behind_subject(subject, Options::new(), Key::from_word(word))
 }
 
 impl<'a> Reading<'a> {
@@ -96,18 +102,15 @@ impl<'a> Reading<'a> {
         match self {
             Reading::Start => {
                 let name = Name::from_word(word)?;
-                name.is_built().then_some(Reading::Named(name))
+                name.is_built()
+                    .then_some(Reading::Placed(Subject { name, count: 0 }))
             }
-            Reading::Named(name) => is_file_name(word).then_some(behind_name(name, word)),
-            Reading::Layout(layout) => is_file_name(word).then_some(Reading::Options(
-                Subject::Run(layout, word),
-                Options::new(),
-            )),
+            Reading::Placed(subject) => behind_place(subject, word),
             Reading::Options(subject, options) => {
                 behind_subject(subject, options, Key::from_word(word))
             }
             Reading::Value(subject, options, key) => {
-                let options = options.with_value(subject.name(), key, word)?;
+                let options = options.with_value(subject.name, key, word)?;
                 Some(Reading::Options(subject, options))
             }
         }

@@ -56,7 +56,6 @@ fn machine_words(rt: HostRuntime) -> Result<(), Fail> {
         ),
         ([].as_slice(), Err(0)),
         (["machines"].as_slice(), Err(0)),
-        (["debug", "plain", "p"].as_slice(), Err(0)),
         (["machine"].as_slice(), Err(1)),
         (["machine", ""].as_slice(), Err(1)),
         (["machine", "--mul", "p"].as_slice(), Err(1)),

@@ -31,7 +31,7 @@ use Rattle.cfpp_cli.specs.Finish.{opening, Runs}
 use Rattle.cfpp_cli.specs.Lines.{LeadsBy, ReachesBy, lines_of, text_of}
 use Rattle.cfpp_cli.specs.Deciding.{Decides}
 use Rattle.cfpp_cli.specs.Options.{chosen_of}
-use Rattle.cfpp_cli.specs.Run.{start_of, status_of, chosen_by, head_of, AgreesWithMachine, IsMachines, IsComplete, RunsCore, BreaksCore, ComesOf}
+use Rattle.cfpp_cli.specs.Run.{start_of, status_of, chosen_by, head_of, AgreesWithMachine, IsMachines, IsComplete, RunsCore, RunsOpened, BreaksCore, ComesOf}
 use Rattle.cfpp_cli.specs.Schedules.{ReadySchedule, in_script, drawn_from, in_turn}
 use Rattle.cfpp_cli.specs.declared.answer.Answer.{Answer}
 use Rattle.cfpp_cli.specs.declared.running.Finish.TheVariants as finish
@@ -222,29 +222,43 @@ complete limit show (drawn_from seed) start new finish trace moves answer by sai
 complete limit show in_turn start new finish trace moves answer by said = complete_ran limit new.tally.moves in_turn by.answer answer (said ∙ ap (status_of limit new.tally.moves) by.finish_is)
 
 -- the run of a processor that was opened is what comes of its layout, hart and schedule
-pub decides-opened : (limit : ℕ) (seen show : Show) (core : Processor) (plan : Plan) (hart : Hart) (schedule : ReadySchedule) (before after : Streams) (blank full : Option (List ℕ)) (result : Result Answer Failed) → core ≡ opened plan hart → seen ≡ show → hart.retired ≡ 0
-    → Decides (RunsCore limit seen core (chosen_by limit seen schedule) before after blank) (BreaksCore limit seen core (chosen_by limit seen schedule) before after blank full) blank full result
-    → Decides (ComesOf limit show plan hart schedule before after blank) (BreaksCore limit show (opened plan hart) (chosen_by limit show schedule) before after blank full) blank full result
-decides-opened limit seen show core plan hart schedule before after blank full result is same fresh decides = of result here
+-- a run of the processor that was opened
+runs-opened : (limit : ℕ) (show : Show) (last : Processor) (plan : Plan) (hart : Hart) (schedule : ReadySchedule) (before after : Streams) (blank : Option (List ℕ)) (answer : Status) (text : List ℕ) → hart.retired ≡ 0
+    → RunsCore limit show (opened plan hart) last (chosen_by limit show schedule) before after blank answer text
+    → RunsOpened limit show plan hart last schedule before after blank answer text
+runs-opened limit show last plan hart schedule before after blank answer text fresh runs = record {
+  runs = runs;
+  agrees = agrees limit plan hart before after blank runs.run.told last runs.run.tally runs.run.finish answer fresh runs.run.ends runs.status_is;
+  complete = complete limit show schedule _ _ runs.run.finish runs.run.trace runs.run.moves answer runs.run.runs runs.status_is;
+}
+
+-- is what is decided
+abbrev pub Opens : (limit : ℕ) (show : Show) (last : Processor) → Plan → Hart → ReadySchedule → (before after : Streams) → (blank full : Option (List ℕ)) → Result Answer Failed → Type 0
+Opens limit show last plan hart schedule before after blank full result =
+    Decides (RunsOpened limit show plan hart last schedule before after blank) (BreaksCore limit show (opened plan hart) (chosen_by limit show schedule) before after blank full) blank full result
+
+pub opens : (limit : ℕ) (seen show : Show) (core last : Processor) (plan : Plan) (hart : Hart) (schedule : ReadySchedule) (before after : Streams) (blank full : Option (List ℕ)) (result : Result Answer Failed) → core ≡ opened plan hart → seen ≡ show → hart.retired ≡ 0
+    → Decides (RunsCore limit seen core last (chosen_by limit seen schedule) before after blank) (BreaksCore limit seen core (chosen_by limit seen schedule) before after blank full) blank full result
+    → Opens limit show last plan hart schedule before after blank full result
+opens limit seen show core last plan hart schedule before after blank full result is same fresh decides = of result here
   where
     There : Show → Processor → Type 0
-    There s p = Decides (RunsCore limit s p (chosen_by limit s schedule) before after blank) (BreaksCore limit s p (chosen_by limit s schedule) before after blank full) blank full result
+    There s p = Decides (RunsCore limit s p last (chosen_by limit s schedule) before after blank) (BreaksCore limit s p (chosen_by limit s schedule) before after blank full) blank full result
 
     here : There show (opened plan hart)
     here = subst (λ (s : Show). There s (opened plan hart)) same (subst (λ (p : Processor). There seen p) is decides)
 
-    of : (result : Result Answer Failed) → Decides (RunsCore limit show (opened plan hart) (chosen_by limit show schedule) before after blank) (BreaksCore limit show (opened plan hart) (chosen_by limit show schedule) before after blank full) blank full result
-        → Decides (ComesOf limit show plan hart schedule before after blank) (BreaksCore limit show (opened plan hart) (chosen_by limit show schedule) before after blank full) blank full result
-    of (Ok answer) (lines, put, runs) = (
-      lines,
-      put,
-      inl (record {
-        runs = runs;
-        agrees = agrees limit plan hart before after blank runs.run.told runs.run.last runs.run.tally runs.run.finish answer.status fresh runs.run.ends runs.status_is;
-        complete = complete limit show schedule _ _ runs.run.finish runs.run.trace runs.run.moves answer.status runs.run.runs runs.status_is;
-      }),
-    )
+    of : (result : Result Answer Failed) → Decides (RunsCore limit show (opened plan hart) last (chosen_by limit show schedule) before after blank) (BreaksCore limit show (opened plan hart) (chosen_by limit show schedule) before after blank full) blank full result
+        → Opens limit show last plan hart schedule before after blank full result
+    of (Ok answer) (lines, put, runs) = (lines, put, runs-opened limit show last plan hart schedule before after blank answer.status (lines ++ answer.closing) fresh runs)
     of (Err failed) breaks = breaks
+
+-- which comes of it
+pub opened-comes : (limit : ℕ) (show : Show) (last : Processor) (plan : Plan) (hart : Hart) (schedule : ReadySchedule) (before after : Streams) (blank full : Option (List ℕ)) (result : Result Answer Failed)
+    → Opens limit show last plan hart schedule before after blank full result
+    → Decides (ComesOf limit show plan hart schedule before after blank) (BreaksCore limit show (opened plan hart) (chosen_by limit show schedule) before after blank full) blank full result
+opened-comes limit show last plan hart schedule before after blank full (Ok answer) (lines, put, runs) = (lines, put, inl (last, runs))
+opened-comes limit show last plan hart schedule before after blank full (Err failed) breaks = breaks
 
 -- a new processor is opened
 pub newly-opened : (core : Processor) (plan : Plan) (hart : Hart) → core ≡ opened plan hart → IsOpened core

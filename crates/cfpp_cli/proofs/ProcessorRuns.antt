@@ -1,5 +1,6 @@
 -- A run of the processor, its closing lines, and what the report then has.
-use Rattle.std.proofs.Common.{◌≡◌, ◌≤◌, ◌-◌, ℕ, List, ◌++◌, true, false, Option, Result, Ok, Err, refl, sym, ap, subst, ◌∙◌, inl, inr, append-nil}
+use Rattle.std.proofs.Common.{◌≡◌, ◌≤◌, ◌-◌, ℕ, List, ◌++◌, true, false, Option, Some, Result, Ok, Err, refl, sym, ap, subst, ◌∙◌, inl, inr, append-nil}
+use Rattle.cf_io.specs.Causes.{HasCause}
 use Rattle.cf_io.specs.Puts.{Writes}
 use Rattle.cf_io.specs.declared.failed.Failed.{Failed}
 use Rattle.rv_machine.specs.Hart.{Hart}
@@ -19,11 +20,12 @@ use Rattle.cf_run.specs.Ending.{EndsSequentially}
 use Rattle.cf_run.specs.Headline.{RunsSequentially}
 use Rattle.cf_run.specs.Made.{Made, all_shown}
 use Rattle.cf_run.specs.Moving.{Place, place_of, Does}
-use Rattle.cf_run.specs.Policies.{IsOpened, RunsPolicy, RunsRight, most_moves}
-use Rattle.cf_run.specs.Scripts.{Stand, stand_of, first_moves, RunsScript, DoesLine, Stops}
+use Rattle.cf_run.specs.Policies.{input_stopped, output_stopped, report_stopped, IsOpened, RunsPolicy, RunsRight, most_moves}
+use Rattle.cf_run.specs.Scripts.{Stand, stand_of, first_moves, RunsScript, DoesLine, Stops, input_scripted, output_scripted}
 use Rattle.cf_closing.specs.Closing.{closing, is_report_fault}
-use Rattle.cfpp_cli.specs.Deciding.{Closes, Decides}
-use Rattle.cfpp_cli.specs.Run.{start_of, Chooses, ByScript, ByPolicy, ProcessorRun, RunsCore, BreaksCore}
+use Rattle.cfpp_cli.specs.Causes.{input_answered, output_answered}
+use Rattle.cfpp_cli.specs.Deciding.{Closes, Counts, Decides}
+use Rattle.cfpp_cli.specs.Run.{start_of, status_of, Chooses, ByScript, ByPolicy, ProcessorRun, RunsCore, BreaksCore}
 use Rattle.cfpp_cli.specs.declared.answer.Answer.{Answer}
 use Rattle.cfpp_cli.proofs.Reports.{writes-again}
 
@@ -98,9 +100,8 @@ run_of : (limit : ℕ) (show : Show) (core last : Processor) (by : Chooses) (bef
     by (start_of core before blank) (place_of last after told tally) finish trace moves →
     RunsSequentially show moves (start_of core before blank) (place_of last after told tally) finish →
     EndsSequentially limit (start_of core before blank) (place_of last after told tally) finish →
-    ProcessorRun limit show core by before after blank
+    ProcessorRun limit show core last by before after blank
 run_of limit show core last by before after blank told tally finish trace moves runs sequential ends = record {
-  last = last;
   tally = tally;
   told = told;
   finish = finish;
@@ -120,7 +121,7 @@ run-closed : (limit : ℕ) (show : Show) (core last : Processor) (by : Chooses) 
     EndsSequentially limit (start_of core before blank) (place_of last after told tally) finish →
     Writes blank told (all_shown show core.plan 1 trace) → is_report_fault finish ≡ false →
     Closes limit finish last tally told full result →
-    Decides (RunsCore limit show core by before after blank) (BreaksCore limit show core by before after blank full)
+    Decides (RunsCore limit show core last by before after blank) (BreaksCore limit show core by before after blank full)
     blank full result
 unfolding run_of
 run-closed limit show core last by before after blank told full tally finish trace moves (Ok answer) runs sequential ends put sound (said, empty, closed) =
@@ -137,6 +138,7 @@ run-closed limit show core last by before after blank told full tally finish tra
     )
 run-closed limit show core last by before after blank told full tally finish trace moves (Err failed) runs sequential ends put sound front =
     record {
+      last = last;
       run = run_of limit show core last by before after blank told tally finish trace moves runs sequential ends;
       fails = inr (sound, front);
     }
@@ -150,6 +152,7 @@ run-cut : (limit : ℕ) (show : Show) (core last : Processor) (by : Chooses) (be
     is_report_fault finish ≡ true → BreaksCore limit show core by before after blank told
 unfolding run_of
 run-cut limit show core last by before after blank told tally finish trace moves runs sequential ends cut = record {
+  last = last;
   run = run_of limit show core last by before after blank told tally finish trace moves runs sequential ends;
   fails = inl (cut, refl);
 }
@@ -166,7 +169,7 @@ pub script-closed : (limit : ℕ) (show : Show) (core last : Processor) (text : 
     RunsSequentially show (first_moves (script_of text) tally) (start_of core before blank) (place_of last after told tally) finish →
     EndsSequentially limit (start_of core before blank) (place_of last after told tally) finish →
     is_report_fault finish ≡ false → Closes limit finish last tally told full result →
-    Decides (RunsCore limit show core (ByScript limit show text) before after blank)
+    Decides (RunsCore limit show core last (ByScript limit show text) before after blank)
     (BreaksCore limit show core (ByScript limit show text) before after blank full) blank full result
 script-closed limit show core last text before after blank told full tally left finish result r sequential ends sound closes =
     run-closed limit show core last (ByScript limit show text) before after blank told full tally finish _ _ result
@@ -198,7 +201,7 @@ pub policy-closed : {P : Type 0} (picked : P → List Move → ℕ) (onward : P 
     EndsSequentially limit (start_of core before blank) (place_of last after told tally) (Ran answer) →
     tally.moves ≤ most_moves core.plan (last.state.retired - core.state.retired) →
     is_report_fault (Ran answer) ≡ false → Closes limit (Ran answer) last tally told full result →
-    Decides (RunsCore limit show core (ByPolicy picked onward limit show policy) before after blank)
+    Decides (RunsCore limit show core last (ByPolicy picked onward limit show policy) before after blank)
     (BreaksCore limit show core (ByPolicy picked onward limit show policy) before after blank full) blank full result
 policy-closed picked onward limit show core last policy later before after blank told full tally answer result r ends bounded sound closes =
     run-closed limit show core last (ByPolicy picked onward limit show policy) before after blank told full tally (Ran answer) _ _ result
@@ -216,5 +219,85 @@ pub policy-cut : {P : Type 0} (picked : P → List Move → ℕ) (onward : P →
 policy-cut picked onward limit show core last policy later before after blank told tally answer r ends bounded cut =
     run-cut limit show core last (ByPolicy picked onward limit show policy) before after blank told tally (Ran answer) _ _
     (by_policy picked onward limit show _ _ policy later r.moves answer r.runs bounded) r.sequential ends cut
+
+-- the status says of the input and the output what the run says of them
+input-said : (limit moves : ℕ) (finish : Scripted) →
+    input_answered (status_of limit moves finish) ≡ input_scripted (Some finish)
+input-said limit moves (Ran (ran.Exit code)) = refl
+input-said limit moves (Ran (ran.Trap cause pc detail)) = refl
+input-said limit moves (Ran ran.Limit) = refl
+input-said limit moves (Ran ran.ReadFault) = refl
+input-said limit moves (Ran ran.WriteFault) = refl
+input-said limit moves (Ran ran.ReportFault) = refl
+input-said limit moves ScriptEnd = refl
+input-said limit moves (BadScript refusal) = refl
+input-said limit moves (BarredAt line bar) = refl
+
+output-said : (limit moves : ℕ) (finish : Scripted) → is_report_fault finish ≡ false →
+    output_answered (status_of limit moves finish) ≡ output_scripted (Some finish)
+output-said limit moves (Ran (ran.Exit code)) sound = refl
+output-said limit moves (Ran (ran.Trap cause pc detail)) sound = refl
+output-said limit moves (Ran ran.Limit) sound = refl
+output-said limit moves (Ran ran.ReadFault) sound = refl
+output-said limit moves (Ran ran.WriteFault) sound = refl
+output-said limit moves (Ran ran.ReportFault) sound = absurd (cc)
+output-said limit moves ScriptEnd sound = refl
+output-said limit moves (BadScript refusal) sound = refl
+output-said limit moves (BarredAt line bar) sound = refl
+
+-- so beside a run that was closed a count rose just where the answer says so
+pub closed-input : (limit : ℕ) (finish : Scripted) (last : Processor) (tally : Tally) (told full : Option (List ℕ))
+    (result : Result Answer Failed) (before now : ℕ) → Closes limit finish last tally told full result →
+    HasCause before now (input_scripted (Some finish)) → Counts input_answered before now result
+closed-input limit finish last tally told full (Ok answer) before now closes h =
+    rw (closes.0, input-said limit tally.moves finish) h
+closed-input limit finish last tally told full (Err failed) before now closes h = h.never_falls
+
+pub closed-output : (limit : ℕ) (finish : Scripted) (last : Processor) (tally : Tally) (told full : Option (List ℕ))
+    (result : Result Answer Failed) (before now : ℕ) → is_report_fault finish ≡ false →
+    Closes limit finish last tally told full result → HasCause before now (output_scripted (Some finish)) →
+    Counts output_answered before now result
+closed-output limit finish last tally told full (Ok answer) before now sound closes h =
+    rw (closes.0, output-said limit tally.moves finish sound) h
+closed-output limit finish last tally told full (Err failed) before now sound closes h = h.never_falls
+
+-- of a run under a policy
+stopped-input : (answer : RunAnswer) → input_stopped (Some answer) ≡ input_scripted (Some (Ran answer))
+stopped-input (ran.Exit code) = refl
+stopped-input (ran.Trap cause pc detail) = refl
+stopped-input ran.Limit = refl
+stopped-input ran.ReadFault = refl
+stopped-input ran.WriteFault = refl
+stopped-input ran.ReportFault = refl
+
+stopped-output : (answer : RunAnswer) → output_stopped (Some answer) ≡ output_scripted (Some (Ran answer))
+stopped-output (ran.Exit code) = refl
+stopped-output (ran.Trap cause pc detail) = refl
+stopped-output ran.Limit = refl
+stopped-output ran.ReadFault = refl
+stopped-output ran.WriteFault = refl
+stopped-output ran.ReportFault = refl
+
+pub policy-input : (before now : ℕ) (answer : RunAnswer) → HasCause before now (input_stopped (Some answer)) →
+    HasCause before now (input_scripted (Some (Ran answer)))
+policy-input before now answer h = rw (stopped-input answer) at h
+
+pub policy-output : (before now : ℕ) (answer : RunAnswer) → HasCause before now (output_stopped (Some answer)) →
+    HasCause before now (output_scripted (Some (Ran answer)))
+policy-output before now answer h = rw (stopped-output answer) at h
+
+-- the count of the report's faults rises where it failed in the run, and stays where it did not
+pub policy-report : (before now : ℕ) (answer : RunAnswer) → is_report_fault (Ran answer) ≡ false →
+    HasCause before now (report_stopped (Some answer)) → now ≡ before
+policy-report before now (ran.Exit code) sound h = h.still
+policy-report before now (ran.Trap cause pc detail) sound h = h.still
+policy-report before now ran.Limit sound h = h.still
+policy-report before now ran.ReadFault sound h = h.still
+policy-report before now ran.WriteFault sound h = h.still
+policy-report before now ran.ReportFault sound h = absurd (cc)
+
+pub closed-report : (before half now : ℕ) (result : Result Answer Failed) → half ≡ before →
+    HasCause half now result → HasCause before now result
+closed-report before half now result same h = subst (λ (n : ℕ). HasCause n now result) same h
 
 pub ruleset opened_cores = (opened-count, opened-works, opened-sound)

@@ -1,37 +1,35 @@
 -- A program that a file holds, or that it does not, and what comes of it.
-use Rattle.std.proofs.Common.{◌≡◌, ◌≤◌, ℕ, ◌+◌, List, Option, Result, Ok, Err, IfOk, IfErr, inl, inr, arith}
-use Rattle.cf_io.specs.Causes.{HasCause}
+use Rattle.std.proofs.Common.{◌≡◌, ℕ, ◌+◌, List, Option, Result, Ok, Err, IfOk, IfErr, inl, inr}
+use Rattle.cf_io.specs.Reads.{Told}
 use Rattle.cf_io.specs.declared.failed.Failed.{Failed}
 use Rattle.rv_machine.specs.Hart.{Hart}
-use Rattle.cfpp_cli.specs.Causes.{input_answered, output_answered}
 use Rattle.cfpp_cli.specs.Deciding.{Decides}
-use Rattle.cfpp_cli.specs.Files.{FilesAt, IsFrontOf}
+use Rattle.cfpp_cli.specs.Files.{IsFrontOf}
 use Rattle.cfpp_cli.specs.Image.{most_bytes, IsProgram, opened}
 use Rattle.cfpp_cli.specs.Machine.{RunsHart, BreaksHart, AnswersMachine, BreaksProgram}
 use Rattle.cfpp_cli.specs.Options.{Chosen}
-use Rattle.cfpp_cli.specs.Outside.{Outside, files_of}
+use Rattle.cfpp_cli.specs.Outside.{Outside}
 use Rattle.cfpp_cli.specs.Programs.{IsProgramAt, IsNoProgram, LacksProgram}
 use Rattle.cfpp_cli.specs.declared.answer.Answer.{Answer}
 use Rattle.cfpp_cli.specs.declared.status.Status.{Status}
 use Rattle.cfpp_cli.proofs.FileFronts.{front-tells}
 
 -- an image that was read and is a program is in its file
-pub program-found : (before after : FilesAt) (name image : List ℕ) (r : Result Hart Answer) →
-    IsFrontOf (most_bytes + 1) before.told after.told name image → before.faults ≤ after.faults →
+pub program-found : (before after : Option Told) (name image : List ℕ) (r : Result Hart Answer) →
+    IsFrontOf (most_bytes + 1) before after name image →
     IfOk r (λ hart. IsProgram image) → IfOk r (λ hart. hart ≡ opened image) →
     IfOk r (IsProgramAt name before after)
-program-found before after name image (Ok hart) front faults program begins = record {
+program-found before after name image (Ok hart) front program begins = record {
   image = image;
   front = front;
   program = program;
   begins = begins;
-  faults = faults;
 }
-program-found before after name image (Err answer) front faults program begins = tt
+program-found before after name image (Err answer) front program begins = tt
 
 -- one that was read and is none
-image-refused : (before after : FilesAt) (name image : List ℕ) (answer : Status) (report : List ℕ) →
-    IsFrontOf (most_bytes + 1) before.told after.told name image →
+image-refused : (before after : Option Told) (name image : List ℕ) (answer : Status) (report : List ℕ) →
+    IsFrontOf (most_bytes + 1) before after name image →
     IsNoProgram image answer report → LacksProgram name before after answer report
 image-refused before after name image answer report front (inl (error, refused, status, reports)) =
     inl (record {
@@ -45,40 +43,22 @@ image-refused before after name image answer report front (inl (error, refused, 
 image-refused before after name image answer report front (inr (status, reports)) =
     inr (inr (record {
       status_is = status;
-      files = front-tells (most_bytes + 1) before.told after.told name image front;
+      files = front-tells (most_bytes + 1) before after name image front;
       reports = reports;
     }))
 
-pub program-refused : (before after : FilesAt) (name image : List ℕ) (r : Result Hart Answer) →
-    IsFrontOf (most_bytes + 1) before.told after.told name image →
+pub program-refused : (before after : Option Told) (name image : List ℕ) (r : Result Hart Answer) →
+    IsFrontOf (most_bytes + 1) before after name image →
     IfErr r (λ answer. IsNoProgram image answer.status answer.closing) →
     IfErr r (λ answer. LacksProgram name before after answer.status answer.closing)
 program-refused before after name image (Ok hart) front h = tt
 program-refused before after name image (Err answer) front h =
     image-refused before after name image answer.status answer.closing front h
 
--- a count that stays, beside no error
-pub no-cause : (n : ℕ) (r : Result (Unit {0}) (Unit {0})) → r ≡ Ok tt → HasCause n n r
-no-cause n (Ok u) h = record { never_falls = omega arith; rose = tt }
-no-cause n (Err u) h = absurd (cc)
-
--- no refusal says that a stream failed
-pub lacks-program-input : (before after : FilesAt) (name : List ℕ) (answer : Status) (report : List ℕ) →
-    LacksProgram name before after answer report → input_answered answer ≡ Ok tt
-lacks-program-input before after name answer report (inl r) = rw r.status_is
-lacks-program-input before after name answer report (inr (inl r)) = rw r.status_is
-lacks-program-input before after name answer report (inr (inr r)) = rw r.status_is
-
-pub lacks-program-output : (before after : FilesAt) (name : List ℕ) (answer : Status) (report : List ℕ) →
-    LacksProgram name before after answer report → output_answered answer ≡ Ok tt
-lacks-program-output before after name answer report (inl r) = rw r.status_is
-lacks-program-output before after name answer report (inr (inl r)) = rw r.status_is
-lacks-program-output before after name answer report (inr (inr r)) = rw r.status_is
-
 -- what comes of a program that was run is what `machine` decides
 pub decides-program : (chosen : Chosen) (before after : Outside) (name : List ℕ) (hart : Hart)
     (blank full : Option (List ℕ)) (result : Result Answer Failed) →
-    IsProgramAt name (files_of before) (files_of after) hart →
+    IsProgramAt name before.files after.files hart →
     Decides (RunsHart chosen hart before.streams after.streams)
     (BreaksHart chosen hart before.streams after.streams blank full) blank full result →
     Decides (AnswersMachine name chosen before after)

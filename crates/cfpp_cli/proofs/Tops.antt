@@ -1,61 +1,72 @@
 -- What was decided and the put of the closing lines are what the top call does.
-use Rattle.std.proofs.Common.{◌≤◌, ℕ, List, ◌++◌, Option, Ok, Err, refl, inl, inr, arith}
+use Rattle.std.proofs.Common.{◌≡◌, ◌≤◌, ℕ, List, ◌++◌, false, Option, Result, Ok, Err, refl, ◌∙◌, inl, inr, arith}
 use Rattle.cf_io.specs.Causes.{Rose, HasCause}
 use Rattle.cf_io.specs.Puts.{Writes, WritesFront}
 use Rattle.cf_io.specs.declared.failed.Failed.{Failed}
-use Rattle.cfpp_cli.specs.Causes.{input_answered, output_answered}
+use Rattle.cf_words.specs.Words.{Asked}
+use Rattle.cfpp_cli.specs.Causes.{files_answered, input_answered, output_answered}
 use Rattle.cfpp_cli.specs.Deciding.{Decided}
-use Rattle.cfpp_cli.specs.Outside.{Outside, report_of}
-use Rattle.cfpp_cli.specs.Top.{IsTop}
+use Rattle.cfpp_cli.specs.Outside.{Outside, Report, report_of}
+use Rattle.cfpp_cli.specs.Top.{Completes, IsTop, NoneRose, Reports, says_fault}
 use Rattle.cfpp_cli.specs.declared.answer.Answer.{Answer}
+use Rattle.cfpp_cli.specs.declared.status.Status.{Status}
 use Rattle.cfpp_cli.specs.declared.status.Status.TheVariants as status
 use Rattle.cfpp_cli.proofs.Reports.{writes-again, front-again}
 
--- a count that had not fallen and then rose
-rose-again : (before between now : ℕ) → before ≤ between → Rose between now → Rose before now
+-- counts of faults rose just where the status says so
+pub record HasCauses (before after : Outside) (answer : Status) : Type 0 where
+  pub files : HasCause before.file_faults after.file_faults (files_answered answer)
+  pub input : HasCause before.input_faults after.input_faults (input_answered answer)
+  pub output : HasCause before.output_faults after.output_faults (output_answered answer)
+
+-- a count that had not risen and then rose
+rose-again : (before between now : ℕ) → between ≡ before → Rose between now → Rose before now
 rose-again before between now h k = grind arith
 
 -- the closing lines were put
 pub top-put : (words : List (List ℕ)) (before after : Outside) (blank half full : Option (List ℕ))
-    (clear faults : ℕ) (answer : Answer) → Decided words before after blank half (Ok answer) →
-    HasCause before.input_faults after.input_faults (input_answered answer.status) →
-    HasCause before.output_faults after.output_faults (output_answered answer.status) →
-    Writes half full answer.closing →
+    (clear between faults : ℕ) (answer : Answer) → Decided words before after blank half (Ok answer) →
+    HasCauses before after answer.status → Writes half full answer.closing →
+    between ≡ clear → faults ≡ between →
     IsTop words before after (report_of blank clear) (report_of full faults) answer.status
-top-put words before after blank half full clear faults answer d input output put = record {
+top-put words before after blank half full clear between faults answer d causes put sooner later = record {
   reading = d.reading;
   reads = d.reads;
   ends = inl (record {
     answer = answer.status;
     text = d.decides.0 ++ answer.closing;
     answers = d.decides.2;
-    input = input;
-    output = output;
-    reports = inl (refl, writes-again blank half full d.decides.0 answer.closing d.decides.1 put);
+    files = causes.files;
+    input = causes.input;
+    output = causes.output;
+    reports = inl (
+      refl,
+      writes-again blank half full d.decides.0 answer.closing d.decides.1 put,
+      later ∙ sooner,
+    );
   });
 }
 
 -- the report failed at them
 pub top-failed : (words : List (List ℕ)) (before after : Outside)
     (blank half full : Option (List ℕ)) (clear between faults : ℕ) (answer : Answer) →
-    Decided words before after blank half (Ok answer) →
-    HasCause before.input_faults after.input_faults (input_answered answer.status) →
-    HasCause before.output_faults after.output_faults (output_answered answer.status) →
-    WritesFront half full answer.closing → clear ≤ between → Rose between faults →
+    Decided words before after blank half (Ok answer) → HasCauses before after answer.status →
+    WritesFront half full answer.closing → between ≡ clear → Rose between faults →
     IsTop words before after (report_of blank clear) (report_of full faults) status.WriteFault
-top-failed words before after blank half full clear between faults answer d input output put h rose = record {
+top-failed words before after blank half full clear between faults answer d causes put sooner rose = record {
   reading = d.reading;
   reads = d.reads;
   ends = inl (record {
     answer = answer.status;
     text = d.decides.0 ++ answer.closing;
     answers = d.decides.2;
-    input = input;
-    output = output;
+    files = causes.files;
+    input = causes.input;
+    output = causes.output;
     reports = inr (
       refl,
       front-again blank half full d.decides.0 answer.closing d.decides.1 put,
-      rose-again clear between faults h rose,
+      rose-again clear between faults sooner rose,
     );
   });
 }
@@ -63,19 +74,84 @@ top-failed words before after blank half full clear between faults answer d inpu
 -- it failed before
 pub top-cut : (words : List (List ℕ)) (before after : Outside) (blank full : Option (List ℕ))
     (clear faults : ℕ) {failed : Failed} → Decided words before after blank full (Err failed) →
-    before.input_faults ≤ after.input_faults → before.output_faults ≤ after.output_faults →
-    Rose clear faults →
+    after.file_faults ≡ before.file_faults → before.input_faults ≤ after.input_faults →
+    before.output_faults ≤ after.output_faults → Rose clear faults →
     IsTop words before after (report_of blank clear) (report_of full faults) status.WriteFault
-top-cut words before after blank full clear faults d input output rose = record {
+top-cut words before after blank full clear faults d files input output rose = record {
   reading = d.reading;
   reads = d.reads;
   ends = inr (record {
     status_is = refl;
     breaks = d.decides;
     rose = rose;
+    files = files;
     input = input;
     output = output;
   });
 }
 
-pub ruleset tops = (top-put, top-failed, top-cut)
+-- a status that says of nothing that it failed says it of neither the files nor the streams
+record SaysNone (answer : Status) : Type 0 where
+  files : files_answered answer ≡ Ok tt
+  input : input_answered answer ≡ Ok tt
+  output : output_answered answer ≡ Ok tt
+
+says-none : (answer : Status) → says_fault answer ≡ false → SaysNone answer
+says-none (status.ReadFault kind) h = absurd (cc)
+says-none status.WriteFault h = absurd (cc)
+says-none (status.Exit code) h = record { files = refl; input = refl; output = refl }
+says-none (status.Trap cause pc detail) h = record { files = refl; input = refl; output = refl }
+says-none (status.Limit limit) h = record { files = refl; input = refl; output = refl }
+says-none (status.ScriptEnd moves) h = record { files = refl; input = refl; output = refl }
+says-none status.Done h = record { files = refl; input = refl; output = refl }
+says-none (status.BadWords index) h = record { files = refl; input = refl; output = refl }
+says-none (status.BadLayout error) h = record { files = refl; input = refl; output = refl }
+says-none (status.BadProgram error) h = record { files = refl; input = refl; output = refl }
+says-none (status.BadScript fault) h = record { files = refl; input = refl; output = refl }
+says-none (status.BarredAt line bar) h = record { files = refl; input = refl; output = refl }
+says-none (status.BadSource error) h = record { files = refl; input = refl; output = refl }
+says-none status.NoMemory h = record { files = refl; input = refl; output = refl }
+
+-- beside no error a count stays
+stays : (before now : ℕ) (r : Result (Unit {0}) (Unit {0})) → r ≡ Ok tt → HasCause before now r → now ≡ before
+stays before now (Ok u) e h = h.still
+stays before now (Err u) e h = absurd (cc)
+
+-- so where the whole report was put too, no count rose
+completed-rose : (before after : Outside) (blank full : Report) (answer : Status) →
+    HasCauses before after answer → says_fault answer ≡ false → full.faults ≡ blank.faults →
+    NoneRose before after blank full
+completed-rose before after blank full answer causes h put =
+    let none = says-none answer h in
+    record {
+      files = stays _ _ (files_answered answer) none.files causes.files;
+      input = stays _ _ (input_answered answer) none.input causes.input;
+      output = stays _ _ (output_answered answer) none.output causes.output;
+      report = put;
+    }
+
+causes-of : (reading : Result Asked ℕ) (before after : Outside) (blank full : Report) (result : Status)
+    (c : Completes reading before after blank full result) → HasCauses before after c.answer
+causes-of reading before after blank full result c =
+    record { files = c.files; input = c.input; output = c.output }
+
+-- a status that says that something failed says it
+write-says : (result : Status) → result ≡ status.WriteFault → says_fault result ≡ false → ⊥
+write-says result is h = cc (is, h)
+
+ended-rose : (before after : Outside) (blank full : Report) (result answer : Status)
+    (text : List ℕ) → HasCauses before after answer → Reports blank full text answer result →
+    says_fault result ≡ false → NoneRose before after blank full
+ended-rose before after blank full result answer text causes (inl (same, put, faults)) h =
+    completed-rose before after blank full answer causes (rw same at h) faults
+ended-rose before after blank full result answer text causes (inr (is, front, rose)) h =
+    absurd (write-says result is h)
+
+pub none-rose : (words : List (List ℕ)) (before after : Outside) (blank full : Report) (result : Status) →
+    IsTop words before after blank full result → says_fault result ≡ false →
+    NoneRose before after blank full
+none-rose words before after blank full result top h = elim top.ends [
+  | inl c ↦ ended-rose before after blank full result c.answer c.text
+      (causes-of top.reading before after blank full result c) c.reports h
+  | inr cut ↦ absurd (write-says result cut.status_is h)
+]

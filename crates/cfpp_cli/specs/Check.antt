@@ -1,16 +1,14 @@
 -- What the command `check` answers, and what it leaves of the outside.
-use Rattle.std.specs.Prelude.{◌≡◌, ℕ, List, [], codes, Option}
+use Rattle.std.specs.Prelude.{◌≡◌, ◌⊎◌, ℕ, List, [], codes, Option}
 use Rattle.cf_io.specs.Puts.{Writes, WritesFront}
 use Rattle.cf_layout.specs.Layout.{Plan}
 use Rattle.layout_file.specs.Text.{text_of}
 use Rattle.cf_texts.specs.Texts.{line}
 use Rattle.cf_words.specs.Words.{Layout}
-use Rattle.cfpp_cli.specs.Outside.{Outside}
-use Rattle.cfpp_cli.specs.Files.{TellSame}
+use Rattle.cfpp_cli.specs.FileCommands.{FileSide}
 use Rattle.cfpp_cli.specs.Layouts.{IsLayoutAt, LacksLayout}
 use Rattle.cfpp_cli.specs.declared.status.Status.{Status}
 use Rattle.cfpp_cli.specs.declared.status.Status.TheVariants as status
-use Rattle.cfpp_cli.specs.declared.status.Which.TheVariants as which
 
 -- what the output has after the layout's text was put to it, and the report, by the status
 abbrev pub WritesText : Plan → Option (List ℕ) → Option (List ℕ) → Status → List ℕ → Type 0
@@ -23,36 +21,20 @@ WritesText plan before after status.NoMemory report =
 WritesText plan before after _ report = ⊥
 
 -- the word names a layout, and its text was written, or a front of it before the output failed
-pub record WritesLayout (layout : Layout) (before after : Outside) (answer : Status)
+pub record WritesLayout (layout : Layout) (before after : FileSide) (answer : Status)
     (report : List ℕ) : Type 0 where
   pub plan : Plan
   pub named : IsLayoutAt layout before.files after.files plan
-  pub text : WritesText plan before.streams.output after.streams.output answer report
-  pub input : after.streams.input ≡ before.streams.input
+  pub text : WritesText plan before.output after.output answer report
 
--- there is no layout, and the streams were left alone
-pub record RefusesCheck (layout : Layout) (before after : Outside) (answer : Status)
+-- there is no layout, and the output was left alone
+pub record RefusesCheck (layout : Layout) (before after : FileSide) (answer : Status)
     (report : List ℕ) : Type 0 where
-  pub lacks : LacksLayout layout before.files after.files before.file_faults after.file_faults
-      answer report
-  pub streams : after.streams ≡ before.streams
+  pub lacks : LacksLayout layout before.files after.files answer report
+  pub output : after.output ≡ before.output
 
--- memory was refused before anything was written
-pub record LacksMemoryForLayout (before after : Outside) (report : List ℕ) : Type 0 where
-  pub files : TellSame before.files after.files
-  pub streams : after.streams ≡ before.streams
-  pub reports : report ≡ line (codes "no memory")
-
--- the answer of `check` and its report, by the status
-abbrev pub AnswersCheck : Layout → Outside → Outside → Status → List ℕ → Type 0
-AnswersCheck layout before after status.Done report =
-    WritesLayout layout before after status.Done report
-AnswersCheck layout before after status.WriteFault report =
-    WritesLayout layout before after status.WriteFault report
-AnswersCheck layout before after (status.BadLayout error) report =
-    RefusesCheck layout before after (status.BadLayout error) report
-AnswersCheck layout before after (status.ReadFault which.Layout) report =
-    RefusesCheck layout before after (status.ReadFault which.Layout) report
-AnswersCheck layout before after status.NoMemory report =
-    LacksMemoryForLayout before after report
-AnswersCheck layout before after _ report = ⊥
+-- the answer of `check` and its report
+abbrev pub AnswersCheck : Layout → FileSide → FileSide → Status → List ℕ → Type 0
+AnswersCheck layout before after answer report =
+    WritesLayout layout before after answer report
+    ⊎ RefusesCheck layout before after answer report

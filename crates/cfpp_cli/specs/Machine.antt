@@ -5,7 +5,7 @@ use Rattle.rv_machine.specs.Streams.{Streams}
 use Rattle.cfpp_cli.specs.Options.{Chosen}
 use Rattle.cfpp_cli.specs.Finish.{Runs, BreaksOff}
 use Rattle.cfpp_cli.specs.Closing.{closing}
-use Rattle.cfpp_cli.specs.Outside.{Outside, files_of}
+use Rattle.cfpp_cli.specs.Outside.{Outside}
 use Rattle.cfpp_cli.specs.Programs.{IsProgramAt, LacksProgram}
 use Rattle.cfpp_cli.specs.declared.running.Finish.{Finish}
 use Rattle.cfpp_cli.specs.declared.running.Finish.TheVariants as finish
@@ -35,13 +35,13 @@ pub record RunsHart (chosen : Chosen) (start : Hart) (before after : Streams) (a
 pub record RunsProgram (name : List ℕ) (chosen : Chosen) (before after : Outside)
     (answer : Status) (report : List ℕ) : Type 0 where
   pub start : Hart
-  pub program : IsProgramAt name (files_of before) (files_of after) start
+  pub program : IsProgramAt name before.files after.files start
   pub runs : RunsHart chosen start before.streams after.streams answer report
 
 -- there is no program, and the streams were left alone
 pub record RefusesMachine (name : List ℕ) (before after : Outside) (answer : Status)
     (report : List ℕ) : Type 0 where
-  pub lacks : LacksProgram name (files_of before) (files_of after) answer report
+  pub lacks : LacksProgram name before.files after.files answer report
   pub streams : after.streams ≡ before.streams
 
 -- the answer of `machine` and its report
@@ -60,5 +60,5 @@ pub record BreaksHart (chosen : Chosen) (start : Hart) (before after : Streams)
 pub record BreaksProgram (name : List ℕ) (chosen : Chosen) (before after : Outside)
     (blank full : Option (List ℕ)) : Type 0 where
   pub start : Hart
-  pub program : IsProgramAt name (files_of before) (files_of after) start
+  pub program : IsProgramAt name before.files after.files start
   pub breaks : BreaksHart chosen start before.streams after.streams blank full

@@ -2,7 +2,6 @@
 use Rattle.std.specs.Prelude.{ℕ, List, Option}
 use Rattle.cf_io.specs.Reads.{Told}
 use Rattle.rv_machine.specs.Streams.{Streams, streams_of}
-use Rattle.cfpp_cli.specs.Files.{FilesAt, files_at}
 
 -- the files and the program's streams
 pub record Outside : Type 0 where
@@ -28,7 +27,3 @@ outside_of files file_faults input input_faults output output_faults = record {
 
 abbrev pub report_of : Option (List ℕ) → ℕ → Report
 report_of written faults = record { written = written; faults = faults }
-
--- its files
-abbrev pub files_of : Outside → FilesAt
-files_of outside = files_at outside.files outside.file_faults

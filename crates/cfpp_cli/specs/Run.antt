@@ -27,8 +27,8 @@ use Rattle.cf_closing.specs.Closing.{closing, is_report_fault}
 use Rattle.cf_closing.specs.Lines.{first_line}
 use Rattle.cfpp_cli.specs.Machine.{RunsHart}
 use Rattle.cfpp_cli.specs.Options.{chosen_of}
-use Rattle.cfpp_cli.specs.Outside.{Outside, files_of}
-use Rattle.cfpp_cli.specs.RunFiles.{RunAsked, IsReady, LacksFile}
+use Rattle.cfpp_cli.specs.Outside.{Outside}
+use Rattle.cfpp_cli.specs.RunFiles.{RunAsked, ReadsFiles, AnswersFiles}
 use Rattle.cfpp_cli.specs.Schedules.{ReadySchedule, in_script, drawn_from, in_turn}
 use Rattle.cfpp_cli.specs.declared.status.ScriptFault.TheVariants as fault
 use Rattle.cfpp_cli.specs.declared.status.Status.{Status}
@@ -80,10 +80,9 @@ chosen_by limit show (in_script text) = ByScript limit show text
 chosen_by limit show (drawn_from seed) = ByPolicy drawn_pick (λ g moves. drawn_on g) limit show (drawn seed)
 chosen_by limit show in_turn = ByPolicy round_pick round_on limit show None
 
--- a run and where it ends: the processor, what was counted, how it finished, and what the report tells before and behind it; by its moves it is one of the sequential machine on which the processor was opened, and ends as that does
-pub record ProcessorRun (limit : ℕ) (show : Show) (core : Processor) (by : Chooses)
+-- a run from one processor to another: what was counted, how it finished, and what the report tells before and behind it; by its moves it is one of the sequential machine on which the processor was opened, and ends as that does
+pub record ProcessorRun (limit : ℕ) (show : Show) (core last : Processor) (by : Chooses)
     (before after : Streams) (blank : Option (List ℕ)) : Type 0 where
-  pub last : Processor
   pub tally : Tally
   pub told : Option (List ℕ)
   pub finish : Scripted
@@ -95,16 +94,17 @@ pub record ProcessorRun (limit : ℕ) (show : Show) (core : Processor) (by : Cho
 
 -- the lines that close its report
 abbrev pub closing_of : {show : Show} {core : Processor} {by : Chooses} {before after : Streams}
-    {blank : Option (List ℕ)} (limit : ℕ) → ProcessorRun limit show core by before after blank → List ℕ
-closing_of limit run = closing limit run.finish run.last.plan run.last.state run.tally
+    {blank : Option (List ℕ)} (limit : ℕ) (last : Processor) →
+    ProcessorRun limit show core last by before after blank → List ℕ
+closing_of limit last run = closing limit run.finish last.plan last.state run.tally
 
 -- the processor was run so; the status says how the run finished, and this is the whole report: what was shown of the moves, then the closing lines
-pub record RunsCore (limit : ℕ) (show : Show) (core : Processor) (by : Chooses)
+pub record RunsCore (limit : ℕ) (show : Show) (core last : Processor) (by : Chooses)
     (before after : Streams) (blank : Option (List ℕ)) (answer : Status) (report : List ℕ) : Type 0 where
-  pub run : ProcessorRun limit show core by before after blank
+  pub run : ProcessorRun limit show core last by before after blank
   pub reported : is_report_fault run.finish ≡ false
   pub status_is : answer ≡ status_of limit run.tally.moves run.finish
-  pub reports : report ≡ all_shown show core.plan 1 run.trace ++ closing_of limit run
+  pub reports : report ≡ all_shown show core.plan 1 run.trace ++ closing_of limit last run
 
 -- the answer is that of `machine` on the hart, under the same limit and with multiplication where the layout has it; it takes the same of the input and writes the same to the output, and this text closes its report
 pub record IsMachines (limit : ℕ) (plan : Plan) (hart : Hart) (before after : Streams) (answer : Status)
@@ -136,11 +136,11 @@ IsComplete schedule (status.ReadFault which.Input) = Unit {0}
 IsComplete schedule status.WriteFault = Unit {0}
 IsComplete schedule answer = ⊥
 
--- the processor of the layout, opened on the hart, was run
-pub record RunsOpened (limit : ℕ) (show : Show) (plan : Plan) (hart : Hart) (schedule : ReadySchedule)
-    (before after : Streams) (blank : Option (List ℕ)) (answer : Status) (report : List ℕ) : Type 0 where
-  pub runs : RunsCore limit show (opened plan hart) (chosen_by limit show schedule) before after blank answer report
-  pub agrees : AgreesWithMachine limit plan hart before after runs.run.finish runs.run.last runs.run.tally answer
+-- the processor of the layout, opened on the hart, was run to this one
+pub record RunsOpened (limit : ℕ) (show : Show) (plan : Plan) (hart : Hart) (last : Processor)
+    (schedule : ReadySchedule) (before after : Streams) (blank : Option (List ℕ)) (answer : Status) (report : List ℕ) : Type 0 where
+  pub runs : RunsCore limit show (opened plan hart) last (chosen_by limit show schedule) before after blank answer report
+  pub agrees : AgreesWithMachine limit plan hart before after runs.run.finish last runs.run.tally answer
   pub complete : IsComplete schedule answer
 
 -- memory for the processor was refused, before its first move
@@ -153,29 +153,8 @@ pub record LacksProcessor (before after : Streams) (answer : Status) (report : L
 abbrev pub ComesOf : ℕ → Show → Plan → Hart → ReadySchedule → Streams → Streams → Option (List ℕ) → Status →
     List ℕ → Type 0
 ComesOf limit show plan hart schedule before after blank answer report =
-    RunsOpened limit show plan hart schedule before after blank answer report
+    ((last : Processor) × RunsOpened limit show plan hart last schedule before after blank answer report)
     ⊎ LacksProcessor before after answer report
-
--- all files are there, and this comes of them
-pub record RunsProcessor (asked : RunAsked) (before after : Outside) (blank : Option (List ℕ))
-    (answer : Status) (report : List ℕ) : Type 0 where
-  pub plan : Plan
-  pub hart : Hart
-  pub schedule : ReadySchedule
-  pub ready : IsReady asked (files_of before) (files_of after) plan hart schedule
-  pub comes : ComesOf asked.limit asked.show plan hart schedule before.streams after.streams blank answer report
-
--- one of them is not, and the streams were left alone
-pub record RefusesRun (asked : RunAsked) (before after : Outside) (answer : Status)
-    (report : List ℕ) : Type 0 where
-  pub lacks : LacksFile asked (files_of before) (files_of after) answer report
-  pub streams : after.streams ≡ before.streams
-
--- the answer of `run` and its report, behind what the report told before
-abbrev pub AnswersRun : RunAsked → Outside → Outside → Option (List ℕ) → Status → List ℕ → Type 0
-AnswersRun asked before after blank answer report =
-    RunsProcessor asked before after blank answer report
-    ⊎ RefusesRun asked before after answer report
 
 -- the report failed, as the run showed a move, and was put nothing more; or else in the closing lines, behind a front of them
 abbrev pub FailsReport : Scripted → List ℕ → (told full : Option (List ℕ)) → Type 0
@@ -186,14 +165,20 @@ FailsReport finish lines told full =
 -- the processor was run so, and the report failed
 pub record BreaksCore (limit : ℕ) (show : Show) (core : Processor) (by : Chooses)
     (before after : Streams) (blank full : Option (List ℕ)) : Type 0 where
-  pub run : ProcessorRun limit show core by before after blank
-  pub fails : FailsReport run.finish (closing_of limit run) run.told full
+  pub last : Processor
+  pub run : ProcessorRun limit show core last by before after blank
+  pub fails : FailsReport run.finish (closing_of limit last run) run.told full
+
+-- the answer of `run` and its report, behind what the report told before
+abbrev pub AnswersRun : RunAsked → Outside → Outside → Option (List ℕ) → Status → List ℕ → Type 0
+AnswersRun asked before after blank answer report =
+    AnswersFiles (λ plan hart schedule.
+    ComesOf asked.limit asked.show plan hart schedule before.streams after.streams blank answer report)
+    asked before after answer report
 
 -- all files are there, and the report of the run failed
-pub record BreaksRun (asked : RunAsked) (before after : Outside)
-    (blank full : Option (List ℕ)) : Type 0 where
-  pub plan : Plan
-  pub hart : Hart
-  pub schedule : ReadySchedule
-  pub ready : IsReady asked (files_of before) (files_of after) plan hart schedule
-  pub breaks : BreaksCore asked.limit asked.show (opened plan hart) (chosen_by asked.limit asked.show schedule) before.streams after.streams blank full
+abbrev pub BreaksRun : RunAsked → Outside → Outside → Option (List ℕ) → Option (List ℕ) → Type 0
+BreaksRun asked before after blank full =
+    ReadsFiles (λ plan hart schedule.
+    BreaksCore asked.limit asked.show (opened plan hart) (chosen_by asked.limit asked.show schedule)
+    before.streams after.streams blank full) asked before after

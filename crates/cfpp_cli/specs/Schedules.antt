@@ -1,7 +1,7 @@
 -- What chooses the moves of a run, once its files are read.
-use Rattle.std.specs.Prelude.{◌≡◌, ◌≤◌, ℕ, List, length, vec_items}
+use Rattle.std.specs.Prelude.{◌≡◌, ◌≤◌, ℕ, List, length, vec_items, Option}
+use Rattle.cf_io.specs.Reads.{Told}
 use Rattle.cf_words.specs.Options.{Schedule, by_script, by_seed, by_rule}
-use Rattle.cfpp_cli.specs.Files.{FilesAt}
 use Rattle.cfpp_cli.specs.Scripts.{IsScriptAt, LacksScript, most_script}
 use Rattle.cfpp_cli.specs.declared.status.Status.{Status}
 use Rattle.cfpp_cli.specs.declared.schedules.ReadySchedule as rust
@@ -14,7 +14,7 @@ pub data ReadySchedule : Type 0 where
   in_turn : ReadySchedule
 
 -- of the schedule that the words ask this becomes: a script's file is read, and where there is none, none
-abbrev pub IsScheduled : Schedule → FilesAt → FilesAt → ReadySchedule → Type 0
+abbrev pub IsScheduled : Schedule → Option Told → Option Told → ReadySchedule → Type 0
 IsScheduled (by_script file) before after (in_script text) = IsScriptAt file before after text
 IsScheduled (by_script file) before after (drawn_from seed) = ⊥
 IsScheduled (by_script file) before after in_turn = ⊥
@@ -28,7 +28,7 @@ FitsScript (drawn_from seed) = Unit {0}
 FitsScript in_turn = Unit {0}
 
 -- the words ask for the script in a file, and that gives none: the status that says why, and the report
-pub record LacksSchedule (schedule : Schedule) (before after : FilesAt) (answer : Status)
+pub record LacksSchedule (schedule : Schedule) (before after : Option Told) (answer : Status)
     (report : List ℕ) : Type 0 where
   pub file : List ℕ
   pub asks : schedule ≡ by_script file

@@ -1,7 +1,8 @@
 -- The script that a file holds, and why there is none.
-use Rattle.std.specs.Prelude.{◌≡◌, ◌<◌, ◌≤◌, ◌+◌, ◌⊎◌, ℕ, List, length, codes}
+use Rattle.std.specs.Prelude.{◌≡◌, ◌<◌, ◌≤◌, ◌+◌, ◌⊎◌, ℕ, List, length, codes, Option}
+use Rattle.cf_io.specs.Reads.{Told}
 use Rattle.cf_texts.specs.Texts.{line}
-use Rattle.cfpp_cli.specs.Files.{FilesAt, IsFrontOf, IsUnreadable, LacksMemory}
+use Rattle.cfpp_cli.specs.Files.{IsFrontOf, IsUnreadable, LacksMemory}
 use Rattle.cfpp_cli.specs.declared.status.ScriptFault.TheVariants as fault
 use Rattle.cfpp_cli.specs.declared.status.Status.{Status}
 use Rattle.cfpp_cli.specs.declared.status.Status.TheVariants as status
@@ -12,22 +13,21 @@ abbrev pub most_script : ℕ
 most_script = 16777216
 
 -- the file's first bytes, one more than a script may have, are not too many, and are this text
-pub record IsScriptAt (name : List ℕ) (before after : FilesAt) (text : List ℕ) : Type 0 where
-  pub front : IsFrontOf (most_script + 1) before.told after.told name text
+pub record IsScriptAt (name : List ℕ) (before after : Option Told) (text : List ℕ) : Type 0 where
+  pub front : IsFrontOf (most_script + 1) before after name text
   pub fits : length text ≤ most_script
-  pub faults : before.faults ≤ after.faults
 
 -- they are too many
-pub record IsTooLong (name : List ℕ) (before after : FilesAt) (answer : Status)
+pub record IsTooLong (name : List ℕ) (before after : Option Told) (answer : Status)
     (report : List ℕ) : Type 0 where
   pub text : List ℕ
-  pub front : IsFrontOf (most_script + 1) before.told after.told name text
+  pub front : IsFrontOf (most_script + 1) before after name text
   pub long : most_script < length text
   pub status_is : answer ≡ status.BadScript fault.TooLong
   pub reports : report ≡ line (codes "bad script: TooLong")
 
 -- why the file of this name gives no script, the status that says so, and the report
-abbrev pub LacksScript : List ℕ → FilesAt → FilesAt → Status → List ℕ → Type 0
+abbrev pub LacksScript : List ℕ → Option Told → Option Told → Status → List ℕ → Type 0
 LacksScript name before after answer report =
     IsTooLong name before after answer report
     ⊎ (IsUnreadable which.Script (codes "read fault script") name before after answer report

@@ -9,7 +9,7 @@ use Rattle.rv_asm.specs.Objects.{Objects}
 use Rattle.elf_make.specs.Files.{elf_file}
 use Rattle.elf_make.specs.Viewed.{IsView}
 use Rattle.asm_texts.specs.Refusals.{bad_source}
-use Rattle.cfpp_cli.specs.FileCommands.{FileSide, PutsText, FailsText, ComesOfFile, IsUnread, IsUnheld}
+use Rattle.cfpp_cli.specs.FileCommands.{FileSide, PutsOrFails, ComesOfFile, IsUnread, IsUnheld}
 use Rattle.cfpp_cli.specs.declared.status.Status.{Status}
 use Rattle.cfpp_cli.specs.declared.status.Status.TheVariants as status
 use Rattle.cfpp_cli.specs.declared.status.Which.TheVariants as which
@@ -25,35 +25,31 @@ pub record IsAssembly (source file : List ℕ) : Type 0 where
   pub file_is : file ≡ elf_file object
   pub view : IsView object file
 
--- the file of a source was put to the output
-pub record PutsAssembly (source : List ℕ) (before after : Option (List ℕ)) (report : List ℕ) : Type 0 where
-  pub file : List ℕ
-  pub assembly : IsAssembly source file
-  pub puts : PutsText file before after report
-
--- the output failed at it
-pub record FailsAssembly (source : List ℕ) (before after : Option (List ℕ)) (report : List ℕ) : Type 0 where
-  pub file : List ℕ
-  pub assembly : IsAssembly source file
-  pub fails : FailsText file before after report
+-- the source is assembled to no file: the status and the report say why; or memory was refused
+abbrev pub IsUnassembled : List ℕ → Status → List ℕ → Type 0
+IsUnassembled source answer report =
+    ((error : AsmErr) × (assembled source ≡ Err error) × (answer ≡ status.BadSource error)
+    × (report ≡ bad_source error))
+    ⊎ ((answer ≡ status.NoMemory) × (report ≡ line (codes "no memory")))
 
 -- the status and the report of a refusal
 abbrev pub Refused : AsmErr → Status → List ℕ → Type 0
-Refused error (status.BadSource told) report =
-    (error.kind ≢ AsmKind.NoMemory) × (told ≡ error) × (report ≡ bad_source error)
-Refused error status.NoMemory report = report ≡ line (codes "no memory")
-Refused error _ report = ⊥
+Refused error answer report =
+    ((error.kind ≢ AsmKind.NoMemory) × (answer ≡ status.BadSource error) × (report ≡ bad_source error))
+    ⊎ ((answer ≡ status.NoMemory) × (report ≡ line (codes "no memory")))
+
+-- the file of the source was put to the output, or the output failed at it
+pub record PutsAssembly (source : List ℕ) (before after : Option (List ℕ)) (answer : Status)
+    (report : List ℕ) : Type 0 where
+  pub file : List ℕ
+  pub assembly : IsAssembly source file
+  pub puts : PutsOrFails file before after answer report
 
 -- the status and the report that a source comes to
 abbrev pub AssemblesSource : List ℕ → Option (List ℕ) → Option (List ℕ) → Status → List ℕ → Type 0
-AssemblesSource source before after status.Done report = PutsAssembly source before after report
-AssemblesSource source before after status.WriteFault report =
-    FailsAssembly source before after report
-AssemblesSource source before after (status.BadSource error) report =
-    (assembled source ≡ Err error) × (report ≡ bad_source error) × (after ≡ before)
-AssemblesSource source before after status.NoMemory report =
-    (report ≡ line (codes "no memory")) × (after ≡ before)
-AssemblesSource source before after _ report = ⊥
+AssemblesSource source before after answer report =
+    PutsAssembly source before after answer report
+    ⊎ (IsUnassembled source answer report × (after ≡ before))
 
 -- the answer of `asm` and its report
 abbrev pub AnswersAsm : List ℕ → FileSide → FileSide → Status → List ℕ → Type 0

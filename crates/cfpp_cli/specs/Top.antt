@@ -1,19 +1,24 @@
 -- What the top call answers, and what it leaves of the outside.
-use Rattle.std.specs.Prelude.{◌≡◌, ◌≤◌, ◌⊎◌, ℕ, List, codes, Option, Result, Ok, Err}
+use Rattle.std.specs.Prelude.{◌≡◌, ◌≤◌, ◌⊎◌, ℕ, List, codes, Bool, true, false, Option, Result, Ok, Err}
 use Rattle.cf_io.specs.Causes.{Rose, HasCause}
 use Rattle.cf_io.specs.Puts.{Writes, WritesFront}
+use Rattle.cf_gen.specs.Program.{program_text}
 use Rattle.cf_texts.specs.Texts.{counted_line}
-use Rattle.cf_words.specs.Words.{Asks, IsBadAt, Asked, machine, check, listing, asm, run}
+use Rattle.cf_words.specs.declared.options.Show.TheVariants as shows
+use Rattle.cf_words.specs.Words.{Asks, IsBadAt, Asked, machine, run, moves, rounds, debug, time, audit, check, asm, listing, gen, help, version}
 use Rattle.cfpp_cli.specs.Options.{chosen_of}
-use Rattle.cfpp_cli.specs.Causes.{input_answered, output_answered}
+use Rattle.cfpp_cli.specs.Causes.{files_answered, input_answered, output_answered}
 use Rattle.cfpp_cli.specs.Outside.{Outside, Report}
 use Rattle.cfpp_cli.specs.Machine.{AnswersMachine, BreaksProgram}
 use Rattle.cfpp_cli.specs.Check.{AnswersCheck}
-use Rattle.cfpp_cli.specs.FileCommands.{side_of}
+use Rattle.cfpp_cli.specs.Drawn.{AnswersDrawn, BreaksDrawn}
+use Rattle.cfpp_cli.specs.FileCommands.{PutsOrFails, side_of}
 use Rattle.cfpp_cli.specs.Listings.{AnswersList}
 use Rattle.cfpp_cli.specs.Sources.{AnswersAsm}
 use Rattle.cfpp_cli.specs.RunFiles.{run_asked}
 use Rattle.cfpp_cli.specs.Run.{AnswersRun, BreaksRun}
+use Rattle.cfpp_cli.specs.Standing.{AnswersMoves, BreaksMoves}
+use Rattle.cfpp_cli.specs.declared.help.TheConstants.{HELP, VERSION}
 use Rattle.cfpp_cli.specs.declared.status.Status.{Status}
 use Rattle.cfpp_cli.specs.declared.status.Status.TheVariants as status
 
@@ -30,56 +35,81 @@ pub record RefusesWords (index : ℕ) (before after : Outside) (answer : Status)
   pub reports : report ≡ counted_line (codes "bad words at ") index
   pub streams : after.streams ≡ before.streams
 
--- the answer and the whole report, behind what it told before, by what the words ask
+-- a text was put to the output, or the output failed at it, and nothing else was touched
+pub record PutsAlone (text : List ℕ) (before after : Outside) (answer : Status) (report : List ℕ) : Type 0 where
+  pub put : PutsOrFails text before.streams.output after.streams.output answer report
+  pub files : after.files ≡ before.files
+  pub input : after.streams.input ≡ before.streams.input
+
+-- the answer and the whole report, behind what it told before, by what the words ask; nothing is claimed of commands that
+-- are not built, since no words ask them
 abbrev pub Answers : Result Asked ℕ → Outside → Outside → Option (List ℕ) → Status → List ℕ → Type 0
 Answers (Ok (machine program limit retired mul)) before after blank answer report =
     AnswersMachine program (chosen_of limit retired mul) before after answer report
+Answers (Ok (run layout program schedule limit lines)) before after blank answer report =
+    AnswersRun (run_asked layout program schedule limit lines) before after blank answer report
+Answers (Ok (moves layout program schedule limit)) before after blank answer report =
+    AnswersMoves (run_asked layout program schedule limit shows.Report) before after blank answer report
+Answers (Ok (rounds layout program limit)) before after blank answer report = Unit {0}
+Answers (Ok (debug layout program)) before after blank answer report = Unit {0}
+Answers (Ok (time delays program layouts limit sites)) before after blank answer report = Unit {0}
+Answers (Ok (audit layout program trace)) before after blank answer report = Unit {0}
 Answers (Ok (check layout)) before after blank answer report =
-    AnswersCheck layout before after answer report
-Answers (Ok (listing program)) before after blank answer report =
-    AnswersList program (side_of before) (side_of after) answer report
+    AnswersCheck layout (side_of before) (side_of after) answer report
     × (after.streams.input ≡ before.streams.input)
 Answers (Ok (asm source)) before after blank answer report =
     AnswersAsm source (side_of before) (side_of after) answer report
     × (after.streams.input ≡ before.streams.input)
-Answers (Ok (run layout program schedule limit lines)) before after blank answer report =
-    AnswersRun (run_asked layout program schedule limit lines) before after blank answer report
+Answers (Ok (listing program)) before after blank answer report =
+    AnswersList program (side_of before) (side_of after) answer report
+    × (after.streams.input ≡ before.streams.input)
+Answers (Ok (gen number true)) before after blank answer report =
+    AnswersDrawn number before.streams after.streams blank answer report × (after.files ≡ before.files)
+Answers (Ok (gen number false)) before after blank answer report =
+    PutsAlone (program_text number) before after answer report
+Answers (Ok help) before after blank answer report = PutsAlone HELP.now before after answer report
+Answers (Ok version) before after blank answer report = PutsAlone VERSION.now before after answer report
 Answers (Err index) before after blank answer report = RefusesWords index before after answer report
 
 -- the report failed at what the command itself put to it
 abbrev pub Breaks : Result Asked ℕ → Outside → Outside → Option (List ℕ) → Option (List ℕ) → Type 0
 Breaks (Ok (machine program limit retired mul)) before after blank full =
     BreaksProgram program (chosen_of limit retired mul) before after blank full
-Breaks (Ok (check layout)) before after blank full = ⊥
-Breaks (Ok (listing program)) before after blank full = ⊥
-Breaks (Ok (asm source)) before after blank full = ⊥
 Breaks (Ok (run layout program schedule limit lines)) before after blank full =
     BreaksRun (run_asked layout program schedule limit lines) before after blank full
+Breaks (Ok (moves layout program schedule limit)) before after blank full =
+    BreaksMoves (run_asked layout program schedule limit shows.Report) before after blank full
+Breaks (Ok (gen number true)) before after blank full =
+    BreaksDrawn number before.streams after.streams blank full × (after.files ≡ before.files)
+Breaks (Ok asked) before after blank full = ⊥
 Breaks (Err index) before after blank full = ⊥
 
--- the whole report was put, and the status is the answer; or the report failed behind a front of it, and the status is WriteFault
+-- the whole report was put, and the status is the answer; or the report failed behind a front of it, its count of faults
+-- rose, and the status is WriteFault
 abbrev pub Reports : Report → Report → List ℕ → Status → Status → Type 0
 Reports before after text answer result =
-    ((result ≡ answer) × Writes before.written after.written text)
+    ((result ≡ answer) × Writes before.written after.written text × (after.faults ≡ before.faults))
     ⊎ ((result ≡ status.WriteFault) × WritesFront before.written after.written text
     × Rose before.faults after.faults)
 
--- the command was carried out, with this answer and this report
+-- the command was carried out, with this answer and this report; a count of faults rose just where the answer says so
 pub record Completes (reading : Result Asked ℕ) (before after : Outside) (blank full : Report)
     (result : Status) : Type 0 where
   pub answer : Status
   pub text : List ℕ
   pub answers : Answers reading before after blank.written answer text
+  pub files : HasCause before.file_faults after.file_faults (files_answered answer)
   pub input : HasCause before.input_faults after.input_faults (input_answered answer)
   pub output : HasCause before.output_faults after.output_faults (output_answered answer)
   pub reports : Reports blank full text answer result
 
--- the report failed before that, and the status is WriteFault
+-- the report failed before that, and no file did; the status is WriteFault
 pub record IsCut (reading : Result Asked ℕ) (before after : Outside) (blank full : Report)
     (result : Status) : Type 0 where
   pub status_is : result ≡ status.WriteFault
   pub breaks : Breaks reading before after blank.written full.written
   pub rose : Rose blank.faults full.faults
+  pub files : after.file_faults ≡ before.file_faults
   pub input : before.input_faults ≤ after.input_faults
   pub output : before.output_faults ≤ after.output_faults
 
@@ -90,3 +120,16 @@ pub record IsTop (words : List (List ℕ)) (before after : Outside) (blank full 
   pub reads : Reading words reading
   pub ends : Completes reading before after blank full result
       ⊎ IsCut reading before after blank full result
+
+-- the status says that something could not be read or written
+abbrev pub says_fault : Status → Bool
+says_fault (status.ReadFault kind) = true
+says_fault status.WriteFault = true
+says_fault _ = false
+
+-- no count of faults rose
+pub record NoneRose (before after : Outside) (blank full : Report) : Type 0 where
+  pub files : after.file_faults ≡ before.file_faults
+  pub input : after.input_faults ≡ before.input_faults
+  pub output : after.output_faults ≡ before.output_faults
+  pub report : full.faults ≡ blank.faults

@@ -1,41 +1,17 @@
-//! The command `asm`.
+//! The file of an assembled source.
 
 ghost use Rattle.std.specs.Prelude.{◌≡◌, ◌≢◌, true, false, Ok, IfOk, IfErr};
-ghost use Rattle.cf_io.specs.Causes.{HasCause};
 ghost use Rattle.rv_asm.specs.declared.refusal.AsmKind.{AsmKind as Kind};
-ghost use Rattle.rv_asm.specs.Assembling.{assembled};
-ghost use Rattle.rv_asm.specs.Objects.{Refuses};
-ghost use Rattle.cfpp_cli.specs.Causes.{input_answered, output_answered};
-ghost use Rattle.cfpp_cli.specs.FileCommands.{file_side};
-ghost use Rattle.cfpp_cli.specs.Sources.{IsAssembly, Refused, AssemblesSource, AnswersAsm};
+ghost use Rattle.cfpp_cli.specs.Causes.{files_answered, input_answered, output_answered};
+ghost use Rattle.cfpp_cli.specs.Sources.{IsAssembly, IsUnassembled, Refused};
 
 use crate::answer::Answer;
-use crate::refusals::line;
-use crate::status::{Status, Which};
+use crate::layouts::no_memory;
+use crate::status::Status;
 use asm_texts::bad_source;
-use cf_io::{Files, FilesErr, Sink, put_all};
-use cf_texts::Page;
 use elf_make::write_elf;
 use rv_asm::{AsmErr, AsmKind, assemble};
 use std::alloc::Global;
-
-/// How much is read of a source: one byte more than it may have.
-const MOST_SOURCE: u64 = 1_048_577;
-
-/// The file of the program that a source stands for.
-fn file_of(alloc: Global, source: &[u8]) -> Result<Vec<u8>, AsmErr>
-    ensures ok { IfOk result (λ file. IsAssembly source.now file.items) }
-    ensures err { IfErr result (λ e. Refuses e (assembled source.now)) }
-{
-    let object = assemble(alloc, source)?;
-    match write_elf(alloc, &object) {
-        Ok(file) => Ok(file),
-        Err(_) => Err(AsmErr {
-            line: 0,
-            kind: AsmKind::NoMemory,
-        }),
-    }
-}
 
 fn lacks_memory(error: AsmErr) -> bool
     ensures yes { result ≡ true → error.kind ≡ Kind.NoMemory }
@@ -49,10 +25,7 @@ fn refusal(error: AsmErr) -> Answer
     ensures { Refused error result.status result.closing }
 {
     if lacks_memory(error) {
-        return Answer {
-            status: Status::NoMemory,
-            closing: line(b"no memory"),
-        };
+        return no_memory();
     }
     Answer {
         status: Status::BadSource(error),
@@ -60,51 +33,17 @@ fn refusal(error: AsmErr) -> Answer
     }
 }
 
-/// Assembles a source that was read, and puts the file.
-fn assemble_source<K: Sink>(alloc: Global, source: &[u8], output: &mut K) -> Answer
-    ensures comes { AssemblesSource source.now (K.written output.old) (K.written output.new) result.status result.closing }
-    ensures input { input_answered result.status ≡ Ok tt }
-    ensures output { HasCause (K.faults output.old) (K.faults output.new) (output_answered result.status) }
+/// The file of the program that a source stands for, or the answer where it stands for none.
+pub fn file_of(alloc: Global, source: &[u8]) -> Result<Vec<u8>, Answer>
+    ensures ok { IfOk result (λ file. IsAssembly source.now file.items) }
+    ensures err { IfErr result (λ answer. IsUnassembled source.now answer.status answer.closing) }
 {
-    let file = match file_of(alloc, source) {
-        Ok(file) => file,
-        Err(error) => return refusal(error),
+    let object = match assemble(alloc, source) {
+        Ok(object) => object,
+        Err(error) => return Err(refusal(error)),
     };
-    match put_all(output, file.as_slice()) {
-        Ok(()) => Answer {
-            status: Status::Done,
-            closing: Page::new(),
-        },
-        Err(_) => Answer {
-            status: Status::WriteFault,
-            closing: line(b"write fault output"),
-        },
-    }
-}
-
-/// Carries out `asm`: reads the source, and puts the file that it is assembled into to the output.
-pub fn assemble_program<F: Files, K: Sink>(
-    alloc: Global,
-    source: &str,
-    files: &mut F,
-    output: &mut K,
-) -> Answer
-    ensures answers { AnswersAsm source.now
-        (file_side (F.told files.old) (F.faults files.old) (K.written output.old))
-        (file_side (F.told files.new) (F.faults files.new) (K.written output.new))
-        result.status result.closing }
-    ensures input { input_answered result.status ≡ Ok tt }
-    ensures output { HasCause (K.faults output.old) (K.faults output.new) (output_answered result.status) }
-{
-    match files.read(alloc, source, MOST_SOURCE) {
-        Ok(bytes) => assemble_source(alloc, bytes.as_slice(), output),
-        Err(FilesErr::Failed) => Answer {
-            status: Status::ReadFault(Which::Source),
-            closing: line(b"read fault source"),
-        },
-        Err(FilesErr::NoMemory) => Answer {
-            status: Status::NoMemory,
-            closing: line(b"no memory"),
-        },
+    match write_elf(alloc, &object) {
+        Ok(file) => Ok(file),
+        Err(_) => Err(no_memory()),
     }
 }

@@ -1,10 +1,11 @@
 //! A run of the processor by a policy.
 
-ghost use Rattle.std.specs.Prelude.{◌≡◌, ◌≤◌};
+ghost use Rattle.std.specs.Prelude.{◌≡◌, ◌≤◌, [], IfOk, Ok};
 ghost use Rattle.cf_io.specs.Causes.{HasCause};
 ghost use Rattle.rv_machine.specs.Streams.{streams_of};
 ghost use Rattle.cf_run.specs.Policies.{IsOpened};
-ghost use Rattle.cfpp_cli.specs.Deciding.{Decides, input_decided, output_decided};
+ghost use Rattle.cfpp_cli.specs.Causes.{input_answered, output_answered};
+ghost use Rattle.cfpp_cli.specs.Deciding.{Counts, Decides, files_decided};
 ghost use Rattle.cfpp_cli.specs.Run.{ByPolicy, RunsCore, BreaksCore};
 
 use crate::answer::Answer;
@@ -30,15 +31,17 @@ pub fn run_by_policy<P: Policy, S: Source, K: Sink, R: Sink>(
     requires retired { core.old.state.retired ≤ limit }
     requires opened { IsOpened core.old }
     ensures runs { Decides
-        (RunsCore limit show core.old (ByPolicy P.picked P.onward limit show policy.old)
+        (RunsCore limit show core.old core.new (ByPolicy P.picked P.onward limit show policy.old)
         (streams_of (S.left input.old) (K.written output.old))
         (streams_of (S.left input.new) (K.written output.new)) (R.written report.old))
         (BreaksCore limit show core.old (ByPolicy P.picked P.onward limit show policy.old)
         (streams_of (S.left input.old) (K.written output.old))
         (streams_of (S.left input.new) (K.written output.new)) (R.written report.old) (R.written report.new))
         (R.written report.old) (R.written report.new) result }
-    ensures input { HasCause (S.faults input.old) (S.faults input.new) (input_decided result) }
-    ensures output { HasCause (K.faults output.old) (K.faults output.new) (output_decided result) }
+    ensures closed { IfOk result (λ answer. answer.closing ≡ []) }
+    ensures files { files_decided result ≡ Ok tt }
+    ensures input { Counts input_answered (S.faults input.old) (S.faults input.new) result }
+    ensures output { Counts output_answered (K.faults output.old) (K.faults output.new) result }
     ensures report { HasCause (R.faults report.old) (R.faults report.new) result }
 {
     let mut tally = no_moves();

@@ -1,11 +1,11 @@
 //! The command `check`.
 
-ghost use Rattle.std.specs.Prelude.{ℕ, List, Option};
+ghost use Rattle.std.specs.Prelude.{◌≡◌, Ok};
 ghost use Rattle.cf_io.specs.Causes.{HasCause};
 ghost use Rattle.cf_words.specs.Views.{layout_of};
-ghost use Rattle.cfpp_cli.specs.Causes.{output_answered};
+ghost use Rattle.cfpp_cli.specs.Causes.{files_answered, input_answered, output_answered};
 ghost use Rattle.cfpp_cli.specs.Check.{AnswersCheck, WritesText};
-ghost use Rattle.cfpp_cli.specs.Outside.{outside_of};
+ghost use Rattle.cfpp_cli.specs.FileCommands.{file_side};
 
 use crate::answer::Answer;
 use crate::layouts::{layout_at, no_memory};
@@ -21,6 +21,8 @@ use std::alloc::Global;
 /// Writes the layout's one text.
 fn write_text<K: Sink>(alloc: Global, layout: &Layout, output: &mut K) -> Answer
     ensures text { WritesText layout.now (K.written output.old) (K.written output.new) result.status result.closing }
+    ensures files { files_answered result.status ≡ Ok tt }
+    ensures input { input_answered result.status ≡ Ok tt }
     ensures output { HasCause (K.faults output.old) (K.faults output.new) (output_answered result.status) }
 {
     let text = match write_layout(alloc, layout) {
@@ -46,11 +48,11 @@ pub fn check_layout<F: Files, K: Sink>(
     files: &mut F,
     output: &mut K,
 ) -> Answer
-    ensures answers { (left : Option (List ℕ)) (faults : ℕ) → AnswersCheck (layout_of word.entry)
-        (outside_of (F.told files.old) (F.faults files.old) left faults
-        (K.written output.old) (K.faults output.old))
-        (outside_of (F.told files.new) (F.faults files.new) left faults
-        (K.written output.new) (K.faults output.new)) result.status result.closing }
+    ensures answers { AnswersCheck (layout_of word.entry)
+        (file_side (F.told files.old) (K.written output.old)) (file_side (F.told files.new) (K.written output.new))
+        result.status result.closing }
+    ensures files { HasCause (F.faults files.old) (F.faults files.new) (files_answered result.status) }
+    ensures input { input_answered result.status ≡ Ok tt }
     ensures output { HasCause (K.faults output.old) (K.faults output.new) (output_answered result.status) }
 {
     match layout_at(alloc, word, files) {

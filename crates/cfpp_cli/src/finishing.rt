@@ -1,10 +1,11 @@
 //! How a run of the processor finishes: its status and its closing lines.
 
-ghost use Rattle.std.specs.Prelude.{◌≡◌, false};
+ghost use Rattle.std.specs.Prelude.{◌≡◌, [], false, IfOk, Ok};
 ghost use Rattle.cf_io.specs.Causes.{HasCause};
 ghost use Rattle.cf_closing.specs.Closing.{is_report_fault};
 ghost use Rattle.cf_run.specs.Reaching.{no_tally};
-ghost use Rattle.cfpp_cli.specs.Deciding.{Closes};
+ghost use Rattle.cfpp_cli.specs.Causes.{files_answered};
+ghost use Rattle.cfpp_cli.specs.Deciding.{Closes, files_decided};
 ghost use Rattle.cfpp_cli.specs.Run.{status_of as status_for};
 
 use crate::answer::Answer;
@@ -25,7 +26,8 @@ pub fn is_cut(finish: Scripted) -> bool
 
 /// The status of a run under this limit that finished so after that many moves.
 fn status_of(limit: u64, moves: u64, finish: Scripted) -> Status
-    ensures { result ≡ status_for limit moves finish }
+    ensures status { result ≡ status_for limit moves finish }
+    ensures files { files_answered result ≡ Ok tt }
 {
     match finish {
         Scripted::Ran(Ran::Exit(code)) => Status::Exit(code),
@@ -49,6 +51,8 @@ pub fn close<R: Sink>(
 ) -> Result<Answer, Failed>
     requires { is_report_fault finish ≡ false }
     ensures closes { Closes limit finish core.now tally.now (R.written report.old) (R.written report.new) result }
+    ensures closed { IfOk result (λ answer. answer.closing ≡ []) }
+    ensures files { files_decided result ≡ Ok tt }
     ensures report { HasCause (R.faults report.old) (R.faults report.new) result }
 {
     match put_closing(core, limit, finish, tally, report) {

@@ -1,12 +1,14 @@
 //! The layouts that words of the command line name.
 
-ghost use Rattle.std.specs.Prelude.{◌≡◌, ◌≤◌, IfOk, IfErr, codes};
+ghost use Rattle.std.specs.Prelude.{◌≡◌, IfOk, IfErr, codes};
+ghost use Rattle.cf_io.specs.Causes.{HasCause};
 ghost use Rattle.cf_texts.specs.Texts.{line as line_of};
 ghost use Rattle.cf_words.specs.Words.{in_file};
 ghost use Rattle.cf_words.specs.Views.{layout_of};
 ghost use Rattle.layout_file.specs.Answers.{Describes};
 ghost use Rattle.cfpp_cli.specs.declared.status.Status.TheVariants.{NoMemory as Refused};
-ghost use Rattle.cfpp_cli.specs.Layouts.{RefusesFile, IsLayoutAt, HasNoLayout, LacksLayout};
+ghost use Rattle.cfpp_cli.specs.Causes.{files_read};
+ghost use Rattle.cfpp_cli.specs.Layouts.{IsNoLayout, IsLayoutAt, LacksLayout};
 
 use crate::answer::Answer;
 use crate::refusals::line;
@@ -35,7 +37,7 @@ pub fn no_memory() -> Answer
 /// The layout that a file of this content describes, or the answer where it describes none.
 fn read_content(alloc: Global, file: &[u8]) -> Result<Layout, Answer>
     ensures ok { IfOk result (λ layout. Describes file.now layout) }
-    ensures refused { IfErr result (λ answer. RefusesFile file.now answer.status answer.closing) }
+    ensures refused { IfErr result (λ answer. IsNoLayout file.now answer.status answer.closing) }
 {
     match read_layout(alloc, file) {
         Ok(layout) => Ok(layout),
@@ -51,9 +53,9 @@ fn read_content(alloc: Global, file: &[u8]) -> Result<Layout, Answer>
 /// The layout in the file of this name, or the answer where there is none.
 fn read_file<F: Files>(alloc: Global, name: &str, files: &mut F) -> Result<Layout, Answer>
     ensures ok { IfOk result (IsLayoutAt (in_file name.now) (F.told files.old) (F.told files.new)) }
-    ensures refused { IfErr result (λ answer. HasNoLayout name.now (F.told files.old) (F.told files.new)
-        (F.faults files.old) (F.faults files.new) answer.status answer.closing) }
-    ensures faults { F.faults files.old ≤ F.faults files.new }
+    ensures refused { IfErr result (λ answer. LacksLayout (in_file name.now) (F.told files.old) (F.told files.new)
+        answer.status answer.closing) }
+    ensures faults { HasCause (F.faults files.old) (F.faults files.new) (files_read result) }
 {
     match files.read(alloc, name, MOST_BYTES + 1) {
         Ok(file) => read_content(alloc, file.as_slice()),
@@ -72,9 +74,9 @@ pub fn layout_at<F: Files>(
     files: &mut F,
 ) -> Result<Layout, Answer>
     ensures ok { IfOk result (IsLayoutAt (layout_of word.entry) (F.told files.old) (F.told files.new)) }
-    ensures refused { IfErr result (λ answer. LacksLayout (layout_of word.entry) (F.told files.old)
-        (F.told files.new) (F.faults files.old) (F.faults files.new) answer.status answer.closing) }
-    ensures faults { F.faults files.old ≤ F.faults files.new }
+    ensures refused { IfErr result (λ answer. LacksLayout (layout_of word.entry) (F.told files.old) (F.told files.new)
+        answer.status answer.closing) }
+    ensures faults { HasCause (F.faults files.old) (F.faults files.new) (files_read result) }
 {
     match word {
         LayoutWord::Plain => Ok(plain()),

@@ -2,24 +2,29 @@
 #![tactic(auto)]
 
 mod answer;
+mod asm;
 mod assembling;
 mod by_policy;
 mod by_script;
 mod check;
 mod closing;
+mod drawn;
 mod finishing;
+mod help;
 mod layouts;
 mod listing;
 mod machine;
 mod opening;
 mod parts;
 mod programs;
+mod putting;
 mod refusals;
 mod run;
 mod run_files;
 mod running;
 mod schedules;
 mod scripts;
+mod standing;
 mod status;
 mod top;
 

@@ -3,7 +3,7 @@
 ghost use Rattle.std.specs.Prelude.{◌≡◌, Ok, OnOk, IfErr};
 ghost use Rattle.cf_io.specs.Causes.{HasCause};
 ghost use Rattle.cf_io.specs.Puts.{Writes};
-ghost use Rattle.cfpp_cli.specs.Causes.{input_answered, output_listed, output_answered};
+ghost use Rattle.cfpp_cli.specs.Causes.{files_answered, input_answered, output_listed, output_answered};
 ghost use Rattle.cfpp_cli.specs.FileCommands.{file_side};
 ghost use Rattle.cfpp_cli.specs.Listings.{listing_of, IsListable, IsNotListed, ListsImage, AnswersList};
 
@@ -56,6 +56,7 @@ fn put_listing<K: Sink>(image: &[u8], output: &mut K) -> Result<(), ListErr>
 /// Lists a program that was read.
 fn list_image<K: Sink>(image: &[u8], output: &mut K) -> Answer
     ensures comes { ListsImage image.now (K.written output.old) (K.written output.new) result.status result.closing }
+    ensures files { files_answered result.status ≡ Ok tt }
     ensures input { input_answered result.status ≡ Ok tt }
     ensures output { HasCause (K.faults output.old) (K.faults output.new) (output_answered result.status) }
 {
@@ -83,9 +84,10 @@ pub fn list_program<F: Files, K: Sink>(
     output: &mut K,
 ) -> Answer
     ensures answers { AnswersList program.now
-        (file_side (F.told files.old) (F.faults files.old) (K.written output.old))
-        (file_side (F.told files.new) (F.faults files.new) (K.written output.new))
+        (file_side (F.told files.old) (K.written output.old))
+        (file_side (F.told files.new) (K.written output.new))
         result.status result.closing }
+    ensures files { HasCause (F.faults files.old) (F.faults files.new) (files_answered result.status) }
     ensures input { input_answered result.status ≡ Ok tt }
     ensures output { HasCause (K.faults output.old) (K.faults output.new) (output_answered result.status) }
 {

@@ -1,9 +1,10 @@
 //! The command `machine`.
 
-ghost use Rattle.std.specs.Prelude.{◌≡◌};
+ghost use Rattle.std.specs.Prelude.{◌≡◌, Ok};
 ghost use Rattle.cf_io.specs.Causes.{HasCause};
 ghost use Rattle.rv_machine.specs.Streams.{streams_of};
-ghost use Rattle.cfpp_cli.specs.Deciding.{Decides, input_decided, output_decided};
+ghost use Rattle.cfpp_cli.specs.Causes.{files_answered, input_answered, output_answered};
+ghost use Rattle.cfpp_cli.specs.Deciding.{Counts, Decides, files_decided};
 ghost use Rattle.cfpp_cli.specs.Machine.{RunsHart, BreaksHart, AnswersMachine, BreaksProgram, status_of as status_for};
 ghost use Rattle.cfpp_cli.specs.Options.{chosen_of};
 ghost use Rattle.cfpp_cli.specs.Outside.{outside_of};
@@ -19,7 +20,8 @@ use rv_machine::Machine;
 use std::alloc::Global;
 
 fn status_of(limit: u64, finish: Finish) -> Status
-    ensures { result ≡ status_for limit finish }
+    ensures status { result ≡ status_for limit finish }
+    ensures files { files_answered result ≡ Ok tt }
 {
     match finish {
         Finish::Exit(code) => Status::Exit(code),
@@ -50,8 +52,9 @@ fn run_machine<S: Source, K: Sink, R: Sink>(
         (streams_of (S.left input.old) (K.written output.old))
         (streams_of (S.left input.new) (K.written output.new)) (R.written report.old) (R.written report.new))
         (R.written report.old) (R.written report.new) result }
-    ensures input { HasCause (S.faults input.old) (S.faults input.new) (input_decided result) }
-    ensures output { HasCause (K.faults output.old) (K.faults output.new) (output_decided result) }
+    ensures files { files_decided result ≡ Ok tt }
+    ensures input { Counts input_answered (S.faults input.old) (S.faults input.new) result }
+    ensures output { Counts output_answered (K.faults output.old) (K.faults output.new) result }
     ensures report { HasCause (R.faults report.old) (R.faults report.new) result }
 {
     let mut running = machine;
@@ -84,8 +87,9 @@ pub fn run_program<F: Files, S: Source, K: Sink, R: Sink>(
         (outside_of (F.told files.new) (F.faults files.new) (S.left input.new) (S.faults input.new)
         (K.written output.new) (K.faults output.new)) (R.written report.old) (R.written report.new))
         (R.written report.old) (R.written report.new) result }
-    ensures input { HasCause (S.faults input.old) (S.faults input.new) (input_decided result) }
-    ensures output { HasCause (K.faults output.old) (K.faults output.new) (output_decided result) }
+    ensures files { HasCause (F.faults files.old) (F.faults files.new) (files_decided result) }
+    ensures input { Counts input_answered (S.faults input.old) (S.faults input.new) result }
+    ensures output { Counts output_answered (K.faults output.old) (K.faults output.new) result }
     ensures report { HasCause (R.faults report.old) (R.faults report.new) result }
 {
     match program_at(alloc, program, files) {

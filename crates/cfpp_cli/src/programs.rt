@@ -1,7 +1,8 @@
 //! The programs that words of the command line name.
 
-ghost use Rattle.std.specs.Prelude.{◌≡◌, ◌≤◌, IfOk, IfErr};
-ghost use Rattle.cfpp_cli.specs.Files.{files_at};
+ghost use Rattle.std.specs.Prelude.{◌≡◌, IfOk, IfErr};
+ghost use Rattle.cf_io.specs.Causes.{HasCause};
+ghost use Rattle.cfpp_cli.specs.Causes.{files_read};
 ghost use Rattle.cfpp_cli.specs.Image.{IsProgram, opened};
 ghost use Rattle.cfpp_cli.specs.Programs.{IsProgramAt, LacksProgram, IsNoProgram};
 
@@ -15,7 +16,7 @@ use rv_machine::Machine;
 use std::alloc::Global;
 
 /// The machine that a program file starts, or the answer where it starts none.
-fn open_image(alloc: Global, image: &[u8]) -> Result<Machine, Answer>
+pub fn open_image(alloc: Global, image: &[u8]) -> Result<Machine, Answer>
     ensures program { IfOk result (λ machine. IsProgram image.now) }
     ensures machine { IfOk result (λ machine. machine ≡ opened image.now) }
     ensures count { IfOk result (λ machine. machine.retired ≡ 0) }
@@ -33,13 +34,11 @@ fn open_image(alloc: Global, image: &[u8]) -> Result<Machine, Answer>
 
 /// The machine that the program in the file of this name starts, or the answer where there is none.
 pub fn program_at<F: Files>(alloc: Global, name: &str, files: &mut F) -> Result<Machine, Answer>
-    ensures ok { IfOk result (IsProgramAt name.now (files_at (F.told files.old) (F.faults files.old))
-        (files_at (F.told files.new) (F.faults files.new))) }
+    ensures ok { IfOk result (IsProgramAt name.now (F.told files.old) (F.told files.new)) }
     ensures count { IfOk result (λ machine. machine.retired ≡ 0) }
     ensures refused { IfErr result (λ answer. LacksProgram name.now
-        (files_at (F.told files.old) (F.faults files.old))
-        (files_at (F.told files.new) (F.faults files.new)) answer.status answer.closing) }
-    ensures faults { F.faults files.old ≤ F.faults files.new }
+        (F.told files.old) (F.told files.new) answer.status answer.closing) }
+    ensures faults { HasCause (F.faults files.old) (F.faults files.new) (files_read result) }
 {
     match files.read(alloc, name, MOST_BYTES + 1) {
         Ok(image) => open_image(alloc, image.as_slice()),

@@ -1,12 +1,13 @@
 //! The command `run`.
 
-ghost use Rattle.std.specs.Prelude.{◌≡◌, ◌≤◌};
+ghost use Rattle.std.specs.Prelude.{◌≡◌, ◌≤◌, [], IfOk, Ok};
 ghost use Rattle.cf_io.specs.Causes.{HasCause};
 ghost use Rattle.rv_machine.specs.Streams.{streams_of};
 ghost use Rattle.cf_words.specs.Views.{layout_of, schedule_view as asked_schedule};
 ghost use Rattle.cf_core.specs.Processors.{opened};
 ghost use Rattle.cf_run.specs.Policies.{IsOpened};
-ghost use Rattle.cfpp_cli.specs.Deciding.{Decides, input_decided, output_decided};
+ghost use Rattle.cfpp_cli.specs.Causes.{input_answered, output_answered};
+ghost use Rattle.cfpp_cli.specs.Deciding.{Counts, Decides, files_decided};
 ghost use Rattle.cfpp_cli.specs.Outside.{outside_of};
 ghost use Rattle.cfpp_cli.specs.RunFiles.{run_asked, show_of};
 ghost use Rattle.cfpp_cli.specs.Run.{chosen_by, RunsCore, BreaksCore, ComesOf, AnswersRun, BreaksRun};
@@ -27,7 +28,7 @@ use cf_words::{LayoutWord, RunOptions, Show as ShowWord};
 use std::alloc::Global;
 
 /// What is shown, by the word for it.
-fn shown(word: ShowWord) -> Show
+pub fn shown(word: ShowWord) -> Show
     ensures { result ≡ show_of word }
 {
     match word {
@@ -39,7 +40,7 @@ fn shown(word: ShowWord) -> Show
 
 /// Runs the opened processor by what was read.
 #[tactic(auto, using(crate::proofs::ProcessorRuns::opened_cores))]
-fn run_scheduled<S: Source, K: Sink, R: Sink>(
+pub fn run_scheduled<S: Source, K: Sink, R: Sink>(
     core: &mut Core,
     candidates: &mut Candidates,
     schedule: &ReadySchedule,
@@ -54,15 +55,17 @@ fn run_scheduled<S: Source, K: Sink, R: Sink>(
     requires opened { IsOpened core.old }
     requires fits { FitsScript (schedule_view schedule.now) }
     ensures runs { Decides
-        (RunsCore limit show core.old (chosen_by limit show (schedule_view schedule.now))
+        (RunsCore limit show core.old core.new (chosen_by limit show (schedule_view schedule.now))
         (streams_of (S.left input.old) (K.written output.old))
         (streams_of (S.left input.new) (K.written output.new)) (R.written report.old))
         (BreaksCore limit show core.old (chosen_by limit show (schedule_view schedule.now))
         (streams_of (S.left input.old) (K.written output.old))
         (streams_of (S.left input.new) (K.written output.new)) (R.written report.old) (R.written report.new))
         (R.written report.old) (R.written report.new) result }
-    ensures input { HasCause (S.faults input.old) (S.faults input.new) (input_decided result) }
-    ensures output { HasCause (K.faults output.old) (K.faults output.new) (output_decided result) }
+    ensures closed { IfOk result (λ answer. answer.closing ≡ []) }
+    ensures files { files_decided result ≡ Ok tt }
+    ensures input { Counts input_answered (S.faults input.old) (S.faults input.new) result }
+    ensures output { Counts output_answered (K.faults output.old) (K.faults output.new) result }
     ensures report { HasCause (R.faults report.old) (R.faults report.new) result }
 {
     match schedule {
@@ -100,7 +103,7 @@ fn run_scheduled<S: Source, K: Sink, R: Sink>(
 
 /// Opens the processor of the layout on the machine, and runs it by what was read.
 #[tactic(auto, using(crate::proofs::ProcessorRuns::opened_cores))]
-fn run_ready<S: Source, K: Sink, R: Sink>(
+pub fn run_ready<S: Source, K: Sink, R: Sink>(
     alloc: Global,
     ready: Ready,
     options: RunOptions<'_>,
@@ -119,8 +122,9 @@ fn run_ready<S: Source, K: Sink, R: Sink>(
         (chosen_by options.entry.limit (show_of options.entry.show) (schedule_view ready.schedule)) (streams_of (S.left input.old) (K.written output.old))
         (streams_of (S.left input.new) (K.written output.new)) (R.written report.old) (R.written report.new))
         (R.written report.old) (R.written report.new) result }
-    ensures input { HasCause (S.faults input.old) (S.faults input.new) (input_decided result) }
-    ensures output { HasCause (K.faults output.old) (K.faults output.new) (output_decided result) }
+    ensures files { files_decided result ≡ Ok tt }
+    ensures input { Counts input_answered (S.faults input.old) (S.faults input.new) result }
+    ensures output { Counts output_answered (K.faults output.old) (K.faults output.new) result }
     ensures report { HasCause (R.faults report.old) (R.faults report.new) result }
 {
     let Ok(mut candidates) = Candidates::new(alloc) else {
@@ -167,8 +171,9 @@ pub fn run_processor<F: Files, S: Source, K: Sink, R: Sink>(
         (outside_of (F.told files.new) (F.faults files.new) (S.left input.new) (S.faults input.new)
         (K.written output.new) (K.faults output.new)) (R.written report.old) (R.written report.new))
         (R.written report.old) (R.written report.new) result }
-    ensures input { HasCause (S.faults input.old) (S.faults input.new) (input_decided result) }
-    ensures output { HasCause (K.faults output.old) (K.faults output.new) (output_decided result) }
+    ensures files { HasCause (F.faults files.old) (F.faults files.new) (files_decided result) }
+    ensures input { Counts input_answered (S.faults input.old) (S.faults input.new) result }
+    ensures output { Counts output_answered (K.faults output.old) (K.faults output.new) result }
     ensures report { HasCause (R.faults report.old) (R.faults report.new) result }
 {
     match read_files(alloc, layout, program, options, files) {

@@ -1,8 +1,9 @@
 //! The files of a run of the processor.
 
 ghost use Rattle.std.specs.Prelude.{◌≡◌, IfOk, IfErr};
+ghost use Rattle.cf_io.specs.Causes.{HasCause};
+ghost use Rattle.cfpp_cli.specs.Causes.{files_read};
 ghost use Rattle.cf_words.specs.Views.{layout_of, schedule_view as asked_schedule};
-ghost use Rattle.cfpp_cli.specs.Files.{files_at};
 ghost use Rattle.cfpp_cli.specs.RunFiles.{run_asked, IsReady, LacksFile};
 ghost use Rattle.cfpp_cli.specs.Schedules.{schedule_view, FitsScript};
 
@@ -35,14 +36,15 @@ pub fn read_files<F: Files>(
 ) -> Result<Ready, Answer>
     ensures ready { IfOk result (λ ready. IsReady
         (run_asked (layout_of layout.entry) program.now (asked_schedule options.entry.schedule) options.entry.limit options.entry.show)
-        (files_at (F.told files.old) (F.faults files.old)) (files_at (F.told files.new) (F.faults files.new))
+        (F.told files.old) (F.told files.new)
         ready.layout ready.machine (schedule_view ready.schedule)) }
     ensures count { IfOk result (λ ready. ready.machine.retired ≡ 0) }
     ensures fits { IfOk result (λ ready. FitsScript (schedule_view ready.schedule)) }
     ensures lacks { IfErr result (λ answer. LacksFile
         (run_asked (layout_of layout.entry) program.now (asked_schedule options.entry.schedule) options.entry.limit options.entry.show)
-        (files_at (F.told files.old) (F.faults files.old)) (files_at (F.told files.new) (F.faults files.new))
+        (F.told files.old) (F.told files.new)
         answer.status answer.closing) }
+    ensures faults { HasCause (F.faults files.old) (F.faults files.new) (files_read result) }
 {
     let layout = match layout_at(alloc, layout, files) {
         Ok(layout) => layout,

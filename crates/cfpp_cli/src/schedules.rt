@@ -1,8 +1,9 @@
 //! What chooses the moves of a run, once its files are read.
 
-ghost use Rattle.std.specs.Prelude.{◌≤◌, IfOk, IfErr};
+ghost use Rattle.std.specs.Prelude.{IfOk, IfErr};
+ghost use Rattle.cf_io.specs.Causes.{HasCause};
+ghost use Rattle.cfpp_cli.specs.Causes.{files_read};
 ghost use Rattle.cf_words.specs.Views.{schedule_view as asked_schedule};
-ghost use Rattle.cfpp_cli.specs.Files.{files_at};
 ghost use Rattle.cfpp_cli.specs.Schedules.{schedule_view, FitsScript, IsScheduled, LacksSchedule};
 
 use crate::answer::Answer;
@@ -29,12 +30,13 @@ pub fn schedule_at<F: Files>(
     files: &mut F,
 ) -> Result<ReadySchedule, Answer>
     ensures ready { IfOk result (λ ready. IsScheduled (asked_schedule schedule.entry)
-        (files_at (F.told files.old) (F.faults files.old)) (files_at (F.told files.new) (F.faults files.new))
+        (F.told files.old) (F.told files.new)
         (schedule_view ready)) }
     ensures fits { IfOk result (λ ready. FitsScript (schedule_view ready)) }
     ensures lacks { IfErr result (λ answer. LacksSchedule (asked_schedule schedule.entry)
-        (files_at (F.told files.old) (F.faults files.old)) (files_at (F.told files.new) (F.faults files.new))
+        (F.told files.old) (F.told files.new)
         answer.status answer.closing) }
+    ensures faults { HasCause (F.faults files.old) (F.faults files.new) (files_read result) }
 {
     match schedule {
         Schedule::Script(file) => match script_at(alloc, file, files) {

@@ -1,7 +1,8 @@
 //! The scripts that words of the command line name.
 
-ghost use Rattle.std.specs.Prelude.{◌≤◌, IfOk, IfErr, vec_items};
-ghost use Rattle.cfpp_cli.specs.Files.{files_at};
+ghost use Rattle.std.specs.Prelude.{IfOk, IfErr, vec_items};
+ghost use Rattle.cf_io.specs.Causes.{HasCause};
+ghost use Rattle.cfpp_cli.specs.Causes.{files_read};
 ghost use Rattle.cfpp_cli.specs.Scripts.{IsScriptAt, LacksScript};
 
 use crate::answer::Answer;
@@ -16,12 +17,10 @@ const MOST_BYTES: u64 = 16_777_216;
 
 /// The text of the script in the file of this name, or the answer where there is none.
 pub fn script_at<F: Files>(alloc: Global, name: &str, files: &mut F) -> Result<Vec<u8>, Answer>
-    ensures ok { IfOk result (λ text. IsScriptAt name.now (files_at (F.told files.old) (F.faults files.old))
-        (files_at (F.told files.new) (F.faults files.new)) (vec_items text)) }
+    ensures ok { IfOk result (λ text. IsScriptAt name.now (F.told files.old) (F.told files.new) (vec_items text)) }
     ensures refused { IfErr result (λ answer. LacksScript name.now
-        (files_at (F.told files.old) (F.faults files.old))
-        (files_at (F.told files.new) (F.faults files.new)) answer.status answer.closing) }
-    ensures faults { F.faults files.old ≤ F.faults files.new }
+        (F.told files.old) (F.told files.new) answer.status answer.closing) }
+    ensures faults { HasCause (F.faults files.old) (F.faults files.new) (files_read result) }
 {
     match files.read(alloc, name, MOST_BYTES + 1) {
         Ok(text) if text.len() as u64 > MOST_BYTES => Err(Answer {

@@ -1,21 +1,26 @@
 //! The top call.
 
-ghost use Rattle.std.specs.Prelude.{map, string_bytes};
+ghost use Rattle.std.specs.Prelude.{◌≡◌, false, map, string_bytes};
 ghost use Rattle.cf_io.specs.Causes.{HasCause};
-ghost use Rattle.cfpp_cli.specs.Deciding.{Decided, input_decided, output_decided};
+ghost use Rattle.cfpp_cli.specs.Causes.{input_answered, output_answered};
+ghost use Rattle.cfpp_cli.specs.Deciding.{Counts, Decided, files_decided};
 ghost use Rattle.cfpp_cli.specs.Outside.{outside_of, report_of};
-ghost use Rattle.cfpp_cli.specs.Top.{IsTop};
+ghost use Rattle.cfpp_cli.specs.Top.{IsTop, NoneRose, says_fault};
 
 use crate::answer::Answer;
-use crate::assembling::assemble_program;
+use crate::asm::assemble_program;
 use crate::check::check_layout;
+use crate::drawn::{put_drawn, run_drawn};
+use crate::help::{HELP, VERSION};
 use crate::listing::list_program;
 use crate::machine::run_program;
+use crate::putting::put_text;
 use crate::refusals::bad_words;
 use crate::run::run_processor;
+use crate::standing::show_moves;
 use crate::status::Status;
 use cf_io::{Failed, Files, Sink, Source, put_all};
-use cf_words::{Command, read_words};
+use cf_words::{Command, RunOptions, Show, read_words};
 use std::alloc::Global;
 
 /// Carries out what the words ask, but for the closing lines of the report.
@@ -33,17 +38,15 @@ fn decide<F: Files, S: Source, K: Sink, R: Sink>(
         (outside_of (F.told files.new) (F.faults files.new) (S.left input.new) (S.faults input.new)
         (K.written output.new) (K.faults output.new))
         (R.written report.old) (R.written report.new) result }
-    ensures input { HasCause (S.faults input.old) (S.faults input.new) (input_decided result) }
-    ensures output { HasCause (K.faults output.old) (K.faults output.new) (output_decided result) }
+    ensures files { HasCause (F.faults files.old) (F.faults files.new) (files_decided result) }
+    ensures input { Counts input_answered (S.faults input.old) (S.faults input.new) result }
+    ensures output { Counts output_answered (K.faults output.old) (K.faults output.new) result }
     ensures report { HasCause (R.faults report.old) (R.faults report.new) result }
 {
     match read_words(words) {
         Ok(Command::Machine { program, options }) => {
             run_program(alloc, program, options, files, input, output, report)
         }
-        Ok(Command::Check { layout }) => Ok(check_layout(alloc, layout, files, output)),
-        Ok(Command::List { program }) => Ok(list_program(alloc, program, files, output)),
-        Ok(Command::Asm { source }) => Ok(assemble_program(alloc, source, files, output)),
         Ok(
             Command::Run {
                 layout,
@@ -53,6 +56,35 @@ fn decide<F: Files, S: Source, K: Sink, R: Sink>(
         ) => run_processor(
             alloc, layout, program, options, files, input, output, report,
         ),
+        Ok(
+            Command::Moves {
+                layout,
+                program,
+                schedule,
+                limit,
+            },
+        ) => {
+            let options = RunOptions {
+                schedule,
+                limit,
+                show: Show::Report,
+            };
+            show_moves(
+                alloc, layout, program, options, files, input, output, report,
+            )
+        }
+        Ok(Command::Check { layout }) => Ok(check_layout(alloc, layout, files, output)),
+        Ok(Command::Asm { source }) => Ok(assemble_program(alloc, source, files, output)),
+        Ok(Command::List { program }) => Ok(list_program(alloc, program, files, output)),
+        Ok(Command::Gen { number, run: true }) => run_drawn(alloc, number, input, output, report),
+        Ok(Command::Gen { number, run: false }) => Ok(put_drawn(number, output)),
+        Ok(Command::Help) => Ok(put_text(HELP, output)),
+        Ok(Command::Version) => Ok(put_text(VERSION, output)),
+        // These commands are not built, and no words ask for them.
+        Ok(Command::Rounds { .. }) => unreachable!(),
+        Ok(Command::Debug { .. }) => unreachable!(),
+        Ok(Command::Time { .. }) => unreachable!(),
+        Ok(Command::Audit { .. }) => unreachable!(),
         Err(index) => Ok(Answer {
             status: Status::BadWords(index),
             closing: bad_words(index),
@@ -62,8 +94,10 @@ fn decide<F: Files, S: Source, K: Sink, R: Sink>(
 
 /// Does what the words say: `machine PROGRAM` runs a program's file on the sequential machine, `run LAYOUT PROGRAM` on the
 /// processor of a layout, by the moves of a script with `--script FILE`, by moves drawn from a seed with `--seed N`, and by
-/// a fixed rule without either, `check LAYOUT` writes a layout's one text to the output, `list PROGRAM` puts a program's listing there, and `asm SOURCE` the ELF file that an assembly source
-/// stands for.
+/// a fixed rule without either; `moves LAYOUT PROGRAM --script FILE` does the same and tells behind it which moves can be
+/// made where the script ends. `check LAYOUT` writes a layout's one text to the output, `asm SOURCE` the ELF file that an
+/// assembly source stands for, `list PROGRAM` a program's listing, and `gen N` the text of a program that is drawn from a
+/// number, which `gen N --run` assembles and runs. `help`, `--help` and `--version` write what their names say.
 ///
 /// The file is an ELF executable for RISC-V, whose segments are loaded, or else a flat image, which stands at
 /// 0x00010000 in one region that may be read, written and executed, and begins there; a zeroed stack of 1 MiB
@@ -72,9 +106,9 @@ fn decide<F: Files, S: Source, K: Sink, R: Sink>(
 /// which is the default, none; under `run`, `--show moves` puts each move with the picture behind it; with `--mul`
 /// the machine multiplies and divides. `input` and `output` are the program's own.
 ///
-/// The report closes with how the run finished, how many instructions retired, and what the registers hold; after
-/// `run` the counts of its moves and the picture stand there too. Where nothing was run it is one line that says
-/// why, and after `check`, `list` and `asm` that were carried out it is empty. After a report that failed nothing
+/// The report closes with how the run finished, how many instructions retired, and what the registers hold; after a run
+/// of the processor the counts of its moves and the picture stand there too. Where nothing was run it is one line that says
+/// why, and after a command without a run that was carried out it is empty. After a report that failed nothing
 /// more is put to it, and the status is `WriteFault`.
 pub fn cfpp<F: Files, S: Source, K: Sink, R: Sink>(
     alloc: Global,
@@ -91,6 +125,13 @@ pub fn cfpp<F: Files, S: Source, K: Sink, R: Sink>(
         (K.written output.new) (K.faults output.new))
         (report_of (R.written report.old) (R.faults report.old))
         (report_of (R.written report.new) (R.faults report.new)) result }
+    ensures still { says_fault result ≡ false → NoneRose
+        (outside_of (F.told files.old) (F.faults files.old) (S.left input.old) (S.faults input.old)
+        (K.written output.old) (K.faults output.old))
+        (outside_of (F.told files.new) (F.faults files.new) (S.left input.new) (S.faults input.new)
+        (K.written output.new) (K.faults output.new))
+        (report_of (R.written report.old) (R.faults report.old))
+        (report_of (R.written report.new) (R.faults report.new)) }
 {
     match decide(alloc, words, files, input, output, report) {
         Ok(answer) => match put_all(report, answer.closing.bytes()) {

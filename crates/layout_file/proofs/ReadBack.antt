@@ -150,14 +150,14 @@ table_faultless : (plan : Plan) → IsAccepted plan → fault_of (table_of (need
 unfolding fault_of
 table_faultless plan a = rw (table_second (needs_second plan) (asking plan), table_right (needs_second plan) (stages_of plan) (asking plan) (readable plan a), table_back (needs_second plan) (stages_of plan) (asking plan) (readable plan a), asking_passes plan a) refl
 
--- its text describes it
-pub text_describes : (plan : Plan) → IsAccepted plan → Describes (text_of plan) plan
+-- its text describes it, where it is UTF-8
+pub text_describes : (plan : Plan) → IsAccepted plan → IsUtf8 (text_of plan) → Describes (text_of plan) plan
 unfolding text_of
-text_describes plan a = (
+text_describes plan a utf8 = (
   text_short (needs_second plan) plan a,
   (
     table_of (needs_second plan) (asking plan),
-    text_read (needs_second plan) plan (distinct_from (stages_of plan) computed_classes classes-differ) (accepted_small plan a),
+    (utf8, text_read (needs_second plan) plan (distinct_from (stages_of plan) computed_classes classes-differ) (accepted_small plan a)),
     table_faultless plan a,
     sym (ap plan_of (table_asks plan a) ∙ plan_back plan a),
   ),
@@ -168,7 +168,7 @@ pub one_described : (file : List ℕ) (plan other : Plan) → Describes file pla
 one_described file plan other d e =
     let (short, (ms, read, right, is)) = d in
     let (same_short, (ns, again, well, its)) = e in
-    let same : ns ≡ ms = same_Some ns ms (sym again ∙ read) in
+    let same : ns ≡ ms = same_Some ns ms (sym again.1 ∙ read.1) in
     its ∙ (ap (λ m. plan_of (asked_by m)) same ∙ sym is)
 
 -- and a file that describes a layout has no fault
@@ -176,29 +176,29 @@ no_fault : (file : List ℕ) (plan : Plan) (e : FileErr) → Describes file plan
 no_fault file plan e d h =
     let (short, (ms, read, right, is)) = d in
     let (ns, again, fault) = h in
-    let same : ns ≡ ms = same_Some ns ms (sym again ∙ read) in
+    let same : ns ≡ ms = same_Some ns ms (sym again.1 ∙ read.1) in
     absurd (none-some e (sym right ∙ (ap fault_of (sym same) ∙ fault)))
 
-is_toml : (file : List ℕ) (plan : Plan) (e : FileErr) → IsUtf8 file → Describes file plan → IsNotToml file → e ≡ NoMemory
-is_toml file plan e utf8 d h = let (short, (ms, read, right, is)) = d in absurd (none-some ms (sym (h utf8) ∙ read))
+is_toml : (file : List ℕ) (plan : Plan) (e : FileErr) → Describes file plan → IsNotToml file → e ≡ NoMemory
+is_toml file plan e d h = let (short, (ms, read, right, is)) = d in absurd (none-some ms (sym (h read.0) ∙ read.1))
 
-fails_within : (file : List ℕ) (plan : Plan) (e : FileErr) → IsUtf8 file → Describes file plan → FailsWithin file e → e ≡ NoMemory
-fails_within file plan e utf8 d (inl memory) = memory
-fails_within file plan e utf8 d (inr (inl other)) = is_toml file plan e utf8 d other.1
-fails_within file plan e utf8 d (inr (inr fault)) = no_fault file plan e d fault
+fails_within : (file : List ℕ) (plan : Plan) (e : FileErr) → Describes file plan → FailsWithin file e → e ≡ NoMemory
+fails_within file plan e d (inl memory) = memory
+fails_within file plan e d (inr (inl other)) = is_toml file plan e d other.1
+fails_within file plan e d (inr (inr fault)) = no_fault file plan e d fault
 
-fails_by : (file : List ℕ) (plan : Plan) (e : FileErr) → IsUtf8 file → Describes file plan → Fails file e → e ≡ NoMemory
-fails_by file plan e utf8 d (inl long) = let short = d.0 in let over = long.1 in absurd (omega arith)
-fails_by file plan e utf8 d (inr within) = fails_within file plan e utf8 d within.1
+fails_by : (file : List ℕ) (plan : Plan) (e : FileErr) → Describes file plan → Fails file e → e ≡ NoMemory
+fails_by file plan e d (inl long) = let short = d.0 in let over = long.1 in absurd (omega arith)
+fails_by file plan e d (inr within) = fails_within file plan e d within.1
 
 -- so it is read as that layout
 pub text_reads : (plan : Plan) (file : List ℕ) → IsAccepted plan → file ≡ text_of plan → IsUtf8 file → ReadsAs file plan
 text_reads plan file a is utf8 =
-    let d : Describes file plan = subst (λ (f : List ℕ). Describes f plan) (sym is) (text_describes plan a) in
+    let d : Describes file plan = subst (λ (f : List ℕ). Describes f plan) (sym is) (text_describes plan a (subst IsUtf8 is utf8)) in
     record {
       describes = d;
       alone = λ other e. one_described file plan other d e;
-      readable = λ e fails. fails_by file plan e utf8 d fails;
+      readable = λ e fails. fails_by file plan e d fails;
     }
 
 -- an answer that tells why such a file is not read tells that memory ran out

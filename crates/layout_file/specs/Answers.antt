@@ -16,9 +16,13 @@ Tells e fault = (e ≡ NoMemory) ⊎ (fault ≡ Some e)
 abbrev pub IsNotToml : List ℕ → Type 0
 IsNotToml file = IsUtf8 file → parse_document file ≡ None
 
+-- the file is a TOML document with these members: it is UTF-8, and in the grammar
+abbrev pub IsDocument : List ℕ → Members → Type 0
+IsDocument file ms = IsUtf8 file × (parse_document file ≡ Some ms)
+
 -- the file is a document with a fault
 abbrev pub HasFault : List ℕ → FileErr → Type 0
-HasFault file e = (ms : Members) × (parse_document file ≡ Some ms) × (fault_of ms ≡ Some e)
+HasFault file e = (ms : Members) × IsDocument file ms × (fault_of ms ≡ Some e)
 
 -- why reading a file of at most 65,536 bytes fails: want of memory, no document, or a document with a fault
 abbrev pub FailsWithin : List ℕ → FileErr → Type 0
@@ -30,7 +34,7 @@ Fails file e = ((e ≡ TooLong) × (65536 < length file)) ⊎ ((length file ≤ 
 
 -- the file is a document without a fault, and describes the layout
 abbrev pub Describes : List ℕ → Plan → Type 0
-Describes file plan = (length file ≤ 65536) × ((ms : Members) × (parse_document file ≡ Some ms) × (fault_of ms ≡ None) × (plan ≡ plan_of (asked_by ms)))
+Describes file plan = (length file ≤ 65536) × ((ms : Members) × IsDocument file ms × (fault_of ms ≡ None) × (plan ≡ plan_of (asked_by ms)))
 
 -- the file is read as the layout: it describes that one and no other, and reading it fails only where memory runs out
 pub record ReadsAs (file : List ℕ) (plan : Plan) : Type 0 where

@@ -61,6 +61,8 @@ pub writable_of-none : (m : Memory) (addr len : ℕ) → None ≡ position (writ
 unfolding writable_of
 writable_of-none m addr len e = ap (option_map (bytes_in addr len)) (none_of (writes_in addr len) m.areas e).found
 
+pub ruleset missing = (writable_of-none)
+
 pub ruleset storing = (place_below, place_holds, place_permits, no_place_permits, memory_with-place, memory_with-none, writable_of-place)
 
 -- by whether there is a place

@@ -77,7 +77,7 @@ impl Regions {
 
     /// The index of the first region that permits the store.
     #[inline(always)]
-    fn place_to_store(&self, addr: u32, width: u32) -> Option<usize>
+    pub(crate) fn place_to_store(&self, addr: u32, width: u32) -> Option<usize>
         requires { IsWidth width }
         ensures { result ≡ position (writes_in addr width) self.now.areas }
     {
@@ -91,7 +91,7 @@ impl Regions {
 
     /// Writes the low bytes of the number in the region at an index.
     #[inline(always)]
-    fn store_at(&mut self, place: usize, addr: u32, width: u32, number: u32)
+    pub(crate) fn store_at(&mut self, place: usize, addr: u32, width: u32, number: u32)
         requires place { place < length self.old.areas }
         requires width { IsWidth width }
         requires lies { IsTrue (lies_in addr width (area_at self.old place)) }

@@ -12,6 +12,7 @@ mod program_break;
 mod refusal;
 mod region;
 mod regions;
+mod undoing;
 
 pub use access::MemErr;
 pub use part::Part;

@@ -33,7 +33,7 @@ loop-i-preserved g c =
       owes = owes-next _ _ _ _ _ _ _ c.loop-i.invariant.owes
           (lines-before (numbered_statement n) i (n + 1) _ (closing_text n) (omega arith) text) c.in_ok-put_all-2.ensures.all;
       state = c.statement.ensures.state ∙ ap (state_after 5) c.loop-i.invariant.state ∙ sym (after-statement i n (omega arith));
-      never_falls = omega (arith, c.loop-i.invariant.never_falls, c.put_all-in-loop-i.ensures.cause.never_falls);
+      still = c.in_ok-put_all-2.ensures.cause.still ∙ c.loop-i.invariant.still;
     }
 
 pub returns-clause-err : goal.returns-clause-err

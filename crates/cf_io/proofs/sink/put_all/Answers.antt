@@ -1,4 +1,4 @@
-use Rattle.std.proofs.Common.{arith}
+use Rattle.std.proofs.Common.{arith, ◌∙◌}
 use Rattle.cf_io.proofs.PutLoop.{writes-add, rest-from}
 use Rattle.cf_io.proofs.sink.put_all.Goals as goal
 
@@ -7,6 +7,5 @@ loop-done-preserved g c = record {
   within = omega (arith, c.in_ok-done.ensures.bytes.count);
   told = writes-add _ _ _ _ _ _ c.loop-done.invariant.told
       (rw rest-from at c.in_ok-done.ensures.bytes.told);
-  never_falls =
-      omega (arith, c.loop-done.invariant.never_falls, c.in_ok-done.ensures.cause.never_falls);
+  still = c.in_ok-done.ensures.cause.still ∙ c.loop-done.invariant.still;
 }

@@ -9,7 +9,7 @@ loop-done-preserved g c = let before = c.loop-done.invariant in let take = c.in_
       before.same_length c.take.auto.into before.taken take.bytes refl;
   same_length = length-put_mid c.loop-done.done c.loop-done.into c.take.new.into
       (omega (arith, before.taken.count, before.same_length)) c.take.auto.into ∙ before.same_length;
-  never_falls = omega (arith, before.never_falls, take.cause.never_falls);
+  still = take.cause.still ∙ before.still;
 }
 
 pub returns-then-count-eq0-clause-bytes : goal.returns-then-count-eq0-clause-bytes

@@ -1,4 +1,4 @@
-use Rattle.std.proofs.Common.{◌≤◌}
+use Rattle.std.proofs.Common.{◌≡◌}
 use Rattle.std.specs.List.{flat_map}
 use Rattle.elf_view.specs.Left.{symbols_left}
 use Rattle.elf_view.specs.Symbols.{symbols_of}
@@ -9,5 +9,5 @@ use Rattle.cf_listing.proofs.labels.put_symbols.Given as goal
 abbrev pub invariant-loop-symbol : goal.invariant-loop-symbol
 invariant-loop-symbol g l = record {
   owes : Owes (g.K.Sink.written l.initial.out) (g.K.Sink.written l.out) (label_lines (symbols_left l.symbol-iterator) l.pc) (label_lines (symbols_of l.elf) l.pc);
-  never_falls : g.K.Sink.faults l.initial.out ≤ g.K.Sink.faults l.out;
+  still : g.K.Sink.faults l.out ≡ g.K.Sink.faults l.initial.out;
 }

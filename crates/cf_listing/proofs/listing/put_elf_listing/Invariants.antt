@@ -1,4 +1,4 @@
-use Rattle.std.proofs.Common.{◌≤◌}
+use Rattle.std.proofs.Common.{◌≡◌}
 use Rattle.std.specs.List.{flat_map}
 use Rattle.elf_view.specs.Left.{segments_left}
 use Rattle.elf_view.specs.Symbols.{symbols_of}
@@ -9,5 +9,5 @@ use Rattle.cf_listing.proofs.listing.put_elf_listing.Given as goal
 abbrev pub invariant-loop-segment : goal.invariant-loop-segment
 invariant-loop-segment g l = record {
   owes : Owes (g.K.Sink.written l.initial.out) (g.K.Sink.written l.out) (flat_map (segment_lines (symbols_of l.elf)) (segments_left l.segment-iterator)) (elf_listing l.elf);
-  never_falls : g.K.Sink.faults l.initial.out ≤ g.K.Sink.faults l.out;
+  still : g.K.Sink.faults l.out ≡ g.K.Sink.faults l.initial.out;
 }

@@ -1,4 +1,4 @@
-use Rattle.std.proofs.Common.{arith, refl, rules, ◌≤◌}
+use Rattle.std.proofs.Common.{refl, rules, ◌∙◌}
 use Rattle.cf_listing.specs.Lines.{IsFirstWord}
 use Rattle.cf_listing.proofs.Owing.{owes-next, err-owes}
 use Rattle.cf_listing.proofs.Walked.{word-next, next-aligned}
@@ -19,5 +19,5 @@ loop-word-preserved g c =
           (word-next _ c.loop-word.pc _ _ _ _ first refl c.loop-word.invariant.aligned c.loop-word.invariant.below) c.in_ok-put_word.ensures.ok;
       aligned = next.0;
       below = next.1;
-      never_falls = omega (arith, c.loop-word.invariant.never_falls, c.put_word.ensures.cause.never_falls);
+      still = c.in_ok-put_word.ensures.cause.still ∙ c.loop-word.invariant.still;
     }

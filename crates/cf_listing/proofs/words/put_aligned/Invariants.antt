@@ -1,4 +1,4 @@
-use Rattle.std.proofs.Common.{◌≡◌, ◌≤◌, ◌<◌, ◌^◌, ◌%◌, length}
+use Rattle.std.proofs.Common.{◌≡◌, ◌<◌, ◌^◌, ◌%◌, length}
 use Rattle.std.specs.Prelude.{option_map}
 use Rattle.cf_listing.specs.Lines.{lines_from}
 use Rattle.cf_listing.specs.Listing.{symbols_in}
@@ -10,7 +10,7 @@ invariant-loop-word g l = record {
   owes : Owes (g.K.Sink.written l.initial.out) (g.K.Sink.written l.out) (lines_from (symbols_in (option_map (λ e. e.now) l.elf)) l.pc l.rest) (lines_from (symbols_in (option_map (λ e. e.now) l.elf)) l.start l.bytes);
   aligned : l.pc % 4 ≡ 0;
   below : l.pc < 2 ^ 32;
-  never_falls : g.K.Sink.faults l.initial.out ≤ g.K.Sink.faults l.out;
+  still : g.K.Sink.faults l.out ≡ g.K.Sink.faults l.initial.out;
 }
 
 abbrev pub decreases-loop-word : goal.decreases-loop-word

@@ -14,9 +14,9 @@ loop-ran-init g c = record {
   input_asked = λ unasked. refl;
   output_asked = λ unasked. refl;
   within = c.requires.retired;
-  input = omega arith;
-  output = omega arith;
-  report = omega arith;
+  input = refl;
+  output = refl;
+  report = refl;
 }
 
 pub advance-end-requires-clause-some : goal.advance-end-requires-clause-some
@@ -70,9 +70,9 @@ loop-ran-preserved g c = record {
   input_asked = unasked-comes _ _ AsksInput _ _ _ _ _ _ _ _ _ c.loop-ran.invariant.comes c.in_default.ensures.turns _ _ _ c.loop-ran.invariant.input_asked c.in_default.ensures.input_asked;
   output_asked = unasked-comes _ _ AsksOutput _ _ _ _ _ _ _ _ _ c.loop-ran.invariant.comes c.in_default.ensures.turns _ _ _ c.loop-ran.invariant.output_asked c.in_default.ensures.output_asked;
   within = turned-within _ _ _ _ _ _ _ _ c.in_default.ensures.turns;
-  input = omega (arith, c.in_default.ensures.input.never_falls, c.loop-ran.invariant.input);
-  output = omega (arith, c.in_default.ensures.output.never_falls, c.loop-ran.invariant.output);
-  report = omega (arith, c.in_default.ensures.report.never_falls, c.loop-ran.invariant.report);
+  input = c.in_default.ensures.input.still ∙ c.loop-ran.invariant.input;
+  output = c.in_default.ensures.output.still ∙ c.loop-ran.invariant.output;
+  report = c.in_default.ensures.report.still ∙ c.loop-ran.invariant.report;
 }
 
 pub returns-in-Some-clause-ends : goal.returns-in-Some-clause-ends

@@ -7,7 +7,7 @@ use Rattle.cf_run.specs.Policies.{most_moves}
 use Rattle.cf_run.proofs.Coming.{Comes}
 use Rattle.cf_run.proofs.policy.run_policy.Given as goal
 
--- the picks that were made so far lead here
+-- the picks that were made so far lead here, and no fault was counted
 abbrev pub invariant-loop-ran : goal.invariant-loop-ran
 invariant-loop-ran g l =
     let left = g.S.Source.left in
@@ -21,9 +21,9 @@ invariant-loop-ran g l =
       input_asked : (SomeAsks AsksInput start.core.plan start.core.state comes.reached.trace → ⊥) → l.input ≡ l.initial.input;
       output_asked : (SomeAsks AsksOutput start.core.plan start.core.state comes.reached.trace → ⊥) → l.output ≡ l.initial.output;
       within : l.core.state.retired ≤ l.limit;
-      input : g.S.Source.faults l.initial.input ≤ g.S.Source.faults l.input;
-      output : g.K.Sink.faults l.initial.output ≤ g.K.Sink.faults l.output;
-      report : g.R.Sink.faults l.initial.report ≤ g.R.Sink.faults l.report;
+      input : g.S.Source.faults l.input ≡ g.S.Source.faults l.initial.input;
+      output : g.K.Sink.faults l.output ≡ g.K.Sink.faults l.initial.output;
+      report : g.R.Sink.faults l.report ≡ g.R.Sink.faults l.initial.report;
     }
 
 abbrev pub decreases-loop-ran : goal.decreases-loop-ran

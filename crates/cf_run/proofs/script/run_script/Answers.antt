@@ -14,9 +14,9 @@ loop-end-init g c = record {
   output_asked = λ unasked. refl;
   within = c.requires.retired;
   few = λ some. omega (arith, ap (λ (tally : Tally). tally.moves) c.requires.tally);
-  input = omega arith;
-  output = omega arith;
-  report = omega arith;
+  input = refl;
+  output = refl;
+  report = refl;
 }
 
 pub advance-requires-clause-meets : goal.advance-requires-clause-meets
@@ -43,9 +43,9 @@ loop-end-preserved g c =
       output_asked = unasked-more AsksOutput _ _ _ _ _ c.loop-end.invariant.followed c.in_default.ensures.turns _ _ _ c.loop-end.invariant.output_asked c.in_default.ensures.output_asked;
       within = tried-within _ _ _ _ tries;
       few = λ some. few-more _ _ _ _ c.loop-end.invariant.few (c.in_default.ensures.few refl) (tried-left _ _ _ _ tries) (tried-counted _ _ _ _ tries);
-      input = omega (arith, c.in_default.ensures.input.never_falls, c.loop-end.invariant.input);
-      output = omega (arith, c.in_default.ensures.output.never_falls, c.loop-end.invariant.output);
-      report = omega (arith, c.in_default.ensures.report.never_falls, c.loop-end.invariant.report);
+      input = c.in_default.ensures.input.still ∙ c.loop-end.invariant.input;
+      output = c.in_default.ensures.output.still ∙ c.loop-end.invariant.output;
+      report = c.in_default.ensures.report.still ∙ c.loop-end.invariant.report;
     }
 
 pub returns-in-Some-clause-asked : goal.returns-in-Some-clause-asked

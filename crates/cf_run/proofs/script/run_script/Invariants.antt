@@ -6,7 +6,7 @@ use Rattle.cf_run.specs.Moving.{place_of}
 use Rattle.cf_run.specs.Scripts.{Stand, stand_of, Follows}
 use Rattle.cf_run.proofs.script.run_script.Given as goal
 
--- the moves that were made so far lead here
+-- the moves that were made so far lead here, and no fault was counted
 abbrev pub invariant-loop-end : goal.invariant-loop-end
 invariant-loop-end g l =
     let left = g.S.Source.left in
@@ -21,9 +21,9 @@ invariant-loop-end g l =
       output_asked : (SomeAsks AsksOutput start.place.core.plan start.place.core.state followed.reaches.trace → ⊥) → l.output ≡ l.initial.output;
       within : l.core.state.retired ≤ l.limit;
       few : 0 < l.tally.moves → l.tally.moves + length l.script.moves < 2 ^ 25;
-      input : g.S.Source.faults l.initial.input ≤ g.S.Source.faults l.input;
-      output : g.K.Sink.faults l.initial.output ≤ g.K.Sink.faults l.output;
-      report : g.R.Sink.faults l.initial.report ≤ g.R.Sink.faults l.report;
+      input : g.S.Source.faults l.input ≡ g.S.Source.faults l.initial.input;
+      output : g.K.Sink.faults l.output ≡ g.K.Sink.faults l.initial.output;
+      report : g.R.Sink.faults l.report ≡ g.R.Sink.faults l.initial.report;
     }
 
 abbrev pub decreases-loop-end : goal.decreases-loop-end

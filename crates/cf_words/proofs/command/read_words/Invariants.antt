@@ -2,7 +2,7 @@
 use Rattle.std.proofs.Common.{◌≡◌, map, string_bytes, take, Some}
 use Rattle.cf_words.specs.Reading.{start}
 use Rattle.cf_words.specs.Views.{state_of}
-use Rattle.cf_words.proofs.Settings.{reads}
+use Rattle.cf_words.proofs.InTurn.{reads}
 use Rattle.cf_words.proofs.command.read_words.Given as goal
 
 abbrev pub invariant-loop-word : goal.invariant-loop-word

@@ -1,14 +1,17 @@
-use Rattle.cfpp_cli.proofs.Named.{layout-read, layout-described, layout-refused}
+use Rattle.std.proofs.Common.{◌+◌}
+use Rattle.cfpp_cli.specs.Layouts.{most_layout_bytes}
+use Rattle.cfpp_cli.proofs.FileFronts.{file-front}
+use Rattle.cfpp_cli.proofs.Named.{layout-described, layout-refused}
 use Rattle.cfpp_cli.proofs.layouts.read_file.Goals as goal
 
 pub returns-in-Ok-clause-ok : goal.returns-in-Ok-clause-ok
 returns-in-Ok-clause-ok g c =
     layout-described _ _ _ _ c.read_content.result
-    (layout-read _ _ _ c.in-Ok.file c.in-Ok.ensures.bytes)
+    (file-front (most_layout_bytes + 1) _ _ _ c.in-Ok.file c.in-Ok.ensures.bytes)
     (rw c.as_slice.ensures.value at c.read_content.ensures.ok)
 
 pub returns-in-Ok-clause-refused : goal.returns-in-Ok-clause-refused
 returns-in-Ok-clause-refused g c =
-    layout-refused _ _ _ _ _ _ c.read_content.result
-    (layout-read _ _ _ c.in-Ok.file c.in-Ok.ensures.bytes)
+    layout-refused _ _ _ _ c.read_content.result
+    (file-front (most_layout_bytes + 1) _ _ _ c.in-Ok.file c.in-Ok.ensures.bytes)
     (rw c.as_slice.ensures.value at c.read_content.ensures.refused)

@@ -1,5 +1,6 @@
 use Rattle.std.proofs.Common.{inr, refl, []}
-use Rattle.cfpp_cli.proofs.ProgramFiles.{decides-program, no-cause, lacks-program-input, lacks-program-output}
+use Rattle.cfpp_cli.proofs.NoStreams.{no-cause, lacks-program-says}
+use Rattle.cfpp_cli.proofs.ProgramFiles.{decides-program}
 use Rattle.cfpp_cli.proofs.Reports.{writes-nothing}
 use Rattle.cfpp_cli.proofs.machine.run_program.Goals as goal
 
@@ -13,8 +14,8 @@ returns-in-Err-clause-answers g c =
 
 pub returns-in-Err-clause-input : goal.returns-in-Err-clause-input
 returns-in-Err-clause-input g c =
-    no-cause _ _ (lacks-program-input _ _ _ _ _ c.in-Err.ensures.refused)
+    no-cause _ _ (lacks-program-says _ _ _ _ _ c.in-Err.ensures.refused).input
 
 pub returns-in-Err-clause-output : goal.returns-in-Err-clause-output
 returns-in-Err-clause-output g c =
-    no-cause _ _ (lacks-program-output _ _ _ _ _ c.in-Err.ensures.refused)
+    no-cause _ _ (lacks-program-says _ _ _ _ _ c.in-Err.ensures.refused).output

@@ -8,7 +8,6 @@ pub returns-in-Ok-clause-ok : goal.returns-in-Ok-clause-ok
 returns-in-Ok-clause-ok g c =
     program-found _ _ _ _ c.open_image.result
     (file-front (most_bytes + 1) _ _ _ c.in-Ok.image c.in-Ok.ensures.bytes)
-    c.in-Ok.ensures.cause.never_falls
     (rw c.as_slice.ensures.value at c.open_image.ensures.program)
     (rw c.as_slice.ensures.value at c.open_image.ensures.machine)
 

@@ -1,6 +1,7 @@
 use Rattle.std.proofs.Common.{inr, refl, []}
+use Rattle.cfpp_cli.proofs.NoStreams.{no-cause, lacks-file-says}
 use Rattle.cfpp_cli.proofs.Reports.{writes-nothing}
-use Rattle.cfpp_cli.proofs.RunFiles.{decides-run, lacks-input, lacks-output}
+use Rattle.cfpp_cli.proofs.RunFiles.{decides-run}
 use Rattle.cfpp_cli.proofs.run.run_processor.Goals as goal
 
 pub returns-in-Ok-clause-answers : goal.returns-in-Ok-clause-answers
@@ -13,7 +14,9 @@ returns-in-Err-clause-answers g c =
     ([], writes-nothing _, inr (record { lacks = c.in-Err.ensures.lacks; streams = refl }))
 
 pub returns-in-Err-clause-input : goal.returns-in-Err-clause-input
-returns-in-Err-clause-input g c = lacks-input _ _ _ _ _ _ c.in-Err.ensures.lacks
+returns-in-Err-clause-input g c =
+    no-cause _ _ (lacks-file-says _ _ _ _ _ c.in-Err.ensures.lacks).input
 
 pub returns-in-Err-clause-output : goal.returns-in-Err-clause-output
-returns-in-Err-clause-output g c = lacks-output _ _ _ _ _ _ c.in-Err.ensures.lacks
+returns-in-Err-clause-output g c =
+    no-cause _ _ (lacks-file-says _ _ _ _ _ c.in-Err.ensures.lacks).output

@@ -2,7 +2,7 @@ use Rattle.std.proofs.Common.{inr, refl, []}
 use Rattle.rv_machine.specs.Streams.{streams_of}
 use Rattle.cfpp_cli.specs.RunFiles.{show_of}
 use Rattle.cfpp_cli.specs.Schedules.{schedule_view}
-use Rattle.cfpp_cli.proofs.Machines.{decides-opened, newly-opened}
+use Rattle.cfpp_cli.proofs.Machines.{opens, opened-comes, newly-opened}
 use Rattle.cfpp_cli.proofs.Reports.{writes-nothing}
 use Rattle.cfpp_cli.proofs.run.run_ready.Goals as goal
 
@@ -14,10 +14,11 @@ returns-in-Ok-new-clause-comes g c =
     let left = g.S.Source.left in
     let written = g.K.Sink.written in
     let told = g.R.Sink.written in
-    decides-opened c.args.options.limit c.shown.result (show_of c.args.options.show) c.in-Ok-new.core c.args.ready.layout c.args.ready.machine (schedule_view c.args.ready.schedule)
+    opened-comes _ _ _ _ _ _ _ _ _ _ c.run_scheduled.result
+    (opens c.args.options.limit c.shown.result (show_of c.args.options.show) c.in-Ok-new.core c.run_scheduled.new.core c.args.ready.layout c.args.ready.machine (schedule_view c.args.ready.schedule)
     (streams_of (left c.args.input.now) (written c.args.output.now)) (streams_of (left c.run_scheduled.new.input) (written c.run_scheduled.new.output))
     (told c.args.report.now) (told c.run_scheduled.new.report) c.run_scheduled.result
-    c.in-Ok-new.ensures c.shown.ensures c.requires.count c.run_scheduled.ensures.runs
+    c.in-Ok-new.ensures c.shown.ensures c.requires.count c.run_scheduled.ensures.runs)
 
 pub returns-clause-comes : goal.returns-clause-comes
 returns-clause-comes g c = (

@@ -1,4 +1,4 @@
-use Rattle.std.proofs.Common.{◌+◌, ap, arith}
+use Rattle.std.proofs.Common.{◌+◌, ap, refl, ◌∙◌, arith}
 use Rattle.std.proofs.lemmas.Result.{err_from_is_err_and}
 use Rattle.cfpp_cli.proofs.Runs.{reached-none, reached-next, breaks-off, ran-failed, runs-exit, runs-trap, runs-read-fault, runs-write-fault}
 use Rattle.cfpp_cli.proofs.running.run.Goals as goal
@@ -8,9 +8,9 @@ loop-options-init g c = record {
   reached = (0, omega arith, reached-none _ _ _ _);
   within = omega (arith, c.retired.ensures);
   last = ap (λ n. n + c.args.options.limit) c.retired.ensures;
-  input = omega arith;
-  output = omega arith;
-  report = omega arith;
+  input = refl;
+  output = refl;
+  report = refl;
 }
 
 pub loop-options-preserved : goal.loop-options-preserved
@@ -25,9 +25,9 @@ loop-options-preserved g c =
       );
       within = omega (arith, c.in-Next.ensures.count, c.retired-in-loop-options.ensures, c.loop-options-test.true);
       last = c.loop-options.invariant.last;
-      input = omega (arith, c.in-Next.ensures.input.never_falls, c.loop-options.invariant.input);
-      output = omega (arith, c.in-Next.ensures.output.never_falls, c.loop-options.invariant.output);
-      report = omega (arith, c.show_line.ensures.cause.never_falls, c.loop-options.invariant.report);
+      input = c.in-Next.ensures.input.still ∙ c.loop-options.invariant.input;
+      output = c.in-Next.ensures.output.still ∙ c.loop-options.invariant.output;
+      report = c.in_ok-show_line-in-Next.ensures.cause.still ∙ c.loop-options.invariant.report;
     }
 
 pub returns-in_err-show_line-in-Next-clause-ran : goal.returns-in_err-show_line-in-Next-clause-ran

@@ -17,9 +17,9 @@ invariant-loop-options g l =
           (reported l.initial.report) (reported l.report)) n;
       within : l.machine.retired ≤ l.end;
       last : l.end ≡ l.initial.machine.retired + l.options.limit;
-      input : g.S.Source.faults l.initial.input ≤ g.S.Source.faults l.input;
-      output : g.K.Sink.faults l.initial.output ≤ g.K.Sink.faults l.output;
-      report : g.R.Sink.faults l.initial.report ≤ g.R.Sink.faults l.report;
+      input : g.S.Source.faults l.input ≡ g.S.Source.faults l.initial.input;
+      output : g.K.Sink.faults l.output ≡ g.K.Sink.faults l.initial.output;
+      report : g.R.Sink.faults l.report ≡ g.R.Sink.faults l.initial.report;
     }
 
 abbrev pub decreases-loop-options : goal.decreases-loop-options

@@ -17,5 +17,4 @@ pub returns-in-Ok-2-clause-ok : goal.returns-in-Ok-2-clause-ok
 returns-in-Ok-2-clause-ok g c = record {
   front = file-front (most_script + 1) _ _ _ c.in-Ok.text c.in-Ok.ensures.bytes;
   fits = omega (arith, c.len.ensures, c.if-len-gt-MOST_BYTES.false);
-  faults = c.in-Ok.ensures.cause.never_falls;
 }

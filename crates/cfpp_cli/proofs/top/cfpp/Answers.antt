@@ -1,9 +1,13 @@
-use Rattle.cfpp_cli.proofs.Tops.{top-failed}
+use Rattle.cfpp_cli.specs.Top.{IsTop}
+use Rattle.cfpp_cli.proofs.Tops.{HasCauses, top-put, top-failed, top-cut, none-rose}
 use Rattle.cfpp_cli.proofs.top.cfpp.Goals as goal
 
-pub returns-in-Err-put_all : goal.returns-in-Err-put_all
-returns-in-Err-put_all g c = record {
-  top = top-failed _ _ _ _ _ _ _ _ _ _ c.in-Ok.ensures.decided c.in-Ok.ensures.input
-      c.in-Ok.ensures.output (rw c.bytes.ensures at c.in-Err-put_all.ensures.front) c.in-Ok.ensures.report.never_falls
-      c.in-Err-put_all.ensures.cause.rose;
-}
+pub returns-in-Ok-put_all-clause-top : goal.returns-in-Ok-put_all-clause-top
+returns-in-Ok-put_all-clause-top g c =
+    top-put _ _ _ _ _ _ _ _ _ _ c.in-Ok.ensures.decided (record { files = c.in-Ok.ensures.files; input = c.in-Ok.ensures.input; output = c.in-Ok.ensures.output })
+    (rw c.bytes.ensures at c.in-Ok-put_all.ensures.all) c.in-Ok.ensures.report.still c.in-Ok-put_all.ensures.cause.still
+
+pub returns-in-Err-put_all-clause-top : goal.returns-in-Err-put_all-clause-top
+returns-in-Err-put_all-clause-top g c =
+    top-failed _ _ _ _ _ _ _ _ _ _ c.in-Ok.ensures.decided (record { files = c.in-Ok.ensures.files; input = c.in-Ok.ensures.input; output = c.in-Ok.ensures.output })
+    (rw c.bytes.ensures at c.in-Err-put_all.ensures.front) c.in-Ok.ensures.report.still c.in-Err-put_all.ensures.cause.rose

@@ -1,0 +1,52 @@
+-- What a move that was made and shown says of the next group of the trace.
+use Rattle.std.proofs.Common.{◌≡◌, ℕ, ◌≤◌, List, length, Option, Some, None, Ok, Err, sym, subst, arith}
+use Rattle.std.proofs.Math.Seq.{take-length}
+use Rattle.cf_io.specs.Causes.{HasCause, raised}
+use Rattle.cf_io.specs.Puts.{Writes, WritesFront}
+use Rattle.cf_bind.specs.declared.moves.Move.{Move}
+use Rattle.cf_semantics.specs.declared.event.Event.{Event}
+use Rattle.cf_run.specs.declared.answer.Ran.TheVariants as ran
+use Rattle.cf_run.specs.declared.show.Show.TheVariants as show
+use Rattle.cf_run.specs.Moving.{Place, MakesAndShows, MakesUnshown, Does, shown_of}
+use Rattle.cf_audit.specs.declared.answer.Audit.{Audit}
+use Rattle.cf_audit.specs.declared.answer.Audit.TheVariants.{Agrees, Wrong, ReadFault}
+use Rattle.cf_audit.specs.declared.answer.TraceKind.TheVariants.{NotAMove, Barred, Differs, Cut}
+use Rattle.cf_audit.specs.Compared.{Comparison}
+use Rattle.cf_audit.specs.Turns.{Stand, Compares, Tries, input_tested}
+
+-- all of a text is a front of it
+front_all : (a b : Option (List ℕ)) (text : List ℕ) → Writes a b text → WritesFront a b text
+front_all a b text h = (length text, omega arith, subst (Writes a b) (sym (take-length text)) h)
+
+unshown : (mv : Move) (e : Event) (now new : Place) → MakesAndShows show.Moves mv e now new → MakesUnshown show.Moves mv e now new
+unshown mv e now new d = record { makes = d.makes; report = front_all now.report new.report (shown_of show.Moves mv e now new) d.report }
+
+-- the move was made and shown
+pub tried-shown : (text : List ℕ) (mv : Move) (now new : Stand) (e : Event) (answer : Option Audit) → Does show.Moves mv now.place new.place (Ok e) → Compares text new.seen answer → Tries text mv now new answer
+unfolding Does Compares Tries
+tried-shown text mv now new e None d h = record { event = e; makes = d; same = h }
+tried-shown text mv now new e (Some (Agrees n)) d h = absurd h
+tried-shown text mv now new e (Some (Wrong line NotAMove)) d h = absurd h
+tried-shown text mv now new e (Some (Wrong line (Barred b))) d h = absurd h
+tried-shown text mv now new e (Some (Wrong line Differs)) d h = (record { event = e; makes = unshown mv e now.place new.place d; differs = h.0 }, h.1, h.2)
+tried-shown text mv now new e (Some (Wrong line Cut)) d h = (record { event = e; makes = unshown mv e now.place new.place d; differs = h.0 }, h.1, h.2)
+tried-shown text mv now new e (Some ReadFault) d h = absurd h
+
+-- the move was made, and the comparison failed
+pub tried-unshown : (text : List ℕ) (mv : Move) (now new : Stand) (before : ℕ) (answer : Option Audit) → Does show.Moves mv now.place new.place (Err ran.ReportFault) → raised before ≤ new.seen.faults → Compares text new.seen answer → Tries text mv now new answer
+unfolding Does Compares Tries
+tried-unshown text mv now new before None d rose h = absurd (omega (arith, rose, h.works))
+tried-unshown text mv now new before (Some (Agrees n)) d rose h = absurd h
+tried-unshown text mv now new before (Some (Wrong line NotAMove)) d rose h = absurd h
+tried-unshown text mv now new before (Some (Wrong line (Barred b))) d rose h = absurd h
+tried-unshown text mv now new before (Some (Wrong line Differs)) d rose h = (record { event = d.0; makes = d.1; differs = h.0 }, h.1, h.2)
+tried-unshown text mv now new before (Some (Wrong line Cut)) d rose h = (record { event = d.0; makes = d.1; differs = h.0 }, h.1, h.2)
+tried-unshown text mv now new before (Some ReadFault) d rose h = absurd h
+
+-- the input did not fail then
+pub tried-still : (text : List ℕ) (seen : Comparison) (before now : ℕ) (answer : Option Audit) → Compares text seen answer → now ≡ before → HasCause before now (input_tested answer)
+unfolding Compares
+tried-still text seen before now None h still = record { never_falls = omega (arith, still); rose = tt; still = still }
+tried-still text seen before now (Some (Agrees n)) h still = absurd h
+tried-still text seen before now (Some (Wrong line kind)) h still = record { never_falls = omega (arith, still); rose = tt; still = still }
+tried-still text seen before now (Some ReadFault) h still = absurd h

@@ -1,0 +1,213 @@
+-- How an audit ends, from where it has come to.
+use Rattle.std.proofs.Common.{◌≡◌, ℕ, ◌+◌, ◌-◌, ◌<◌, ◌≤◌, true, List, [], ◌∷◌, ◌++◌, length, take, Option, Some, None, inl, inr, refl, sym, ap, subst, ◌∙◌, length-drop, arith}
+use Rattle.std.specs.Prelude.{slice_get}
+use Rattle.std.proofs.lemmas.List.{take_all}
+use Rattle.std.proofs.lemmas.Option.{same_Some}
+use Rattle.cf_io.specs.Puts.{WritesFront}
+use Rattle.cf_layout.specs.Layout.{Plan}
+use Rattle.cf_bind.specs.declared.moves.Move.{Move}
+use Rattle.cf_bind.specs.declared.moves.Move.TheVariants.{Serve}
+use Rattle.cf_semantics.specs.Bars.{bar}
+use Rattle.cf_semantics.specs.Moves.{next as next_moment}
+use Rattle.cf_semantics.specs.State.{Moment}
+use Rattle.cf_core.specs.Processors.{Processor}
+use Rattle.cf_report.specs.declared.tally.Tally.{Tally}
+use Rattle.cf_report.specs.Lines.{numbered_move}
+use Rattle.cf_run.specs.declared.show.Show.TheVariants as show
+use Rattle.cf_run.specs.Going.{moment_of, Finds, IsMade, Leads}
+use Rattle.cf_run.specs.Made.{Made, shown}
+use Rattle.cf_run.specs.Moving.{Place, MakesAndShows, Does, shown_of}
+use Rattle.cf_run.specs.Reaching.{Reaches}
+use Rattle.cf_run.proofs.Runs.{reached-more, reached-trace, reached-rest}
+use Rattle.cf_run.proofs.Stopping.{filled, shown_too}
+use Rattle.cf_audit.specs.declared.answer.Audit.{Audit}
+use Rattle.cf_audit.specs.declared.answer.Audit.TheVariants.{Agrees, Wrong, ReadFault}
+use Rattle.cf_audit.specs.declared.answer.TraceKind.{TraceKind}
+use Rattle.cf_audit.specs.declared.answer.TraceKind.TheVariants.{NotAMove, Barred, Differs, Cut}
+use Rattle.cf_audit.specs.Audits.{Audits}
+use Rattle.cf_audit.specs.Compared.{alone, told_by}
+use Rattle.cf_audit.specs.Traces.{most_retired, line_of, has_line, BeginsWith, IsTrace, StandsAt, PartsAt, Fails, GoesWrong}
+use Rattle.cf_audit.specs.Turns.{Stand, left_of, NextIs, Parts, Tries, Tests}
+use Rattle.cf_audit.proofs.Coming.{Comes, so-far, put-behind, retires-below, trace-so-far, agrees-so-far, agreed-length, stands-here}
+use Rattle.cf_audit.proofs.Parting.{parted, byte_behind}
+
+-- the last of some moves, and the moment at which it was made
+record LastMade (plan : Plan) (limit : ℕ) (told : Option (List ℕ)) (m : Moment) (trace : List Made) (made : Made) : Type 0 where
+  at : Moment
+  leads : Leads plan limit told m trace at
+  rest : List ℕ
+  finds : Finds told at.rest rest
+  is : IsMade plan limit (record at { rest = rest }) made
+
+last_made : (plan : Plan) (limit : ℕ) (told : Option (List ℕ)) (m : Moment) (trace : List Made) (made : Made) (last : Moment) → Leads plan limit told m (trace ++ made ∷ []) last → LastMade plan limit told m trace made
+unfolding Leads
+last_made plan limit told m [] made last (rest, finds, is, h) = record { at = m; leads = refl; rest = rest; finds = finds; is = is }
+last_made plan limit told m (first ∷ trace) made last (rest, finds, is, h) =
+    let l : LastMade plan limit told (next_moment plan (record m { rest = rest }) first.move) trace made = last_made plan limit told (next_moment plan (record m { rest = rest }) first.move) trace made last h in
+    record { at = l.at; leads = (rest, finds, is, l.leads); rest = l.rest; finds = l.finds; is = l.is }
+
+-- where the group of the next move and the text part
+record PartsThere (text : List ℕ) (start : Place) (now new : Stand) (reached : Reaches most_retired show.Moves start now.place) : Type 0 where
+  last : Moment
+  leads : Leads start.core.plan most_retired start.streams.input (moment_of start.core reached.rest) reached.trace last
+  parts : PartsAt start.core.plan start.streams.input last (now.place.tally.moves + 1) (left_of now.seen) (new.seen.agreed - now.seen.agreed)
+  low : now.seen.agreed ≤ new.seen.agreed
+  text_is : new.seen.text ≡ text
+  within : new.seen.agreed ≤ length text
+
+parts_there : (text : List ℕ) (start : Place) (now new : Stand) (mv : Move) → length text ≤ 16777216 → new.place.report ≡ Some (told_by new.seen) → (h : Comes text start now) → NextIs now mv → Parts mv now new → PartsThere text start now new h.reached
+parts_there text start now new mv small tells h next p =
+    let group : List ℕ = shown_of show.Moves mv p.event now.place new.place in
+    let full : Place = record new.place { report = filled now.place.report group } in
+    let made : Made = record { move = mv; event = p.event; state = new.place.core.state } in
+    let low : now.place.core.state.retired < most_retired = retires-below text start now h small in
+    let makes : MakesAndShows show.Moves mv p.event now.place full = shown_too show.Moves mv p.event now.place new.place p.makes in
+    let more : Reaches most_retired show.Moves start full = reached-more most_retired show.Moves start now.place full mv p.event h.reached low makes in
+    let trace : more.trace ≡ h.reached.trace ++ made ∷ [] = reached-trace most_retired show.Moves start now.place full mv p.event h.reached low makes in
+    let rest : more.rest ≡ h.reached.rest = reached-rest most_retired show.Moves start now.place full mv p.event h.reached low makes in
+    let leads : Leads start.core.plan most_retired start.streams.input (moment_of start.core h.reached.rest) (h.reached.trace ++ made ∷ []) more.last =
+    subst (λ (r : List ℕ). Leads start.core.plan most_retired start.streams.input (moment_of start.core r) (h.reached.trace ++ made ∷ []) more.last) rest
+    (subst (λ (t : List Made). Leads start.core.plan most_retired start.streams.input (moment_of start.core more.rest) t more.last) trace more.leads) in
+    let l : LastMade start.core.plan most_retired start.streams.input (moment_of start.core h.reached.rest) h.reached.trace made =
+    last_made start.core.plan most_retired start.streams.input (moment_of start.core h.reached.rest) h.reached.trace made more.last leads in
+    let P : Option (List ℕ) → Type 0 = λ o. WritesFront o new.place.report group in
+    let front : WritesFront (Some (told_by now.seen)) new.place.report group = subst P h.tells p.makes.report in
+    let told : told_by new.seen ≡ told_by now.seen ++ take front.0 group = same_Some _ _ (sym tells ∙ front.2) in
+    let both = put-behind now.seen new.seen (take front.0 group) h.none told in
+    let put : take new.seen.agreed now.seen.text ++ p.differs.other ∷ [] ≡ take now.seen.agreed now.seen.text ++ take front.0 group =
+    ap (λ (t : List ℕ). take new.seen.agreed t ++ p.differs.other ∷ []) (sym both.0) ∙ ap (λ (o : Option ℕ). take new.seen.agreed new.seen.text ++ alone o) (sym p.differs.is) ∙ both.1 in
+    let high : new.seen.agreed ≤ length now.seen.text = subst (λ (t : List ℕ). new.seen.agreed ≤ length t) both.0 p.differs.within in
+    let other : slice_get now.seen.text new.seen.agreed ≡ Some p.differs.other → ⊥ = λ e. p.differs.differs (ap (λ (t : List ℕ). slice_get t new.seen.agreed) both.0 ∙ e) in
+    let apart = parted now.seen.text group now.seen.agreed new.seen.agreed front.0 p.differs.other h.within high other put in
+    let plan : now.place.core.plan ≡ start.core.plan = ap (λ (c : Processor). c.plan) h.reached.core in
+    let number : new.place.tally.moves ≡ now.place.tally.moves + 1 = ap (λ (t : Tally). t.moves) p.makes.makes.tally in
+    let s = so-far text start now h in
+    record {
+      last = l.at;
+      leads = l.leads;
+      parts = record {
+        move = mv;
+        begins = next;
+        group = group;
+        is_group = record {
+          rest = l.rest;
+          finds = l.finds;
+          made = made;
+          is_made = l.is;
+          move = refl;
+          is = ap (λ (layout : Plan). shown show.Moves layout new.place.tally.moves made) plan ∙ ap (λ (n : ℕ). shown show.Moves start.core.plan n made) number;
+        };
+        same = apart.1.same;
+        other = p.differs.other;
+        goes_on = apart.1.next;
+        differs = λ here. other (byte_behind now.seen.text now.seen.agreed new.seen.agreed (Some p.differs.other) apart.0 here);
+      };
+      low = apart.0;
+      text_is = both.0 ∙ s.text_is;
+      within = subst (λ (t : List ℕ). new.seen.agreed ≤ length t) s.text_is high;
+    }
+
+-- the trace goes wrong at a place behind the groups so far
+wrong_at : (text : List ℕ) (start : Place) (now : Stand) (h : Comes text start now) (last : Moment) (line place : ℕ) (kind : TraceKind) → Leads start.core.plan most_retired start.streams.input (moment_of start.core h.reached.rest) h.reached.trace last → 0 < length (left_of now.seen)
+    → Fails start.core.plan start.streams.input last (now.place.tally.moves + 1) (left_of now.seen) place kind → line ≡ line_of text (now.seen.agreed + place) → GoesWrong start.core start.streams.input text line kind
+wrong_at text start now h last line place kind leads some fails line_is = record {
+  front = take now.seen.agreed text;
+  left = left_of now.seen;
+  n = now.place.tally.moves;
+  last = last;
+  agrees = agrees-so-far text start now h last leads some;
+  place = place;
+  fails = fails;
+  line_is = line_is ∙ ap (λ (n : ℕ). line_of text (n + place)) (sym (agreed-length text start now h));
+}
+
+-- at the first line of the next group
+wrong_first : (text : List ℕ) (start : Place) (now : Stand) (h : Comes text start now) (line : ℕ) (kind : TraceKind) → 0 < length (left_of now.seen)
+    → Fails start.core.plan start.streams.input h.reached.last (now.place.tally.moves + 1) (left_of now.seen) 0 kind → line ≡ line_of text now.seen.agreed → GoesWrong start.core start.streams.input text line kind
+wrong_first text start now h line kind some fails line_is =
+    let here : now.seen.agreed ≡ now.seen.agreed + 0 = omega arith in
+    wrong_at text start now h h.reached.last line 0 kind h.reached.leads some fails (line_is ∙ ap (line_of text) here)
+
+-- a text with a line feed is not empty, nor one that begins with the line of a move
+line_some : (text : List ℕ) → has_line text ≡ true → 0 < length text
+line_some [] h = absurd (cc)
+line_some (x ∷ text) h = omega arith
+
+begins_some : (text : List ℕ) (n : ℕ) (mv : Move) → BeginsWith text n mv → 0 < length text
+unfolding numbered_move
+begins_some text n mv b = omega (arith, ap length b.is)
+
+-- what is left of the text, by its length
+left_length : (text : List ℕ) (start : Place) (now : Stand) → Comes text start now → length (left_of now.seen) + now.seen.agreed ≡ length text
+left_length text start now h =
+    let size : length now.seen.text ≡ length text = ap length (so-far text start now h).text_is in
+    omega (arith, size, h.within, length-drop now.seen.agreed now.seen.text)
+
+-- all of the trace agrees
+agrees_all : (text : List ℕ) (start : Place) (now new : Stand) (n : ℕ) → Comes text start now → length (left_of now.seen) ≡ 0 → n ≡ now.place.tally.moves → new ≡ now → Audits start.core new.place.core start.streams.input new.place.streams.input text (Agrees n)
+unfolding Audits
+agrees_all text start now new n h none count same =
+    let all : take now.seen.agreed text ≡ text = take_all now.seen.agreed text (omega (arith, none, left_length text start now h)) in
+    let trace : IsTrace start.core start.streams.input (take now.seen.agreed text) now.place.tally.moves h.reached.last = trace-so-far text start now h h.reached.last h.reached.leads in (
+      h.reached.last,
+      subst (λ (m : ℕ). IsTrace start.core start.streams.input text m h.reached.last) (sym count)
+          (subst (λ (t : List ℕ). IsTrace start.core start.streams.input t now.place.tally.moves h.reached.last) all trace),
+      subst (λ (s : Stand). StandsAt start.core s.place.core start.streams.input s.place.streams.input h.reached.last) (sym same) (stands-here text start now h),
+    )
+
+-- the place where the group of a move and the text part, among all bytes
+parted_place : (text : List ℕ) (start : Place) (now new : Stand) (h : Comes text start now) (line : ℕ) → PartsThere text start now new h.reached → line ≡ line_of text new.seen.agreed → line ≡ line_of text (now.seen.agreed + (new.seen.agreed - now.seen.agreed))
+parted_place text start now new h line p line_is =
+    let place : new.seen.agreed ≡ now.seen.agreed + (new.seen.agreed - now.seen.agreed) = omega (arith, p.low) in
+    line_is ∙ ap (line_of text) place
+
+-- what the move of the next line leads to, where the audit ends with it
+tried : (text : List ℕ) (start : Place) (now new : Stand) (mv : Move) (answer : Audit) → length text ≤ 16777216 → new.place.report ≡ Some (told_by new.seen) → Comes text start now → NextIs now mv → Tries text mv now new (Some answer)
+    → Audits start.core new.place.core start.streams.input new.place.streams.input text answer
+unfolding Audits Tries Fails Does
+tried text start now new mv (Agrees n) small tells h next t = absurd t
+tried text start now new mv (Wrong line NotAMove) small tells h next t = absurd t
+tried text start now new mv (Wrong line (Barred b)) small tells h next t =
+    let barred : bar start.core.plan h.reached.last.state mv ≡ Some b = subst (λ (c : Processor). bar c.plan c.state mv ≡ Some b) h.reached.core t.0 in
+    wrong_first text start now h line (Barred b) (begins_some (left_of now.seen) (now.place.tally.moves + 1) mv next) (mv, next, barred, refl) t.1
+tried text start now new mv (Wrong line Differs) small tells h next t =
+    let p = parts_there text start now new mv small tells h next t.0 in
+    let size : length new.seen.text ≡ length text = ap length p.text_is in
+    wrong_at text start now h p.last line (new.seen.agreed - now.seen.agreed) Differs p.leads (begins_some (left_of now.seen) (now.place.tally.moves + 1) mv next)
+    (p.parts, omega (arith, size, t.1, p.low, left_length text start now h)) (parted_place text start now new h line p t.2)
+tried text start now new mv (Wrong line Cut) small tells h next t =
+    let p = parts_there text start now new mv small tells h next t.0 in
+    let size : length new.seen.text ≡ length text = ap length p.text_is in
+    wrong_at text start now h p.last line (new.seen.agreed - now.seen.agreed) Cut p.leads (begins_some (left_of now.seen) (now.place.tally.moves + 1) mv next)
+    (inr (p.parts, omega (arith, size, t.1, p.low, left_length text start now h))) (parted_place text start now new h line p t.2)
+tried text start now new mv ReadFault small tells h next t =
+    let serves : mv ≡ Serve = t.0.serves in
+    record {
+      front = take now.seen.agreed text;
+      left = left_of now.seen;
+      n = now.place.tally.moves;
+      last = h.reached.last;
+      agrees = agrees-so-far text start now h h.reached.last h.reached.leads (begins_some (left_of now.seen) (now.place.tally.moves + 1) mv next);
+      begins = subst (λ (m : Move). BeginsWith (left_of now.seen) (now.place.tally.moves + 1) m) serves next;
+      allowed = subst (λ (c : Processor). bar c.plan c.state Serve ≡ None) h.reached.core (subst (λ (m : Move). bar now.place.core.plan now.place.core.state m ≡ None) serves t.0.allowed);
+    }
+
+-- the first line of what is left tells no move
+pub tests-none : (text left : List ℕ) (now new : Stand) (place : ℕ) (answer : Audit) → answer ≡ Wrong (line_of text place) NotAMove → place ≡ now.seen.agreed → left ≡ left_of now.seen → has_line left ≡ true → ((mv : Move) → BeginsWith left (now.place.tally.moves + 1) mv → ⊥)
+    → Tests text now new (Some answer)
+unfolding Tests
+tests-none text left now new place answer is at behind has none =
+    rw is (ap has_line (sym behind) ∙ has, λ mv begins. none mv (subst (λ (t : List ℕ). BeginsWith t (now.place.tally.moves + 1) mv) (sym behind) begins), ap (line_of text) at)
+
+-- how the audit ends with a turn
+pub audited : (text : List ℕ) (start : Place) (now new : Stand) (answer : Audit) → length text ≤ 16777216 → new.place.report ≡ Some (told_by new.seen) → Comes text start now → Tests text now new (Some answer)
+    → Audits start.core new.place.core start.streams.input new.place.streams.input text answer
+unfolding Tests Audits Fails
+audited text start now new (Agrees n) small tells h t = agrees_all text start now new n h t.0 t.1 t.2
+audited text start now new (Wrong line NotAMove) small tells h t =
+    wrong_first text start now h line NotAMove (line_some (left_of now.seen) t.0) (t.0, t.1, refl) t.2
+audited text start now new (Wrong line (Barred b)) small tells h (mv, next, t) = tried text start now new mv (Wrong line (Barred b)) small tells h next t
+audited text start now new (Wrong line Differs) small tells h (mv, next, t) = tried text start now new mv (Wrong line Differs) small tells h next t
+audited text start now new (Wrong line Cut) small tells h (inl t) = wrong_first text start now h line Cut t.0 (inl (t.1, refl)) t.2
+audited text start now new (Wrong line Cut) small tells h (inr (mv, next, t)) = tried text start now new mv (Wrong line Cut) small tells h next t
+audited text start now new ReadFault small tells h (mv, next, t) = tried text start now new mv ReadFault small tells h next t

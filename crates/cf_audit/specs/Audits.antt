@@ -1,0 +1,45 @@
+-- What an audit of a recorded trace answers, and what a trace that agrees tells of the sequential machine.
+use Rattle.std.specs.Prelude.{◌≡◌, ℕ, ◌+◌, List, Option, Some, None}
+use Rattle.rv_machine.specs.Hart.{Hart}
+use Rattle.cf_semantics.specs.Layouts.{isa_of}
+use Rattle.cf_semantics.specs.Lines.{sequence}
+use Rattle.cf_semantics.specs.State.{Moment}
+use Rattle.cf_core.specs.Processors.{Processor, opened}
+use Rattle.cf_run.specs.declared.show.Show.TheVariants as show
+use Rattle.cf_run.specs.Headline.{machine_on, AreTexts}
+use Rattle.cf_run.specs.Made.{all_shown}
+use Rattle.cf_audit.specs.declared.answer.Audit.{Audit}
+use Rattle.cf_audit.specs.declared.answer.Audit.TheVariants.{Agrees, Wrong, ReadFault}
+use Rattle.cf_audit.specs.Traces.{IsTrace, StandsAt, GoesWrong, StopsAtCall}
+
+-- the trace is that of a run of so many moves, at whose end the processor and the input stand; or it goes wrong in this line, for this reason; or the input failed a call
+unfoldable pub Audits : (core new : Processor) → (told now : Option (List ℕ)) → List ℕ → Audit → Type 0
+Audits core new told now text (Agrees n) =
+    (last : Moment) × IsTrace core told text n last × StandsAt core new told now last
+Audits core new told now text (Wrong line kind) = GoesWrong core told text line kind
+Audits core new told now text ReadFault = StopsAtCall core told text
+
+-- the answer for the trace of a run of so many moves, unless the input fails
+abbrev pub IsAgreement : ℕ → Audit → Type 0
+IsAgreement n (Agrees m) = m ≡ n
+IsAgreement n (Wrong line kind) = ⊥
+IsAgreement n ReadFault = Unit {0}
+
+-- over an input that tells what it has left, each trace of a run is answered so
+abbrev pub AgreesWithAll : Processor → Option (List ℕ) → List ℕ → Audit → Type 0
+AgreesWithAll core None text answer = Unit {0}
+AgreesWithAll core (Some rest) text answer =
+    (n : ℕ) (last : Moment) → IsTrace core (Some rest) text n last → IsAgreement n answer
+
+-- The retirement lines of the run whose trace the text is are those of the sequential machine that starts on this hart with this input: for some number of its first instructions a line each, in their order, numbered by the machine's count.
+pub record RetiresAs (core : Processor) (hart : Hart) (rest text : List ℕ) (n : ℕ) : Type 0 where
+  pub last : Moment
+  pub is : IsTrace core (Some rest) text n last
+  pub retired : ℕ
+  pub lines : AreTexts (hart.retired + 1) (sequence (isa_of core.plan) (machine_on hart rest) retired) (all_shown show.Retired core.plan 1 is.trace)
+
+-- So it is of each trace that agrees, on whatever hart the processor was opened, where the input tells what it has left.
+unfoldable pub RetiresSequentially : Processor → Option (List ℕ) → List ℕ → Audit → Type 0
+RetiresSequentially core (Some rest) text (Agrees n) =
+    (hart : Hart) → core ≡ opened core.plan hart → RetiresAs core hart rest text n
+RetiresSequentially core told text answer = Unit {0}

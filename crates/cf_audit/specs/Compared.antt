@@ -1,0 +1,53 @@
+-- A sink that compares what is put to it with a text (a convention of this project).
+use Rattle.std.specs.Prelude.{◌≡◌, ℕ, ◌≤◌, ◌<◌, suc, List, [], ◌∷◌, ◌++◌, length, take, map, slice_get, Option, Some, None, IfSome, IsSome}
+
+-- the text, how many of its bytes were put, the byte behind them that was another, where one was, and how often the sink has failed since
+pub record Comparison : Type 0 where
+  pub text : List ℕ
+  pub agreed : ℕ
+  pub other : Option ℕ
+  pub faults : ℕ
+
+-- before the first put
+abbrev pub fresh : List ℕ → Comparison
+fresh text = record { text = text; agreed = 0; other = None; faults = 0 }
+
+-- the byte does not stand at this place of the text
+abbrev pub IsOther : List ℕ → ℕ → ℕ → Type 0
+IsOther text place byte = slice_get text place ≡ Some byte → ⊥
+
+-- two texts have no byte in common at this place
+abbrev pub AreApart : (one other : List ℕ) → ℕ → Type 0
+AreApart one other place = (byte : ℕ) → slice_get other place ≡ Some byte → IsOther one place byte
+
+-- the bytes that agree are the text's, the other byte is another, and the sink fails only behind that
+pub record IsComparison (c : Comparison) : Type 0 where
+  pub within : c.agreed ≤ length c.text
+  pub other : IfSome c.other (λ byte. IsOther c.text c.agreed byte)
+  pub failed : 0 < c.faults → IsSome c.other
+
+-- a byte that was put does not stand in the text where it should
+pub record HasOther (seen : Comparison) : Type 0 where
+  pub other : ℕ
+  pub is : seen.other ≡ Some other
+  pub differs : IsOther seen.text seen.agreed other
+  pub within : seen.agreed ≤ length seen.text
+
+-- all that was put agrees, and the comparison has not failed
+pub record IsSame (seen : Comparison) : Type 0 where
+  pub none : seen.other ≡ None
+  pub works : seen.faults ≡ 0
+  pub within : seen.agreed ≤ length seen.text
+
+-- a byte alone, where there is one
+abbrev pub alone : Option ℕ → List ℕ
+alone None = []
+alone (Some byte) = byte ∷ []
+
+-- what was put
+abbrev pub put_of : Comparison → List ℕ
+put_of c = take c.agreed c.text ++ alone c.other
+
+-- what the sink tells: the text, in bytes raised by one, so that the first 0 ends it; and behind that 0 what was put. So whoever puts to it is known to leave its text as it is
+unfoldable pub told_by : Comparison → List ℕ
+told_by c = map suc c.text ++ 0 ∷ put_of c

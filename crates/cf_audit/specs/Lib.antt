@@ -1,0 +1,5 @@
+pub mod Compared
+pub mod Traces
+pub mod Lines
+pub mod Turns
+pub mod Audits

@@ -1,0 +1,20 @@
+-- The first line of a text, and the move that a line tells.
+use Rattle.std.specs.Prelude.{◌≡◌, ℕ, false, List, ◌∷◌, ◌++◌, codes, decimal}
+use Rattle.cf_bind.specs.declared.moves.Move.{Move}
+use Rattle.cf_bind.specs.MoveTexts.{move_line}
+use Rattle.cf_audit.specs.Traces.{IsReadBack, has_line}
+
+-- what stands in front of a move in its line, the one of this number
+abbrev pub move_front : ℕ → List ℕ
+move_front n = codes "move " ++ decimal n ++ codes " "
+
+-- the line stands before the first line feed of the text
+pub record IsFirstLine (text line : List ℕ) : Type 0 where
+  pub whole : has_line line ≡ false
+  pub behind : List ℕ
+  pub is : text ≡ line ++ 10 ∷ behind
+
+-- the line is the one that is written for the move, and it tells that move
+pub record Tells (line : List ℕ) (mv : Move) : Type 0 where
+  pub written : line ≡ move_line mv
+  pub told : IsReadBack mv

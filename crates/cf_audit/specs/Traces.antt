@@ -1,0 +1,120 @@
+-- Recorded traces: the text of a run, and where a text that is none goes wrong (a format of this project).
+use Rattle.std.specs.Prelude.{◌≡◌, ◌⊎◌, ℕ, ◌+◌, ◌-◌, ◌<◌, ◌^◌, Bool, true, false, List, [], ◌∷◌, ◌++◌, length, take, slice_get, count_by, Option, Some, None, Ok}
+use Rattle.std.specs.List.{list_any}
+use Rattle.rv_text.specs.Lines.{is_line_feed}
+use Rattle.rv_machine.specs.Streams.{IsTold, Becomes}
+use Rattle.cf_layout.specs.Layout.{Plan}
+use Rattle.cf_bind.specs.declared.moves.Move.{Move}
+use Rattle.cf_bind.specs.declared.moves.Move.TheVariants.{Serve}
+use Rattle.cf_bind.specs.MoveTexts.{move_line}
+use Rattle.cf_semantics.specs.Bars.{bar as first_bar}
+use Rattle.cf_semantics.specs.State.{Moment}
+use Rattle.cf_core.specs.Processors.{Processor, in_state}
+use Rattle.cf_report.specs.Lines.{numbered_move}
+use Rattle.cf_scripts.specs.MoveLines.{move_in}
+use Rattle.cf_run.specs.declared.show.Show.TheVariants as show
+use Rattle.cf_run.specs.Made.{Made, shown, all_shown}
+use Rattle.cf_run.specs.Going.{moment_of, Finds, IsMade, Leads}
+use Rattle.cf_audit.specs.declared.answer.TraceKind.{TraceKind}
+use Rattle.cf_audit.specs.declared.answer.TraceKind.TheVariants.{NotAMove, Barred, Differs, Cut}
+
+-- so many instructions at most can retire: their count is a u64
+abbrev pub most_retired : ℕ
+most_retired = 2 ^ 64 - 1
+
+-- the line that is written for the move tells it
+abbrev pub IsReadBack : Move → Type 0
+IsReadBack mv = move_in (move_line mv) ≡ Ok mv
+
+-- so does that of each of these moves
+abbrev pub AreReadBack : List Made → Type 0
+AreReadBack [] = Unit {0}
+AreReadBack (made ∷ trace) = IsReadBack made.move × AreReadBack trace
+
+-- The text is the trace of a run of n moves from the processor, over what the input tells: for each move its line, the line of the instruction that retired with it, if one did, and the picture behind it. The run leads to this moment.
+pub record IsTrace (core : Processor) (told : Option (List ℕ)) (text : List ℕ) (n : ℕ) (last : Moment) : Type 0 where
+  pub trace : List Made
+  pub rest : List ℕ
+  pub is_told : IsTold told rest
+  pub leads : Leads core.plan most_retired told (moment_of core rest) trace last
+  pub read_back : AreReadBack trace
+  pub count : length trace ≡ n
+  pub is : text ≡ all_shown show.Moves core.plan 1 trace
+
+-- the processor and the input are what the moves that lead to the moment leave
+pub record StandsAt (core new : Processor) (told now : Option (List ℕ)) (last : Moment) : Type 0 where
+  pub processor : new ≡ in_state core last.state
+  pub input : Becomes told now last.rest
+
+-- the text begins with the line of this move, the one of this number
+pub record BeginsWith (text : List ℕ) (n : ℕ) (mv : Move) : Type 0 where
+  pub told : IsReadBack mv
+  pub behind : List ℕ
+  pub is : text ≡ numbered_move n mv ++ behind
+
+-- a line feed stands in the text
+abbrev pub has_line : List ℕ → Bool
+has_line text = list_any is_line_feed text
+
+-- the line in which the byte at a place stands, counted from 1
+unfoldable pub line_of : List ℕ → ℕ → ℕ
+line_of text place = 1 + count_by is_line_feed (take place text)
+
+-- a front of the text is the trace of a run of n moves that leads to this moment, and this is left of the text, which is not at its end
+pub record AgreesSoFar (core : Processor) (told : Option (List ℕ)) (text front left : List ℕ) (n : ℕ) (last : Moment) : Type 0 where
+  pub parts : text ≡ front ++ left
+  pub some : 0 < length left
+  pub is : IsTrace core told front n last
+
+-- the next move is made at the moment, the one of this number, and this is its group: all that is shown of it
+pub record IsGroup (plan : Plan) (told : Option (List ℕ)) (last : Moment) (n : ℕ) (mv : Move) (group : List ℕ) : Type 0 where
+  pub rest : List ℕ
+  pub finds : Finds told last.rest rest
+  pub made : Made
+  pub is_made : IsMade plan most_retired (record last { rest = rest }) made
+  pub move : made.move ≡ mv
+  pub is : group ≡ shown show.Moves plan n made
+
+-- what is left begins with the line of a move that can be made, and it is the move's group up to this place, at which the group has another byte or the text has none
+pub record PartsAt (plan : Plan) (told : Option (List ℕ)) (last : Moment) (n : ℕ) (left : List ℕ) (place : ℕ) : Type 0 where
+  pub move : Move
+  pub begins : BeginsWith left n move
+  pub group : List ℕ
+  pub is_group : IsGroup plan told last n move group
+  pub same : take place left ≡ take place group
+  pub other : ℕ
+  pub goes_on : slice_get group place ≡ Some other
+  pub differs : slice_get left place ≡ Some other → ⊥
+
+-- why what is left, which is not empty, is not the trace of further moves from the moment, the next of which has this number; the place is that of the byte of it that shows it. The tests stand in the order in which they are made: no line feed is left; the first line is that of no move; the move is barred; what follows is not its group
+unfoldable pub Fails : Plan → Option (List ℕ) → Moment → ℕ → List ℕ → ℕ → TraceKind → Type 0
+Fails plan told last n left place Cut =
+    ((has_line left ≡ false) × (place ≡ 0))
+    ⊎ (PartsAt plan told last n left place × (place ≡ length left))
+Fails plan told last n left place NotAMove =
+    (has_line left ≡ true) × ((mv : Move) → BeginsWith left n mv → ⊥) × (place ≡ 0)
+Fails plan told last n left place (Barred b) =
+    (mv : Move) × BeginsWith left n mv × (first_bar plan last.state mv ≡ Some b) × (place ≡ 0)
+Fails plan told last n left place Differs =
+    PartsAt plan told last n left place × (place < length left)
+
+-- The text is not the trace of a run: behind the groups of a run a test fails, in this line.
+pub record GoesWrong (core : Processor) (told : Option (List ℕ)) (text : List ℕ) (line : ℕ) (kind : TraceKind) : Type 0 where
+  pub front : List ℕ
+  pub left : List ℕ
+  pub n : ℕ
+  pub last : Moment
+  pub agrees : AgreesSoFar core told text front left n last
+  pub place : ℕ
+  pub fails : Fails core.plan told last (n + 1) left place kind
+  pub line_is : line ≡ line_of text (length front + place)
+
+-- Behind the groups of a run stands the line of Serve, which nothing bars: this call is the one that failed.
+pub record StopsAtCall (core : Processor) (told : Option (List ℕ)) (text : List ℕ) : Type 0 where
+  pub front : List ℕ
+  pub left : List ℕ
+  pub n : ℕ
+  pub last : Moment
+  pub agrees : AgreesSoFar core told text front left n last
+  pub begins : BeginsWith left (n + 1) Serve
+  pub allowed : first_bar core.plan last.state Serve ≡ None

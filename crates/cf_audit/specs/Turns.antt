@@ -1,0 +1,82 @@
+-- One turn of an audit: the next group of the trace is tested and its move made, or the audit ends.
+use Rattle.std.specs.Prelude.{◌≡◌, ◌⊎◌, ℕ, ◌+◌, ◌<◌, true, false, List, length, drop, Option, Some, None, Result, Ok, Err}
+use Rattle.cf_bind.specs.declared.moves.Move.{Move}
+use Rattle.cf_semantics.specs.declared.event.Event.{Event}
+use Rattle.cf_semantics.specs.Bars.{bar as first_bar}
+use Rattle.cf_run.specs.declared.answer.Ran.TheVariants as ran
+use Rattle.cf_run.specs.declared.show.Show.TheVariants as show
+use Rattle.cf_run.specs.Moving.{Place, MakesAndShows, MakesUnshown, Does}
+use Rattle.cf_audit.specs.declared.answer.Audit.{Audit}
+use Rattle.cf_audit.specs.declared.answer.Audit.TheVariants.{Agrees, Wrong, ReadFault}
+use Rattle.cf_audit.specs.declared.answer.TraceKind.TheVariants.{NotAMove, Barred, Differs, Cut}
+use Rattle.cf_audit.specs.Compared.{Comparison, HasOther, IsSame}
+use Rattle.cf_audit.specs.Traces.{BeginsWith, has_line, line_of}
+
+-- where an audit has come to: the place of its run, and the comparison that is its report
+pub record Stand : Type 0 where
+  pub place : Place
+  pub seen : Comparison
+
+-- the stand with these
+abbrev pub stand_of : Place → Comparison → Stand
+stand_of place seen = record { place = place; seen = seen }
+
+-- the text that is left
+abbrev pub left_of : Comparison → List ℕ
+left_of seen = drop seen.agreed seen.text
+
+-- what is left begins with the line of this move, the next one
+abbrev pub NextIs : Stand → Move → Type 0
+NextIs now mv = BeginsWith (left_of now.seen) (now.place.tally.moves + 1) mv
+
+-- the answer that a comparison gives, if a byte does not agree
+unfoldable pub Compares : List ℕ → Comparison → Option Audit → Type 0
+Compares text seen None = IsSame seen
+Compares text seen (Some (Wrong line Differs)) =
+    HasOther seen × (seen.agreed < length seen.text) × (line ≡ line_of text seen.agreed)
+Compares text seen (Some (Wrong line Cut)) =
+    HasOther seen × (seen.agreed ≡ length seen.text) × (line ≡ line_of text seen.agreed)
+Compares text seen (Some answer) = ⊥
+
+-- the move was made, and all that is shown of it stands next in the text
+pub record Advances (mv : Move) (now new : Stand) : Type 0 where
+  pub event : Event
+  pub makes : MakesAndShows show.Moves mv event now.place new.place
+  pub same : IsSame new.seen
+
+-- the move was made, and a byte of what is shown of it does not stand in the text where it should
+pub record Parts (mv : Move) (now new : Stand) : Type 0 where
+  pub event : Event
+  pub makes : MakesUnshown show.Moves mv event now.place new.place
+  pub differs : HasOther new.seen
+
+-- what the move of the next line leads to
+unfoldable pub Tries : List ℕ → Move → (now new : Stand) → Option Audit → Type 0
+Tries text mv now new None = Advances mv now new
+Tries text mv now new (Some (Agrees n)) = ⊥
+Tries text mv now new (Some (Wrong line NotAMove)) = ⊥
+Tries text mv now new (Some (Wrong line (Barred b))) =
+    (first_bar now.place.core.plan now.place.core.state mv ≡ Some b) × (line ≡ line_of text now.seen.agreed)
+Tries text mv now new (Some (Wrong line Differs)) =
+    Parts mv now new × (new.seen.agreed < length new.seen.text) × (line ≡ line_of text new.seen.agreed)
+Tries text mv now new (Some (Wrong line Cut)) =
+    Parts mv now new × (new.seen.agreed ≡ length new.seen.text) × (line ≡ line_of text new.seen.agreed)
+Tries text mv now new (Some ReadFault) = Does show.Moves mv now.place new.place (Err ran.ReadFault)
+
+-- the next group is tested: its first line tells a move, which is tried, or none
+unfoldable pub Tests : List ℕ → (now new : Stand) → Option Audit → Type 0
+Tests text now new (Some (Agrees n)) =
+    (length (left_of now.seen) ≡ 0) × (n ≡ now.place.tally.moves) × (new ≡ now)
+Tests text now new (Some (Wrong line NotAMove)) =
+    (has_line (left_of now.seen) ≡ true) × ((mv : Move) → NextIs now mv → ⊥) × (line ≡ line_of text now.seen.agreed)
+Tests text now new (Some (Wrong line Cut)) =
+    ((0 < length (left_of now.seen)) × (has_line (left_of now.seen) ≡ false) × (line ≡ line_of text now.seen.agreed))
+    ⊎ ((mv : Move) × NextIs now mv × Tries text mv now new (Some (Wrong line Cut)))
+Tests text now new answer = (mv : Move) × NextIs now mv × Tries text mv now new answer
+
+-- an error where the input failed the audit
+abbrev pub input_tested : Option Audit → Result (Unit {0}) (Unit {0})
+input_tested (Some ReadFault) = Err tt
+input_tested (Some (Agrees n)) = Ok tt
+input_tested (Some (Wrong line kind)) = Ok tt
+input_tested None = Ok tt

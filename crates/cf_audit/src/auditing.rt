@@ -1,0 +1,188 @@
+//! A recorded trace is audited.
+#![tactic(auto, unfolding(crate::specs::Turns::Tries, crate::specs::Turns::Tests))]
+
+ghost use Rattle.std.specs.Prelude.{◌≡◌, ◌+◌, ◌<◌, ◌≤◌, ◌^◌, None, Some, count_by, length};
+ghost use Rattle.rv_text.specs.Lines.{is_line_feed};
+ghost use Rattle.cf_io.specs.Causes.{HasCause};
+ghost use Rattle.rv_machine.specs.Streams.{streams_of};
+ghost use Rattle.cf_run.specs.Moving.{place_of};
+ghost use Rattle.cf_run.specs.Policies.{IsOpened};
+ghost use Rattle.cf_audit.specs.Compared.{told_by};
+ghost use Rattle.cf_audit.specs.Traces.{has_line, line_of};
+ghost use Rattle.cf_audit.specs.Turns.{stand_of, Compares, Tries, Tests, input_tested};
+ghost use Rattle.cf_audit.specs.Audits.{Audits, AgreesWithAll, RetiresSequentially};
+
+use crate::answer::{Audit, TraceKind};
+use crate::compared::Compared;
+use crate::first_line::recorded_move;
+use cf_bind::Move;
+use cf_core::Core;
+use cf_io::{Nowhere, Source};
+use cf_report::Tally;
+use cf_run::{Ran, Show, known, make};
+
+fn has_line(text: &[u8]) -> bool
+    ensures { result ≡ has_line text.now }
+{
+    text.iter().any(|byte| *byte == b'\n')
+}
+
+/// How many lines end in a text.
+fn count_lines(text: &[u8]) -> usize
+    ensures count { result ≡ count_by is_line_feed text.now }
+    ensures within { result ≤ length text.now }
+{
+    let mut count = 0;
+    for byte in text {
+        if *byte == b'\n' {
+            count += 1;
+        }
+    }
+    count
+}
+
+/// The line in which the byte at a place stands, counted from 1.
+#[tactic(auto, using(crate::proofs::Parting::fronts), unfolding(crate::specs::Traces::line_of))]
+fn line_of(text: &[u8], place: usize) -> u32
+    requires { length text.now ≤ 16777216 }
+    ensures { result ≡ line_of text.now place }
+{
+    let end = place.min(text.len());
+    count_lines(&text[..end]) as u32 + 1
+}
+
+/// The answer for a trace that is wrong at this place.
+fn wrong(trace: &[u8], place: usize, kind: TraceKind) -> Audit
+    requires { length trace.now ≤ 16777216 }
+    ensures { result ≡ Audit.Wrong (line_of trace.now place) kind }
+{
+    Audit::Wrong {
+        line: line_of(trace, place),
+        kind,
+    }
+}
+
+/// The answer where a byte that was put does not agree with the trace.
+#[tactic(auto, unfolding(crate::specs::Turns::Compares))]
+fn compared(trace: &[u8], report: &Compared<'_>) -> Option<Audit>
+    requires { length trace.now ≤ 16777216 }
+    ensures { Compares trace.now report.now result }
+{
+    if !report.differs() {
+        None
+    } else if report.is_whole() {
+        Some(wrong(trace, report.agreed(), TraceKind::Cut))
+    } else {
+        Some(wrong(trace, report.agreed(), TraceKind::Differs))
+    }
+}
+
+/// Makes the move of the next line, if nothing bars it, and compares all that is shown of it with the trace.
+fn try_move<S: Source>(
+    core: &mut Core,
+    mv: Move,
+    trace: &[u8],
+    input: &mut S,
+    report: &mut Compared<'_>,
+    tally: &mut Tally,
+) -> Option<Audit>
+    requires size { length trace.now ≤ 16777216 }
+    requires retired { core.old.state.retired + 1 < 2 ^ 64 }
+    requires moves { tally.old.moves + 1 < 2 ^ 64 }
+    requires meets { tally.old.meets + 1 < 2 ^ 64 }
+    requires kills { tally.old.kills + 1 < 2 ^ 64 }
+    requires dead { tally.old.dead + 1 < 2 ^ 64 }
+    ensures tries { Tries trace.now mv
+        (stand_of (place_of core.old (streams_of (S.left input.old) None)
+        (Some (told_by report.old)) tally.old) report.old)
+        (stand_of (place_of core.new (streams_of (S.left input.new) None)
+        (Some (told_by report.new)) tally.new) report.new)
+        result }
+    ensures input { HasCause (S.faults input.old) (S.faults input.new) (input_tested result) }
+{
+    if let Some(bar) = core.allowed(mv) {
+        return Some(wrong(trace, report.agreed(), TraceKind::Barred(bar)));
+    }
+    match make(core, mv, Show::Moves, input, &mut Nowhere, report, tally) {
+        Ok(_) => compared(trace, report),
+        Err(Ran::ReportFault) => compared(trace, report),
+        Err(Ran::ReadFault) => Some(Audit::ReadFault),
+        Err(Ran::WriteFault) => unreachable!(),
+        Err(Ran::Exit(_)) => unreachable!(),
+        Err(Ran::Trap { .. }) => unreachable!(),
+        Err(Ran::Limit) => unreachable!(),
+    }
+}
+
+/// Tests the next group of the trace and makes its move, or says how the audit ends.
+fn advance<S: Source>(
+    core: &mut Core,
+    trace: &[u8],
+    input: &mut S,
+    report: &mut Compared<'_>,
+    tally: &mut Tally,
+) -> Option<Audit>
+    requires size { length trace.now ≤ 16777216 }
+    requires retired { core.old.state.retired + 1 < 2 ^ 64 }
+    requires moves { tally.old.moves + 1 < 2 ^ 64 }
+    requires meets { tally.old.meets + 1 < 2 ^ 64 }
+    requires kills { tally.old.kills + 1 < 2 ^ 64 }
+    requires dead { tally.old.dead + 1 < 2 ^ 64 }
+    ensures tests { Tests trace.now
+        (stand_of (place_of core.old (streams_of (S.left input.old) None)
+        (Some (told_by report.old)) tally.old) report.old)
+        (stand_of (place_of core.new (streams_of (S.left input.new) None)
+        (Some (told_by report.new)) tally.new) report.new)
+        result }
+    ensures input { HasCause (S.faults input.old) (S.faults input.new) (input_tested result) }
+{
+    let left = report.rest();
+    if left.is_empty() {
+        return Some(Audit::Agrees(tally.moves));
+    }
+    if !has_line(left) {
+        return Some(wrong(trace, report.agreed(), TraceKind::Cut));
+    }
+    match recorded_move(left, tally.moves + 1) {
+        Some(mv) => try_move(core, mv, trace, input, report, tally),
+        None => Some(wrong(trace, report.agreed(), TraceKind::NotAMove)),
+    }
+}
+
+/// Audits a recorded trace: what `--show moves` writes of a run, without the report that closes it. The processor is an
+/// opened one on which nothing has retired, and the trace has at most 16,777,216 bytes.
+///
+/// Group after group the move that the trace tells is made, and all that is shown of it is compared with the trace, byte
+/// by byte; nothing of it is kept. `Agrees` comes exactly where the trace is that of a run, of so many moves, which leads to
+/// where the processor and the input then stand. `Wrong` comes exactly where it is none, by the first test that fails, in
+/// the order of [`TraceKind`]. The line is that of the group's first line; for `Differs` that of the first byte that
+/// differs, and for `Cut` that in which the trace ends.
+///
+/// So the lines of retired instructions in a trace that agrees are those of the sequential machine, in its order, whoever
+/// has made the trace and in whatever order its moves were made.
+///
+/// `ReadFault` comes only where the input failed a call of the environment, and its count of faults rose. What the program
+/// writes goes nowhere.
+pub fn audit<S: Source>(core: &mut Core, trace: &[u8], input: &mut S) -> Audit
+    requires opened { IsOpened core.old }
+    requires retired { core.old.state.retired ≡ 0 }
+    requires size { length trace.now ≤ 16777216 }
+    ensures audits { Audits core.old core.new (S.left input.old) (S.left input.new) trace.now result }
+    ensures agrees { AgreesWithAll core.old (S.left input.old) trace.now result }
+    ensures sequential { RetiresSequentially core.old (S.left input.old) trace.now result }
+    ensures input { HasCause (S.faults input.old) (S.faults input.new) (input_tested (Some result)) }
+{
+    known(core);
+    let mut report = Compared::with(trace);
+    let mut tally = Tally {
+        moves: 0,
+        meets: 0,
+        kills: 0,
+        dead: 0,
+    };
+    loop {
+        if let Some(answer) = advance(core, trace, input, &mut report, &mut tally) {
+            return answer;
+        }
+    }
+}

@@ -1,0 +1,12 @@
+//! An audit of a recorded trace: its moves are made again, and each byte of what they show is compared with it.
+#![tactic(auto)]
+
+mod answer;
+mod auditing;
+mod common;
+mod compared;
+mod first_line;
+pub mod laws;
+
+pub use answer::{Audit, TraceKind};
+pub use auditing::audit;

@@ -1,0 +1,19 @@
+-- The moves of a run are taken back, the last first.
+use Rattle.std.proofs.Common.{◌≡◌, ◌≢◌, ◌∙◌, ℕ, List, [], ◌∷◌, All, refl, ap, arith}
+use Rattle.std.proofs.lemmas.List.Elements.{All-tail}
+use Rattle.cf_bind.specs.declared.moves.Move.{Move}
+use Rattle.cf_bind.specs.declared.moves.Move.TheVariants.{Serve}
+use Rattle.cf_confluence.proofs.TakenBack.{moment_back}
+use Rattle.cf_layout.specs.Layout.{Plan}
+use Rattle.cf_semantics.specs.Kept.{kept, taken_back}
+use Rattle.cf_semantics.specs.Moves.{next}
+use Rattle.cf_semantics.specs.Runs.{IsRun, run}
+use Rattle.cf_semantics.specs.State.{Moment}
+use Rattle.cf_core.specs.Undo.{all_taken_back, kept_along}
+
+pub run-back : (plan : Plan) (m : Moment) (moves : List Move) → IsRun plan m moves → All (λ mv. mv ≢ Serve) moves → all_taken_back (run plan m moves) (kept_along plan m moves) ≡ m
+unfolding IsRun run kept_along all_taken_back
+run-back plan m [] runs other = refl
+run-back plan m (mv ∷ moves) runs other =
+    let later = run-back plan (next plan m mv) moves runs.1 (All-tail (λ x. x ≢ Serve) mv moves other) in
+    ap (λ (n : Moment). taken_back n (kept plan m.state mv)) later ∙ moment_back plan m mv runs.0 (other 0 mv (omega arith))

@@ -1,0 +1,17 @@
+-- What is told of an instruction in a stage ("Counterflow Pipeline Processor Architecture", 1994).
+use Rattle.std.specs.Prelude.{Bool, ◌&&◌, not}
+use Rattle.cf_bind.specs.declared.passenger.Passenger.{Passenger}
+use Rattle.cf_semantics.specs.Options.{is_some}
+use Rattle.cf_passengers.specs.Waiting.{first_unknown}
+
+-- it is live and was not executed
+abbrev pub is_undone : Passenger → Bool
+is_undone p = not p.dead && not p.done
+
+-- its operation was launched and has not come back
+abbrev pub is_out : Passenger → Bool
+is_out p = p.launched && not p.recovered
+
+-- it has the values of its sources
+abbrev pub has_sources : Passenger → Bool
+has_sources p = not (is_some (first_unknown p))

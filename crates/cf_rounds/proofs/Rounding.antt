@@ -1,0 +1,318 @@
+-- Where a run in rounds has come to.
+use Rattle.std.proofs.Common.{◌≡◌, ℕ, suc, ◌+◌, ◌-◌, ◌<◌, ◌≤◌, ◌^◌, List, [], ◌∷◌, ◌++◌, length, Option, Some, None, Err, inl, inr, refl, sym, ap, subst, ◌∙◌, append-nil, append_assoc, length-append, arith}
+use Rattle.std.specs.Prelude.{if◌then◌else◌, Bool, true, false}
+use Rattle.rv_machine.specs.Machine.{Machine}
+use Rattle.cf_layout.specs.Accepted.{IsAccepted}
+use Rattle.cf_layout.specs.Layout.{Plan}
+use Rattle.cf_bind.specs.declared.moves.Move.{Move}
+use Rattle.cf_bind.specs.declared.moves.Move.TheVariants.{Serve}
+use Rattle.cf_semantics.specs.Candidates.{candidates, held_back}
+use Rattle.cf_semantics.specs.Holding.{is_held, offered}
+use Rattle.cf_semantics.specs.Lines.{Line}
+use Rattle.cf_semantics.specs.Moves.{next}
+use Rattle.cf_semantics.specs.Runs.{start as start_on}
+use Rattle.cf_semantics.specs.State.{State, Moment}
+use Rattle.cf_untold.specs.Paced.{PacesTo}
+use Rattle.cf_untold.proofs.Theorems.{anew_started}
+use Rattle.cf_core.specs.Processors.{Processor, IsProcessor}
+use Rattle.cf_core.specs.Stepping.{Makes}
+use Rattle.cf_report.specs.declared.tally.Tally.{Tally}
+use Rattle.cf_index.proofs.There.{has_sidings}
+use Rattle.cf_sched.specs.Paces.{Count, HasCounted}
+use Rattle.cf_run.specs.declared.answer.Ran.{Ran as Answer}
+use Rattle.cf_run.specs.declared.answer.Ran.TheVariants as ran
+use Rattle.cf_run.specs.declared.answer.Scripted.TheVariants.{Ran}
+use Rattle.cf_run.specs.declared.show.Show.TheVariants as show
+use Rattle.cf_run.specs.Going.{moment_of, Leads}
+use Rattle.cf_run.specs.Headline.{Gets, RunsSequentially, StopsAt}
+use Rattle.cf_run.specs.Made.{Made, moves_of}
+use Rattle.cf_run.specs.Moving.{Place, Does}
+use Rattle.cf_run.specs.Policies.{IsOpened, most_moves}
+use Rattle.cf_run.specs.Reaching.{GoesOn, Reaches, no_tally}
+use Rattle.cf_run.proofs.Arrived.{begins}
+use Rattle.cf_run.proofs.Bounds.{bound_grows, bound_small, machine_of, opened_wide, paced-bounded, paced-offered}
+use Rattle.cf_run.proofs.Headline.{comes_sequentially}
+use Rattle.cf_run.proofs.Runs.{reached-none, none-trace, reached-more, reached-trace}
+use Rattle.cf_run.proofs.Stopping.{ComesTo, comes_here, comes_over, comes_unread, comes_unwritten}
+use Rattle.cf_rounds.specs.declared.answer.Clocked.{Clocked}
+use Rattle.cf_rounds.specs.declared.answer.Clocked.TheVariants.{Exit, Trap, Limit, ReadFault, WriteFault}
+use Rattle.cf_rounds.specs.declared.answer.Fired.{Fired}
+use Rattle.cf_rounds.specs.declared.answer.Fired.TheVariants.{Plain, Retired, Ended}
+use Rattle.cf_rounds.specs.declared.answer.Fired.TheVariants as fault
+use Rattle.cf_rounds.specs.Firing.{FiresAll, Fires, MakesAll, paced_by}
+use Rattle.cf_rounds.specs.Rounds.{AreCandidates, IsRound, round_of}
+use Rattle.cf_rounds.specs.Running.{InRounds, FailsThere, RunsRounds, StopsRounds, all_of, ran_of, state_behind}
+use Rattle.cf_rounds.specs.Turns.{IsOffered, Turns}
+use Rattle.cf_rounds.proofs.Making.{leaves, falls, left_first}
+use Rattle.cf_rounds.proofs.Pacing.{rounds_paced}
+
+-- what is offered are candidates
+pub offered_are : (plan : Plan) (count : ℕ) (s : State) → AreCandidates plan s (offered plan count s)
+unfolding offered
+offered_are plan count s = by (is_held plan count)
+  where
+    by : (b : Bool) → AreCandidates plan s (if b then held_back (candidates plan s) else candidates plan s)
+    by true = inr refl
+    by false = inl refl
+
+-- the moves of some rounds, with one round more
+all_more : (rounds : List (List Made)) (made : List Made) → all_of (rounds ++ made ∷ []) ≡ all_of rounds ++ made
+all_more [] made = append-nil made
+all_more (first ∷ rounds) made = ap (λ (rest : List Made). first ++ rest) (all_more rounds made) ∙ sym (append_assoc first (all_of rounds) made)
+
+rounds_more : (plan : Plan) (limit count : ℕ) (s : State) (rounds : List (List Made)) (held : ℕ) (end : State) (made : List Made) → InRounds plan limit count s rounds held end → GoesOn limit end → moves_of made ≡ round_of plan end (offered plan held end)
+    → InRounds plan limit count s (rounds ++ made ∷ []) (paced_by held made) (state_behind end made)
+unfolding InRounds
+rounds_more plan limit count s [] held end made (held_is, end_is) goes is =
+    let P : ℕ → State → Type 0 = λ n q. GoesOn limit q × (moves_of made ≡ round_of plan q (offered plan n q)) × ((paced_by held made ≡ paced_by n made) × (state_behind end made ≡ state_behind q made)) in
+    subst (λ (n : ℕ). P n s) held_is (subst (P held) end_is (goes, is, (refl, refl)))
+rounds_more plan limit count s (first ∷ rounds) held end made (goes_on, first_is, h) goes is = (goes_on, first_is, rounds_more plan limit (paced_by count first) (state_behind s first) rounds held end made h goes is)
+
+-- the state behind the moves
+state_there : (trace : List Made) (now new : Place) → MakesAll trace now new → state_behind now.core.state trace ≡ new.core.state
+unfolding MakesAll
+state_there [] now new h = ap (λ (p : Place). p.core.state) (sym h)
+state_there (made ∷ trace) now new (there, one, is, h) = ap (λ (s : State). state_behind s trace) is ∙ state_there trace there new h
+
+-- the moves of a round behind those of a run
+record Reached (limit : ℕ) (start new : Place) (before trace : List Made) : Type 0 where
+  reached : Reaches (limit + 1) show.Report start new
+  all : reached.trace ≡ before ++ trace
+  within : new.core.state.retired ≤ limit
+
+reach_all : (limit : ℕ) (start now new : Place) (trace : List Made) (h : Reaches (limit + 1) show.Report start now) → MakesAll trace now new → now.core.state.retired + leaves (moves_of trace) ≤ limit → Reached limit start new h.trace trace
+unfolding MakesAll
+reach_all limit start now new [] h all low =
+    subst (λ (p : Place). Reached limit start p h.trace []) (sym all) (record { reached = h; all = sym (append-nil h.trace); within = omega (arith, low) })
+reach_all limit start now new (made ∷ trace) h (there, one, is, all) low =
+    let below : now.core.state.retired < limit + 1 = omega (arith, low) in
+    let made_there : Made = record { move = made.move; event = made.event; state = there.core.state } in
+    let same : made_there ≡ made = ap (λ (s : State). record { move = made.move; event = made.event; state = s }) (sym is) in
+    let more : Reaches (limit + 1) show.Report start there = reached-more (limit + 1) show.Report start now there made.move made.event h below one in
+    let trace_is : more.trace ≡ h.trace ++ made ∷ [] = reached-trace (limit + 1) show.Report start now there made.move made.event h below one ∙ ap (λ (m : Made). h.trace ++ m ∷ []) same in
+    let makes : Makes now.core there.core made.move now.streams there.streams = one.makes.makes in
+    let m : Moment = record { state = now.core.state; rest = makes.rest; output = [] } in
+    let state : (next now.core.plan m made.move).state.retired ≡ there.core.state.retired = ap (λ (q : Moment). q.state.retired) makes.is in
+    let less = falls now.core.plan m made.move (moves_of trace) in
+    let rest : Reached limit start new more.trace trace = reach_all limit start there new trace more all (omega (arith, less, state, low)) in
+    record {
+      reached = rest.reached;
+      all = rest.all ∙ ap (λ (t : List Made). t ++ trace) trace_is ∙ append_assoc h.trace (made ∷ []) trace;
+      within = rest.within;
+    }
+
+-- the rounds so far lead from one place to another
+pub record Comes (limit : ℕ) (start now : Place) (pace : Count) (number : ℕ) : Type 0 where
+  pub reached : Reaches (limit + 1) show.Report start now
+  pub rounds : List (List Made)
+  pub are : reached.trace ≡ all_of rounds
+  pub held : ℕ
+  pub chosen : InRounds start.core.plan limit 0 start.core.state rounds held now.core.state
+  pub paced : HasCounted start.core.plan.stages held pace
+  pub count : number ≡ length rounds
+  pub few : number ≤ now.tally.moves
+  pub within : now.core.state.retired ≤ limit
+
+pub comes-first : (limit : ℕ) (start : Place) (pace : Count) (number : ℕ) → start.tally ≡ no_tally → HasCounted start.core.plan.stages 0 pace → number ≡ 0 → start.core.state.retired ≤ limit → Comes limit start start pace number
+unfolding InRounds
+comes-first limit start pace number none paced zero_rounds within = record {
+  reached = reached-none (limit + 1) show.Report start none;
+  rounds = [];
+  are = none-trace (limit + 1) show.Report start none;
+  held = 0;
+  chosen = (refl, refl);
+  paced = paced;
+  count = zero_rounds;
+  few = omega (arith, zero_rounds);
+  within = within;
+}
+
+-- the layout stays
+pub same_plan : (limit : ℕ) (start now : Place) (pace : Count) (number : ℕ) → Comes limit start now pace number → now.core.plan ≡ start.core.plan
+same_plan limit start now pace number c = ap (λ (p : Processor). p.plan) c.reached.core
+
+chosen_here : (limit : ℕ) (start now : Place) (pace : Count) (number : ℕ) (moves round : List Move) → (c : Comes limit start now pace number) → IsOffered now pace moves round → round ≡ round_of start.core.plan now.core.state (offered start.core.plan c.held now.core.state)
+chosen_here limit start now pace number moves round c o =
+    let plan : now.core.plan ≡ start.core.plan = same_plan limit start now pace number c in
+    let counted : HasCounted now.core.plan.stages c.held pace = subst (λ (l : Plan). HasCounted l.stages c.held pace) (sym plan) c.paced in
+    o.round_is ∙ ap (round_of now.core.plan now.core.state) (o.moves_are c.held counted)
+    ∙ ap (λ (l : Plan). round_of l now.core.state (offered l c.held now.core.state)) plan
+
+-- how many moves were counted
+count_all : (trace : List Made) (now new : Place) → MakesAll trace now new → new.tally.moves ≡ now.tally.moves + length trace
+unfolding MakesAll
+count_all [] now new h = omega (arith, ap (λ (p : Place). p.tally.moves) h)
+count_all (made ∷ trace) now new (there, one, is, h) = omega (arith, count_all trace there new h, ap (λ (t : Tally). t.moves) one.makes.tally)
+
+moves_length : (trace : List Made) → length (moves_of trace) ≡ length trace
+moves_length [] = refl
+moves_length (made ∷ trace) = ap suc (moves_length trace)
+
+-- one round more
+pub comes-more : (limit : ℕ) (start now new : Place) (pace later : Count) (number : ℕ) (moves round : List Move) (fired : Fired) → Comes limit start now pace number → GoesOn limit now.core.state → IsOffered now pace moves round → FiresAll round now new pace later fired → Comes limit start new later (number + 1)
+comes-more limit start now new pace later number moves round fired c goes o f =
+    let plan : Plan = start.core.plan in
+    let few : leaves round ≤ 1 = (left_first now.core.plan now.core.state round o.sidings o.is_round).1 in
+    let low : now.core.state.retired + leaves (moves_of f.trace) ≤ limit = omega (arith, goes.below, ap leaves f.moves, few) in
+    let r : Reached limit start new c.reached.trace f.trace = reach_all limit start now new f.trace c.reached f.makes low in
+    let is : moves_of f.trace ≡ round_of plan now.core.state (offered plan c.held now.core.state) = f.moves ∙ chosen_here limit start now pace number moves round c o in
+    let more : InRounds plan limit 0 start.core.state (c.rounds ++ f.trace ∷ []) (paced_by c.held f.trace) (state_behind now.core.state f.trace) = rounds_more plan limit 0 start.core.state c.rounds c.held now.core.state f.trace c.chosen goes is in
+    record {
+      reached = r.reached;
+      rounds = c.rounds ++ f.trace ∷ [];
+      are = r.all ∙ ap (λ (t : List Made). t ++ f.trace) c.are ∙ sym (all_more c.rounds f.trace);
+      held = paced_by c.held f.trace;
+      chosen = subst (λ (s : State). InRounds plan limit 0 start.core.state (c.rounds ++ f.trace ∷ []) (paced_by c.held f.trace) s) (state_there f.trace now new f.makes) more;
+      paced = f.paced plan.stages c.held c.paced;
+      count = omega (arith, c.count, length-append c.rounds (f.trace ∷ []));
+      few = omega (arith, c.few, count_all f.trace now new f.makes, o.some, ap length f.moves, moves_length f.trace);
+      within = r.within;
+    }
+
+-- the rounds so far are a run under the hold rule
+comes_paced : (limit : ℕ) (start now : Place) (pace : Count) (number : ℕ) → IsAccepted start.core.plan → length start.core.state.regs ≡ 32 → (o : IsOpened start.core) → (c : Comes limit start now pace number)
+    → (written : List Line) × PacesTo start.core.plan 0 (start_on start.core.plan (machine_of start.core o c.reached.rest)) (moves_of c.reached.trace) c.reached.last written
+comes_paced limit start now pace number accepted wide o c =
+    let plan : Plan = start.core.plan in
+    let x : Machine = machine_of start.core o c.reached.rest in
+    let same : moment_of start.core c.reached.rest ≡ start_on plan x = begins start.core o.hart c.reached.rest c.reached.rest o.is refl in
+    let leads : Leads plan (limit + 1) start.streams.input (start_on plan x) c.reached.trace c.reached.last = subst (λ (q : Moment). Leads plan (limit + 1) start.streams.input q c.reached.trace c.reached.last) same c.reached.leads in
+    let here : Leads plan (limit + 1) start.streams.input (start_on plan x) (all_of c.rounds) c.reached.last = subst (λ (t : List Made). Leads plan (limit + 1) start.streams.input (start_on plan x) t c.reached.last) c.are leads in
+    let chosen : InRounds plan limit 0 (start_on plan x).state c.rounds c.held now.core.state = subst (λ (q : Moment). InRounds plan limit 0 q.state c.rounds c.held now.core.state) same c.chosen in
+    let paces : (written : List Line) × PacesTo plan 0 (start_on plan x) (moves_of (all_of c.rounds)) c.reached.last written =
+    rounds_paced plan (limit + 1) limit 0 c.held start.streams.input x [] (start_on plan x) c.reached.last c.rounds now.core.state accepted (anew_started plan x (opened_wide start.core o wide)) chosen here in
+    (paces.0, subst (λ (t : List Made). PacesTo plan 0 (start_on plan x) (moves_of t) c.reached.last paces.0) (sym c.are) paces.1)
+
+-- so they have a bounded number of moves
+pub comes-bounded : (limit : ℕ) (start now : Place) (pace : Count) (number : ℕ) → IsAccepted start.core.plan → length start.core.state.regs ≡ 32 → IsOpened start.core → Comes limit start now pace number → now.tally.moves ≤ most_moves start.core.plan limit
+comes-bounded limit start now pace number accepted wide o c =
+    let paces = comes_paced limit start now pace number accepted wide o c in
+    let bound = paced-bounded (limit + 1) show.Report start now accepted wide o c.reached paces.0 paces.1 in
+    let grows = bound_grows start.core.plan (now.core.state.retired - start.core.state.retired) limit (omega (arith, c.within)) in
+    omega (arith, bound, grows)
+
+pub comes-small : (limit : ℕ) (start now : Place) (pace : Count) (number : ℕ) → IsAccepted start.core.plan → length start.core.state.regs ≡ 32 → IsOpened start.core → limit ≤ 1000000000 → Comes limit start now pace number → now.tally.moves + 1 < 2 ^ 63
+comes-small limit start now pace number accepted wide o few c =
+    let bound = comes-bounded limit start now pace number accepted wide o c in
+    let small = bound_small start.core.plan limit accepted few in
+    omega (arith, bound, small)
+
+-- and while the program goes on there is a candidate
+pub comes-offered : (limit : ℕ) (start now : Place) (pace : Count) (number : ℕ) → IsAccepted start.core.plan → length start.core.state.regs ≡ 32 → IsOpened start.core → Comes limit start now pace number → now.core.state.ending ≡ None → (count : ℕ) → 0 < length (offered now.core.plan count now.core.state)
+comes-offered limit start now pace number accepted wide o c unended count =
+    let paces = comes_paced limit start now pace number accepted wide o c in
+    omega (arith, paced-offered (limit + 1) show.Report start now accepted wide o c.reached paces.0 paces.1 unended count)
+
+-- the pace has counted the Issue moves
+pub comes-counted : (limit : ℕ) (start now : Place) (pace : Count) (number : ℕ) → Comes limit start now pace number → (count : ℕ) × HasCounted now.core.plan.stages count pace
+comes-counted limit start now pace number c =
+    (c.held, subst (λ (l : Plan). HasCounted l.stages c.held pace) (sym (same_plan limit start now pace number c)) c.paced)
+
+-- each round has a move, so that fewer are left
+pub comes-nearer : (limit : ℕ) (start now new : Place) (pace later : Count) (number : ℕ) (moves round : List Move) (fired : Fired) → IsAccepted start.core.plan → length start.core.state.regs ≡ 32 → IsOpened start.core → Comes limit start now pace number → GoesOn limit now.core.state → IsOffered now pace moves round → FiresAll round now new pace later fired
+    → most_moves start.core.plan limit - new.tally.moves < most_moves start.core.plan limit - now.tally.moves
+comes-nearer limit start now new pace later number moves round fired accepted wide o c goes offer f =
+    let bound = comes-bounded limit start new later (number + 1) accepted wide o (comes-more limit start now new pace later number moves round fired c goes offer f) in
+    less (most_moves start.core.plan limit) now.tally.moves new.tally.moves (length f.trace) (count_all f.trace now new f.makes) (omega (arith, offer.some, ap length f.moves, moves_length f.trace)) bound
+  where
+    less : (most now new n : ℕ) → new ≡ now + n → 0 < n → new ≤ most → most - new < most - now
+    less most now new n e some h = omega (arith, e, some, h)
+
+-- the run stops where it has come to
+pub comes-runs : (limit : ℕ) (start now new : Place) (pace : Count) (number : ℕ) (answer : Clocked) → (c : Comes limit start now pace number) → StopsRounds limit c.held now new answer → RunsRounds limit start new number answer
+comes-runs limit start now new pace number answer c stops = record {
+  now = now;
+  reaches = c.reached;
+  rounds = c.rounds;
+  are = c.are;
+  held = c.held;
+  chosen = c.chosen;
+  count = c.count;
+  stops = stops;
+}
+
+-- the call of the next round failed
+pub fails-there : (limit : ℕ) (start now new : Place) (pace : Count) (number : ℕ) (moves round : List Move) (answer : Answer) → (c : Comes limit start now pace number) → GoesOn limit now.core.state → IsOffered now pace moves round → round ≡ Serve ∷ [] → Does show.Report Serve now new (Err answer)
+    → FailsThere limit c.held now new answer
+fails-there limit start now new pace number moves round answer c goes o serves does =
+    let plan : now.core.plan ≡ start.core.plan = same_plan limit start now pace number c in
+    record {
+      goes = goes;
+      serves = ap (λ (l : Plan). round_of l now.core.state (offered l c.held now.core.state)) plan ∙ sym (chosen_here limit start now pace number moves round c o) ∙ serves;
+      does = does;
+    }
+
+-- and the run is one of the sequential machine
+rounds_come : (limit : ℕ) (start new : Place) (number : ℕ) (answer : Clocked) → IsAccepted start.core.plan → (r : RunsRounds limit start new number answer) → ComesTo (limit + 1) show.Report start (moves_of r.reaches.trace) new (Ran (ran_of answer))
+unfolding StopsAt Gets
+rounds_come limit start new number (Exit status) accepted r = comes_over (limit + 1) show.Report start r.now new (ran.Exit status) r.reaches r.stops.0 r.stops.1
+rounds_come limit start new number (Trap cause pc detail) accepted r = comes_over (limit + 1) show.Report start r.now new (ran.Trap cause pc detail) r.reaches r.stops.0 r.stops.1
+rounds_come limit start new number Limit accepted r = comes_here (limit + 1) show.Report start r.now new (Ran ran.Limit) r.reaches r.stops.1 (λ x m h. h) (λ text w. w)
+rounds_come limit start new number ReadFault accepted r = comes_unread (limit + 1) show.Report start r.now new Serve r.reaches r.stops.does
+rounds_come limit start new number WriteFault accepted r = comes_unwritten (limit + 1) show.Report start r.now new Serve accepted r.reaches r.stops.does
+
+pub rounds-sequential : (limit : ℕ) (start new : Place) (number : ℕ) (answer : Clocked) → IsAccepted start.core.plan → length start.core.state.regs ≡ 32 → (r : RunsRounds limit start new number answer) → RunsSequentially show.Report (moves_of r.reaches.trace) start new (Ran (ran_of answer))
+rounds-sequential limit start new number answer accepted wide r =
+    comes_sequentially (limit + 1) show.Report start new (moves_of r.reaches.trace) (Ran (ran_of answer)) accepted wide (rounds_come limit start new number answer accepted r)
+
+-- what is offered, and its round
+pub offers : (now : Place) (pace : Count) (moves round : List Move) → IsProcessor now.core.plan now.core.state → ((count : ℕ) → HasCounted now.core.plan.stages count pace → moves ≡ offered now.core.plan count now.core.state) → round ≡ round_of now.core.plan now.core.state moves → IsRound now.core.plan now.core.state round → 0 < length round → IsOffered now pace moves round
+offers now pace moves round p are is round_is some = record { moves_are = are; round_is = is; is_round = round_is; sidings = has_sidings now.core.plan now.core.state p; some = some }
+
+-- so are its moves candidates, and there is one
+pub offered-candidates : (plan : Plan) (s : State) (pace : Count) (moves : List Move) → (count : ℕ) × HasCounted plan.stages count pace → ((count : ℕ) → HasCounted plan.stages count pace → moves ≡ offered plan count s) → AreCandidates plan s moves
+offered-candidates plan s pace moves counted are = subst (AreCandidates plan s) (sym (are counted.0 counted.1)) (offered_are plan counted.0 s)
+
+pub offered-some : (plan : Plan) (s : State) (pace : Count) (moves : List Move) → (count : ℕ) × HasCounted plan.stages count pace → ((count : ℕ) → HasCounted plan.stages count pace → moves ≡ offered plan count s) → ((count : ℕ) → 0 < length (offered plan count s)) → 0 < length moves
+offered-some plan s pace moves counted are some = omega (arith, some counted.0, ap length (are counted.0 counted.1))
+
+-- the round is made, or its call fails
+abbrev pub turn_of : Fired → Option Clocked
+turn_of Plain = None
+turn_of (Retired line) = None
+turn_of (Ended end) = None
+turn_of fault.ReadFault = Some ReadFault
+turn_of fault.WriteFault = Some WriteFault
+
+pub turned : (limit : ℕ) (now new : Place) (pace later : Count) (moves round : List Move) (fired : Fired) (turn : Option Clocked) → GoesOn limit now.core.state → IsOffered now pace moves round → Fires round now new pace later fired → turn ≡ turn_of fired → Turns limit now new pace later turn
+unfolding Turns Fires
+turned limit now new pace later moves round fired turn goes o f is = subst (λ (t : Option Clocked). Turns limit now new pace later t) (sym is) (by fired f)
+  where
+    by : (fired : Fired) → Fires round now new pace later fired → Turns limit now new pace later (turn_of fired)
+    by Plain f = record { goes = goes; moves = moves; round = round; offer = o; fired = Plain; fires = f }
+    by (Retired line) f = record { goes = goes; moves = moves; round = round; offer = o; fired = Retired line; fires = f }
+    by (Ended end) f = record { goes = goes; moves = moves; round = round; offer = o; fired = Ended end; fires = f }
+    by fault.ReadFault f = record { goes = goes; moves = moves; round = round; offer = o; serves = f.0; does = f.1 }
+    by fault.WriteFault f = record { goes = goes; moves = moves; round = round; offer = o; serves = f.0; does = f.1 }
+
+-- a turn that goes on
+pub comes-on : (limit : ℕ) (start now new : Place) (pace later : Count) (number : ℕ) → Comes limit start now pace number → Turns limit now new pace later None → Comes limit start new later (number + 1)
+unfolding Turns
+comes-on limit start now new pace later number c t = comes-more limit start now new pace later number t.moves t.round t.fired c t.goes t.offer t.fires
+
+pub comes-closer : (limit : ℕ) (start now new : Place) (pace later : Count) (number : ℕ) → IsAccepted start.core.plan → length start.core.state.regs ≡ 32 → IsOpened start.core → Comes limit start now pace number → Turns limit now new pace later None
+    → most_moves start.core.plan limit - new.tally.moves < most_moves start.core.plan limit - now.tally.moves
+unfolding Turns
+comes-closer limit start now new pace later number accepted wide o c t = comes-nearer limit start now new pace later number t.moves t.round t.fired accepted wide o c t.goes t.offer t.fires
+
+-- a turn that ends the run
+pub comes-end : (limit : ℕ) (start now new : Place) (pace later : Count) (number : ℕ) (answer : Clocked) → Comes limit start now pace number → Turns limit now new pace later (Some answer) → RunsRounds limit start new number answer
+unfolding Turns
+comes-end limit start now new pace later number (Exit status) c t = comes-runs limit start now new pace number (Exit status) c t
+comes-end limit start now new pace later number (Trap cause pc detail) c t = comes-runs limit start now new pace number (Trap cause pc detail) c t
+comes-end limit start now new pace later number Limit c t = comes-runs limit start now new pace number Limit c t
+comes-end limit start now new pace later number ReadFault c t = comes-runs limit start now new pace number ReadFault c (fails-there limit start now new pace number t.moves t.round ran.ReadFault c t.goes t.offer t.serves t.does)
+comes-end limit start now new pace later number WriteFault c t = comes-runs limit start now new pace number WriteFault c (fails-there limit start now new pace number t.moves t.round ran.WriteFault c t.goes t.offer t.serves t.does)
+
+-- no move was counted where the run stops but those of the rounds
+pub end-bounded : (limit : ℕ) (start now new : Place) (pace later : Count) (number : ℕ) (answer : Clocked) → IsAccepted start.core.plan → length start.core.state.regs ≡ 32 → IsOpened start.core → Comes limit start now pace number → Turns limit now new pace later (Some answer)
+    → new.tally.moves ≤ most_moves start.core.plan limit
+unfolding Turns Does
+end-bounded limit start now new pace later number answer accepted wide o c t = omega (arith, comes-bounded limit start now pace number accepted wide o c, same answer t)
+  where
+    same : (answer : Clocked) → Turns limit now new pace later (Some answer) → new.tally.moves ≡ now.tally.moves
+    same (Exit status) t = ap (λ (p : Place). p.tally.moves) t.1
+    same (Trap cause pc detail) t = ap (λ (p : Place). p.tally.moves) t.1
+    same Limit t = ap (λ (p : Place). p.tally.moves) t.1
+    same ReadFault t = ap (λ (a : Tally). a.moves) t.does.0.tally
+    same WriteFault t = ap (λ (a : Tally). a.moves) t.does.0.tally

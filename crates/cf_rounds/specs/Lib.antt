@@ -1,0 +1,4 @@
+pub mod Rounds
+pub mod Firing
+pub mod Running
+pub mod Turns

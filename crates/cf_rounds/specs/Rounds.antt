@@ -1,0 +1,64 @@
+-- Rounds: the moves that a clocked processor makes at one tick. No two of them use a place in common, so that they can be made in any order.
+use Rattle.std.specs.Prelude.{◌≡◌, ◌⊎◌, ℕ, ◌≤◌, List, length, [], ◌∷◌, ◌++◌, Bool, true, false, None, if◌then◌else◌}
+use Rattle.std.specs.List.{AllByRecursion, find, list_any}
+use Rattle.cf_layout.specs.Layout.{Plan}
+use Rattle.cf_bind.specs.declared.moves.Move.{Move}
+use Rattle.cf_semantics.specs.Bars.{bar}
+use Rattle.cf_semantics.specs.Candidates.{candidates, held_back}
+use Rattle.cf_semantics.specs.Options.{on}
+use Rattle.cf_semantics.specs.State.{State}
+use Rattle.cf_index.specs.Alone.{stands_alone}
+use Rattle.cf_index.specs.Sites.{shares}
+
+-- a round is held in 128 places for moves, of which the first are taken
+pub record IsHeld (count : ℕ) (places : List Move) : Type 0 where
+  pub room : length places ≡ 128
+  pub few : count ≤ 128
+
+-- the move shares a place with one of these
+abbrev pub shares_any : Plan → List Move → Move → Bool
+shares_any plan round mv = list_any (shares plan mv) round
+
+-- some moves are taken; behind them each move of a list that shares no place with one that is taken, in order
+unfoldable pub taken : Plan → (round moves : List Move) → List Move
+taken plan round [] = round
+taken plan round (mv ∷ moves) = taken plan (if shares_any plan round mv then round else round ++ mv ∷ []) moves
+
+-- the round of some candidates: the first that is made alone, where there is one; else those that are taken
+unfoldable pub round_of : Plan → State → List Move → List Move
+round_of plan s moves = on (find (stands_alone plan s) moves) (taken plan [] moves) (λ mv. mv ∷ [])
+
+-- these are the candidates of the state, Issue held back or not
+abbrev pub AreCandidates : Plan → State → List Move → Type 0
+AreCandidates plan s moves = (moves ≡ candidates plan s) ⊎ (moves ≡ held_back (candidates plan s))
+
+-- the moves are the round of the candidates of the state, Issue held back or not
+pub record IsRound (plan : Plan) (s : State) (round : List Move) : Type 0 where
+  pub moves : List Move
+  pub are : AreCandidates plan s moves
+  pub is : round ≡ round_of plan s moves
+
+-- nothing bars the move
+abbrev pub IsAllowed : Plan → State → Move → Type 0
+IsAllowed plan s mv = bar plan s mv ≡ None
+
+-- no two of the moves share a place
+abbrev pub AreApart : Plan → List Move → Type 0
+AreApart plan [] = Unit {0}
+AreApart plan (mv ∷ round) = AllByRecursion (λ other. shares plan mv other ≡ false) round × AreApart plan round
+
+-- the move is one of the round, or shares a place with one of it
+abbrev pub IsTaken : Plan → List Move → Move → Type 0
+IsTaken plan round mv = ((front : List Move) × (behind : List Move) × (round ≡ front ++ mv ∷ behind)) ⊎ (shares_any plan round mv ≡ true)
+
+-- the round is one move that is made alone; or no two of its moves share a place, and each candidate that it leaves out shares one with a move that it has
+abbrev pub IsFull : Plan → State → (moves round : List Move) → Type 0
+IsFull plan s moves round =
+    ((mv : Move) × (stands_alone plan s mv ≡ true) × (round ≡ mv ∷ []))
+    ⊎ (AreApart plan round × AllByRecursion (IsTaken plan round) moves)
+
+-- the other list has the same moves, in some order: the first of them somewhere, and the others in some order without it
+abbrev pub IsOrderOf : List Move → List Move → Type 0
+IsOrderOf [] other = other ≡ []
+IsOrderOf (mv ∷ moves) other =
+    (front : List Move) × (behind : List Move) × (other ≡ front ++ mv ∷ behind) × IsOrderOf moves (front ++ behind)

@@ -1,0 +1,62 @@
+-- One turn of a run in rounds: the round of what is offered is made, or the run stops.
+use Rattle.std.specs.Prelude.{◌≡◌, ℕ, ◌<◌, List, [], ◌∷◌, length, Option, Some, None, Result, Ok, Err}
+use Rattle.cf_bind.specs.declared.moves.Move.{Move}
+use Rattle.cf_bind.specs.declared.moves.Move.TheVariants.{Serve}
+use Rattle.cf_semantics.specs.Holding.{offered}
+use Rattle.cf_index.specs.Alone.{HasSidings}
+use Rattle.cf_sched.specs.Paces.{Count, HasCounted}
+use Rattle.cf_run.specs.declared.answer.Ran.{Ran as Answer}
+use Rattle.cf_run.specs.declared.answer.Ran.TheVariants as ran
+use Rattle.cf_run.specs.declared.show.Show.TheVariants as show
+use Rattle.cf_run.specs.Moving.{Place, Does}
+use Rattle.cf_run.specs.Reaching.{GoesOn, IsOver}
+use Rattle.cf_rounds.specs.declared.answer.Clocked.{Clocked}
+use Rattle.cf_rounds.specs.declared.answer.Clocked.TheVariants.{Exit, Trap, Limit, ReadFault, WriteFault}
+use Rattle.cf_rounds.specs.declared.answer.Fired.{Fired}
+use Rattle.cf_rounds.specs.Firing.{FiresAll}
+use Rattle.cf_rounds.specs.Rounds.{IsRound, round_of}
+
+-- these candidates are offered there, by whatever count of Issue moves the pace has, and this is their round
+pub record IsOffered (now : Place) (pace : Count) (moves round : List Move) : Type 0 where
+  pub moves_are : (count : ℕ) → HasCounted now.core.plan.stages count pace → moves ≡ offered now.core.plan count now.core.state
+  pub round_is : round ≡ round_of now.core.plan now.core.state moves
+  pub is_round : IsRound now.core.plan now.core.state round
+  pub sidings : HasSidings now.core.plan now.core.state
+  pub some : 0 < length round
+
+-- the run goes on, and the round is made
+pub record GoesRound (limit : ℕ) (now new : Place) (pace later : Count) : Type 0 where
+  pub goes : GoesOn limit now.core.state
+  pub moves : List Move
+  pub round : List Move
+  pub offer : IsOffered now pace moves round
+  pub fired : Fired
+  pub fires : FiresAll round now new pace later fired
+
+-- the run goes on, and the round is Serve, whose call fails
+pub record FailsRound (limit : ℕ) (now new : Place) (pace : Count) (answer : Answer) : Type 0 where
+  pub goes : GoesOn limit now.core.state
+  pub moves : List Move
+  pub round : List Move
+  pub offer : IsOffered now pace moves round
+  pub serves : round ≡ Serve ∷ []
+  pub does : Does show.Report Serve now new (Err answer)
+
+-- one turn
+unfoldable pub Turns : ℕ → (now new : Place) → (pace later : Count) → Option Clocked → Type 0
+Turns limit now new pace later None = GoesRound limit now new pace later
+Turns limit now new pace later (Some (Exit status)) = IsOver limit now.core.state (ran.Exit status) × (new ≡ now)
+Turns limit now new pace later (Some (Trap cause pc detail)) = IsOver limit now.core.state (ran.Trap cause pc detail) × (new ≡ now)
+Turns limit now new pace later (Some Limit) = IsOver limit now.core.state ran.Limit × (new ≡ now)
+Turns limit now new pace later (Some ReadFault) = FailsRound limit now new pace ran.ReadFault
+Turns limit now new pace later (Some WriteFault) = FailsRound limit now new pace ran.WriteFault
+
+-- an error where the input failed the turn
+abbrev pub input_turned : Option Clocked → Result (Unit {0}) (Unit {0})
+input_turned (Some ReadFault) = Err tt
+input_turned answer = Ok tt
+
+-- an error where the output did
+abbrev pub output_turned : Option Clocked → Result (Unit {0}) (Unit {0})
+output_turned (Some WriteFault) = Err tt
+output_turned answer = Ok tt

@@ -1,0 +1,15 @@
+//! Clocked rounds: at each tick the processor makes many moves, no two of which use a place in common.
+#![tactic(auto)]
+
+mod answer;
+mod choosing;
+mod firing;
+pub mod laws;
+mod round_set;
+mod running;
+
+pub use answer::{Clocked, Fired};
+pub use choosing::choose;
+pub use firing::fire;
+pub use round_set::RoundSet;
+pub use running::run_rounds;

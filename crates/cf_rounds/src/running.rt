@@ -1,0 +1,117 @@
+//! A run in rounds.
+#![tactic(auto, unfolding(crate::specs::Turns::Turns, crate::specs::Firing::Fires))]
+
+ghost use Rattle.std.specs.Prelude.{◌≡◌, ℕ, ◌+◌, ◌<◌, ◌≤◌, ◌^◌, None, Some, length};
+ghost use Rattle.cf_io.specs.Causes.{HasCause};
+ghost use Rattle.rv_machine.specs.Streams.{streams_of};
+ghost use Rattle.cf_semantics.specs.Holding.{offered};
+ghost use Rattle.cf_sched.specs.Paces.{HasCounted};
+ghost use Rattle.cf_run.specs.Moving.{place_of};
+ghost use Rattle.cf_run.specs.Policies.{IsOpened, most_moves};
+ghost use Rattle.cf_run.specs.Reaching.{no_tally};
+ghost use Rattle.cf_rounds.specs.Running.{RunsRight};
+ghost use Rattle.cf_rounds.specs.Turns.{Turns, input_turned, output_turned};
+
+use crate::answer::{Clocked, Fired};
+use crate::choosing::choose;
+use crate::firing::fire;
+use crate::round_set::RoundSet;
+use cf_core::Core;
+use cf_index::Candidates;
+use cf_io::{Sink, Source};
+use cf_report::Tally;
+use cf_run::{Ran, known, over};
+use cf_sched::Pace;
+
+/// Makes the round of what the pace offers, or says why the run stops.
+fn advance<S: Source, K: Sink>(
+    core: &mut Core,
+    candidates: &mut Candidates,
+    set: &mut RoundSet,
+    pace: &mut Pace,
+    limit: u64,
+    input: &mut S,
+    output: &mut K,
+    tally: &mut Tally,
+) -> Option<Clocked>
+    requires limit { limit + 2 < 2 ^ 64 }
+    requires retired { core.old.state.retired ≤ limit }
+    requires counted { (count : ℕ) × HasCounted core.old.plan.stages count pace.old }
+    requires some { core.old.state.ending ≡ None →
+        (count : ℕ) → 0 < length (offered core.old.plan count core.old.state) }
+    requires moves { tally.old.moves < 2 ^ 63 }
+    requires meets { tally.old.meets < 2 ^ 63 }
+    requires kills { tally.old.kills < 2 ^ 63 }
+    requires dead { tally.old.dead < 2 ^ 63 }
+    ensures turns { Turns limit
+        (place_of core.old (streams_of (S.left input.old) (K.written output.old)) None tally.old)
+        (place_of core.new (streams_of (S.left input.new) (K.written output.new)) None tally.new)
+        pace.old pace.new result }
+    ensures input { HasCause (S.faults input.old) (S.faults input.new) (input_turned result) }
+    ensures output { HasCause (K.faults output.old) (K.faults output.new) (output_turned result) }
+{
+    let _ = core.layout();
+    match over(core, limit) {
+        Some(Ran::Exit(status)) => return Some(Clocked::Exit(status)),
+        Some(Ran::Trap { cause, pc, detail }) => return Some(Clocked::Trap { cause, pc, detail }),
+        Some(Ran::Limit) => return Some(Clocked::Limit),
+        Some(Ran::ReadFault) => unreachable!(),
+        Some(Ran::WriteFault) => unreachable!(),
+        Some(Ran::ReportFault) => unreachable!(),
+        None => {}
+    }
+    pace.offer(core, candidates);
+    choose(core, candidates, set);
+    match fire(core, set, pace, input, output, tally) {
+        Fired::ReadFault => Some(Clocked::ReadFault),
+        Fired::WriteFault => Some(Clocked::WriteFault),
+        Fired::Plain => None,
+        Fired::Retired(_) => None,
+        Fired::Ended(_) => None,
+    }
+}
+
+/// Runs an opened processor in rounds: makes the round of the candidates, one behind the other, until the program ends or as
+/// many instructions have retired as the limit allows, which is looked at before each round. The candidates are held back as
+/// under a policy.
+///
+/// `ReadFault` and `WriteFault` come only where the input, the output failed a call of the environment; that round is not
+/// counted, nor its move. The count of the faults of that one rose.
+///
+/// Where the processor was opened on a machine, the run is one of that machine, over an input that tells what it has left and
+/// over one that does not. It has at most 4 N K (limit + 1) moves.
+pub fn run_rounds<S: Source, K: Sink>(
+    core: &mut Core,
+    candidates: &mut Candidates,
+    limit: u64,
+    input: &mut S,
+    output: &mut K,
+    tally: &mut Tally,
+    rounds: &mut u64,
+) -> Clocked
+    requires limit { limit ≤ 1000000000 }
+    requires retired { core.old.state.retired ≤ limit }
+    requires opened { IsOpened core.old }
+    requires tally { tally.old ≡ no_tally }
+    requires rounds { rounds.old ≡ 0 }
+    ensures run { RunsRight limit
+        (place_of core.old (streams_of (S.left input.old) (K.written output.old)) None tally.old)
+        (place_of core.new (streams_of (S.left input.new) (K.written output.new)) None tally.new)
+        rounds.new result }
+    ensures bounded { tally.new.moves ≤ most_moves core.old.plan limit }
+    ensures input { HasCause (S.faults input.old) (S.faults input.new) (input_turned (Some result)) }
+    ensures output { HasCause (K.faults output.old) (K.faults output.new) (output_turned (Some result)) }
+{
+    known(core);
+    let mut pace = Pace::new(core.layout().stages());
+    let mut set = RoundSet::new();
+    loop {
+        let end = advance(
+            core, candidates, &mut set, &mut pace, limit, input, output, tally,
+        );
+        if let Some(clocked) = end {
+            return clocked;
+        }
+        *rounds += 1;
+    }
+}

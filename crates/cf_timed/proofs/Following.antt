@@ -1,0 +1,289 @@
+-- A clock that was told some moves of a run has for each place the greatest time of those that use it.
+use Rattle.std.proofs.Common.{◌≡◌, ◌∙◌, refl, sym, ap, subst, ℕ, zero, suc, ◌+◌, ◌<◌, ◌≤◌, List, [], ◌∷◌, length, map, max, Bool, true, false, cond, nat_eq, arith}
+use Rattle.std.specs.Prelude.{replicate, slice_set, ◌&&◌, ◌||◌}
+use Rattle.std.specs.List.{AllByRecursion}
+use Rattle.std.proofs.lemmas.Bool.Decides.{nat_tests}
+use Rattle.cf_layout.specs.Layout.{Plan}
+use Rattle.cf_layout.specs.Accepted.{IsAccepted}
+use Rattle.cf_bind.specs.declared.moves.Move.{Move}
+use Rattle.cf_semantics.specs.Sites.{Site, Stage, SidingCell, Lane, Fetching, Memory, Code, among, same_site}
+use Rattle.cf_index.specs.Sites.{AreThere, IsPlace, shares, used, uses_place}
+use Rattle.cf_index.proofs.SharedSites.{IsOne, is_other, same_site_is, used_ones}
+use Rattle.cf_index.proofs.SiteWords.{siding_within}
+use Rattle.cf_timed.specs.Delays.{delay}
+use Rattle.cf_timed.specs.Times.{Done, done_at, done_behind, greatest, greatest_time, time_behind, times, times_behind}
+use Rattle.cf_timed.specs.Clocks.{SiteTimes, Tells, allowed, finish, made, made_all, number_at, put_time, put_times, row_at, stamped, started, time_at}
+use Rattle.cf_timed.proofs.SiteTimes.{at_start, put_delays, put_latest, put_same, same_times}
+use Rattle.cf_timed.proofs.Greatest.{greatest_where, where_any, where_more, where_none}
+
+-- a place for which the clock has room
+abbrev pub IsKept : Site → Type 0
+IsKept (Stage i) = i < 34
+IsKept (SidingCell k c) = (k < 8) × (c < 8)
+IsKept Lane = Unit {0}
+IsKept Fetching = Unit {0}
+IsKept Memory = Unit {0}
+IsKept Code = Unit {0}
+IsKept _ = ⊥
+
+-- it has room for each place that the move uses
+abbrev pub AreKept : Plan → Move → Type 0
+AreKept plan mv = AllByRecursion IsKept (used plan mv)
+
+-- the room of the clock
+pub record HasRoom (c : SiteTimes) : Type 0 where
+  pub stages : length c.stages ≡ 34
+  pub sidings : length c.cells ≡ 8
+  pub cells : (k : ℕ) → k < 8 → length (row_at c.cells k) ≡ 8
+
+-- the greatest time of the moves that use the place
+abbrev pub last_at : Plan → List Done → Site → ℕ
+last_at plan moves x = greatest_where (λ done. uses_place plan done.move x) moves
+
+-- the clock was told the moves
+pub record Follows (plan : Plan) (delays : List ℕ) (moves : List Done) (c : SiteTimes) : Type 0 where
+  pub plan_is : c.plan ≡ plan
+  pub delays_are : c.delays ≡ delays
+  pub room : HasRoom c
+  pub latest_is : c.latest ≡ greatest_time moves
+  pub times_are : (x : Site) → IsKept x → time_at c x ≡ last_at plan moves x
+
+-- two functions that agree on the places of a list
+map_same : (f g : Site → ℕ) (xs : List Site) → AllByRecursion IsKept xs → ((x : Site) → IsKept x → f x ≡ g x) → map f xs ≡ map g xs
+map_same f g [] kept same = refl
+map_same f g (x ∷ xs) kept same =
+    let h = same x kept.0 in
+    let r = map_same f g xs kept.1 same in
+    rw (h, r) refl
+
+-- when a further move is done
+pub finish_follows : (plan : Plan) (delays : List ℕ) (moves : List Done) (c : SiteTimes) (mv : Move) → Follows plan delays moves c → AreKept plan mv → finish c mv ≡ time_behind plan delays moves mv
+unfolding finish time_behind shares
+finish_follows plan delays moves c mv h kept =
+    let p = h.plan_is in
+    let d = h.delays_are in
+    rw (p, d) (ap (λ (n : ℕ). n + delay delays mv)
+    (ap greatest (map_same (time_at c) (last_at plan moves) (used plan mv) kept h.times_are)
+    ∙ where_any (λ x done. uses_place plan done.move x) (used plan mv) moves))
+
+-- a number that was put, and the others
+number_put : (xs : List ℕ) (i j t : ℕ) → i < length xs → number_at (slice_set xs i t) j ≡ cond (nat_eq j i) t (number_at xs j)
+number_put [] i j t within = absurd (omega arith)
+number_put (x ∷ xs) zero zero t within = refl
+number_put (x ∷ xs) zero (suc j) t within = let e : nat_eq (suc j) 0 ≡ false = grind (arith, nat_tests) in rw e refl
+number_put (x ∷ xs) (suc i) zero t within = let e : nat_eq 0 (suc i) ≡ false = grind (arith, nat_tests) in rw e refl
+number_put (x ∷ xs) (suc i) (suc j) t within = let e : nat_eq (suc j) (suc i) ≡ nat_eq j i = grind (arith, nat_tests) in rw e (number_put xs i j t (omega arith))
+
+row_put : (rows : List (List ℕ)) (k m : ℕ) (row : List ℕ) → k < length rows → row_at (slice_set rows k row) m ≡ cond (nat_eq m k) row (row_at rows m)
+row_put [] k m row within = absurd (omega arith)
+row_put (r ∷ rows) zero zero row within = refl
+row_put (r ∷ rows) zero (suc m) row within = let e : nat_eq (suc m) 0 ≡ false = grind (arith, nat_tests) in rw e refl
+row_put (r ∷ rows) (suc k) zero row within = let e : nat_eq 0 (suc k) ≡ false = grind (arith, nat_tests) in rw e refl
+row_put (r ∷ rows) (suc k) (suc m) row within = let e : nat_eq (suc m) (suc k) ≡ nat_eq m k = grind (arith, nat_tests) in rw e (row_put rows k m row (omega arith))
+
+cell_put : (rows : List (List ℕ)) (k i m j t : ℕ) → k < length rows → i < length (row_at rows k) → number_at (row_at (slice_set rows k (slice_set (row_at rows k) i t)) m) j ≡ cond (nat_eq m k && nat_eq j i) t (number_at (row_at rows m) j)
+cell_put rows k i m j t within inside = ap (λ (row : List ℕ). number_at row j) (row_put rows k m (slice_set (row_at rows k) i t) within) ∙ by (nat_eq m k) refl
+  where
+    by : (same : Bool) → nat_eq m k ≡ same → number_at (cond same (slice_set (row_at rows k) i t) (row_at rows m)) j ≡ cond (same && nat_eq j i) t (number_at (row_at rows m) j)
+    by true e = let q : m ≡ k = grind (arith, nat_tests) in rw q (number_put (row_at rows k) i j t inside)
+    by false e = refl
+
+-- the time of a place behind one that was put
+pub time_put : (c : SiteTimes) (t : ℕ) (y x : Site) → HasRoom c → IsKept y → IsKept x → time_at (put_time c t y) x ≡ cond (same_site x y) t (time_at c x)
+time_put c t (Stage i) (Stage j) room ky kx = number_put c.stages i j t (omega (arith, room.stages, ky))
+time_put c t (SidingCell k i) (SidingCell m j) room ky kx = cell_put c.cells k i m j t (omega (arith, room.sidings, ky.0)) (omega (arith, room.cells k ky.0, ky.1))
+time_put c t (Stage i) (SidingCell m j) room ky kx = refl
+time_put c t (Stage i) Lane room ky kx = refl
+time_put c t (Stage i) Fetching room ky kx = refl
+time_put c t (Stage i) Memory room ky kx = refl
+time_put c t (Stage i) Code room ky kx = refl
+time_put c t (SidingCell k i) (Stage j) room ky kx = refl
+time_put c t (SidingCell k i) Lane room ky kx = refl
+time_put c t (SidingCell k i) Fetching room ky kx = refl
+time_put c t (SidingCell k i) Memory room ky kx = refl
+time_put c t (SidingCell k i) Code room ky kx = refl
+time_put c t Lane (Stage j) room ky kx = refl
+time_put c t Lane (SidingCell m j) room ky kx = refl
+time_put c t Lane Lane room ky kx = refl
+time_put c t Lane Fetching room ky kx = refl
+time_put c t Lane Memory room ky kx = refl
+time_put c t Lane Code room ky kx = refl
+time_put c t Fetching (Stage j) room ky kx = refl
+time_put c t Fetching (SidingCell m j) room ky kx = refl
+time_put c t Fetching Lane room ky kx = refl
+time_put c t Fetching Fetching room ky kx = refl
+time_put c t Fetching Memory room ky kx = refl
+time_put c t Fetching Code room ky kx = refl
+time_put c t Memory (Stage j) room ky kx = refl
+time_put c t Memory (SidingCell m j) room ky kx = refl
+time_put c t Memory Lane room ky kx = refl
+time_put c t Memory Fetching room ky kx = refl
+time_put c t Memory Memory room ky kx = refl
+time_put c t Memory Code room ky kx = refl
+time_put c t Code (Stage j) room ky kx = refl
+time_put c t Code (SidingCell m j) room ky kx = refl
+time_put c t Code Lane room ky kx = refl
+time_put c t Code Fetching room ky kx = refl
+time_put c t Code Memory room ky kx = refl
+time_put c t Code Code room ky kx = refl
+time_put c t _ _ room ky kx = absurd (search kx)
+
+-- what is put leaves the room
+room_put : (c : SiteTimes) (t : ℕ) (y : Site) → HasRoom c → IsKept y → HasRoom (put_time c t y)
+room_put c t (Stage i) room kept = record { stages = size c.stages i t ∙ room.stages; sidings = room.sidings; cells = room.cells }
+  where
+    size : (xs : List ℕ) (i t : ℕ) → length (slice_set xs i t) ≡ length xs
+    size [] i t = refl
+    size (x ∷ xs) zero t = refl
+    size (x ∷ xs) (suc i) t = ap suc (size xs i t)
+room_put c t (SidingCell k i) room kept = record { stages = room.stages; sidings = sizes c.cells k (slice_set (row_at c.cells k) i t) ∙ room.sidings; cells = cells }
+  where
+    size : (xs : List ℕ) (i t : ℕ) → length (slice_set xs i t) ≡ length xs
+    size [] i t = refl
+    size (x ∷ xs) zero t = refl
+    size (x ∷ xs) (suc i) t = ap suc (size xs i t)
+
+    sizes : (xs : List (List ℕ)) (i : ℕ) (row : List ℕ) → length (slice_set xs i row) ≡ length xs
+    sizes [] i row = refl
+    sizes (x ∷ xs) zero row = refl
+    sizes (x ∷ xs) (suc i) row = ap suc (sizes xs i row)
+
+    cells : (m : ℕ) → m < 8 → length (row_at (slice_set c.cells k (slice_set (row_at c.cells k) i t)) m) ≡ 8
+    cells m small = ap length (row_put c.cells k m (slice_set (row_at c.cells k) i t) (omega (arith, room.sidings, kept.0))) ∙ by (nat_eq m k)
+      where
+        by : (same : Bool) → length (cond same (slice_set (row_at c.cells k) i t) (row_at c.cells m)) ≡ 8
+        by true = size (row_at c.cells k) i t ∙ room.cells k kept.0
+        by false = room.cells m small
+room_put c t Lane room kept = record { stages = room.stages; sidings = room.sidings; cells = room.cells }
+room_put c t Fetching room kept = record { stages = room.stages; sidings = room.sidings; cells = room.cells }
+room_put c t Memory room kept = record { stages = room.stages; sidings = room.sidings; cells = room.cells }
+room_put c t Code room kept = record { stages = room.stages; sidings = room.sidings; cells = room.cells }
+room_put c t _ room kept = absurd (search kept)
+
+-- what is put at each of some places
+pub times_put : (c : SiteTimes) (t : ℕ) (ys : List Site) (x : Site) → HasRoom c → AllByRecursion IsKept ys → IsKept x → time_at (put_times c t ys) x ≡ cond (among x ys) t (time_at c x)
+times_put c t [] x room kept here = refl
+times_put c t (y ∷ ys) x room kept here =
+    times_put (put_time c t y) t ys x (room_put c t y room kept.0) kept.1 here
+    ∙ ap (λ (n : ℕ). cond (among x ys) t n) (time_put c t y x room kept.0 here)
+    ∙ both (same_site x y) (among x ys)
+  where
+    both : (a b : Bool) → cond b t (cond a t (time_at c x)) ≡ cond (a || b) t (time_at c x)
+    both true true = refl
+    both true false = refl
+    both false true = refl
+    both false false = refl
+
+pub room_times : (c : SiteTimes) (t : ℕ) (ys : List Site) → HasRoom c → AllByRecursion IsKept ys → HasRoom (put_times c t ys)
+room_times c t [] room kept = room
+room_times c t (y ∷ ys) room kept = room_times (put_time c t y) t ys (room_put c t y room kept.0) kept.1
+
+-- a place that is used is no later than the latest of those that are
+reaches : (f : Site → ℕ) (x : Site) (xs : List Site) → among x xs ≡ true → f x ≤ greatest (map f xs)
+reaches f x [] e = absurd (cc)
+reaches f x (y ∷ ys) e = by (same_site x y) refl (reaches f x ys)
+  where
+    by : (same : Bool) → same_site x y ≡ same → (among x ys ≡ true → f x ≤ greatest (map f ys)) → f x ≤ max (f y) (greatest (map f ys))
+    by true s rest = let q = same_site_is x y s in rw q (omega arith)
+    by false s rest = let r = rest (rw s at e) in omega (arith, r)
+
+-- the time of a place behind a move more
+place_more : (plan : Plan) (moves : List Done) (c : SiteTimes) (mv : Move) (t : ℕ) (x : Site) → HasRoom c → AreKept plan mv → IsKept x → time_at c x ≡ last_at plan moves x → (uses_place plan mv x ≡ true → last_at plan moves x ≤ t) → time_at (put_times (allowed c t) t (used plan mv)) x ≡ last_at plan (done_at mv t ∷ moves) x
+unfolding uses_place
+place_more plan moves c mv t x room kept here before_is late =
+    times_put (allowed c t) t (used plan mv) x (record { stages = room.stages; sidings = room.sidings; cells = room.cells }) kept here
+    ∙ ap (λ (n : ℕ). cond (among x (used plan mv)) t n) (same_times c t x ∙ before_is)
+    ∙ by (among x (used plan mv)) refl
+    ∙ sym (where_more (λ done. uses_place plan done.move x) (done_at mv t) moves)
+  where
+    by : (b : Bool) → among x (used plan mv) ≡ b → cond b t (last_at plan moves x) ≡ max (cond b t 0) (last_at plan moves x)
+    by true e = let g = late e in omega (arith, g)
+    by false e = omega arith
+
+-- one move more has the latest time, or not
+latest_more : (moves : List Done) (mv : Move) (t : ℕ) → max (greatest_time moves) t ≡ greatest_time (done_at mv t ∷ moves)
+unfolding greatest_time
+latest_more moves mv t = omega arith
+
+-- no place that a move uses has a later time than the move
+no_later : (plan : Plan) (delays : List ℕ) (moves : List Done) (mv : Move) (x : Site) → uses_place plan mv x ≡ true → last_at plan moves x ≤ time_behind plan delays moves mv
+unfolding time_behind shares uses_place
+no_later plan delays moves mv x e =
+    let r = reaches (last_at plan moves) x (used plan mv) e in
+    let a = where_any (λ y done. uses_place plan done.move y) (used plan mv) moves in
+    omega (arith, r, a)
+
+-- a clock that is told a move more
+pub follows_more : (plan : Plan) (delays : List ℕ) (moves : List Done) (c : SiteTimes) (mv : Move) → Follows plan delays moves c → AreKept plan mv → Follows plan delays (done_behind plan delays moves mv ∷ moves) (stamped c mv (time_behind plan delays moves mv))
+follows_more plan delays moves c mv h kept =
+    let t : ℕ = time_behind plan delays moves mv in
+    subst (λ (l : Plan). Follows plan delays (done_behind plan delays moves mv ∷ moves) (put_times (allowed c t) t (used l mv))) (sym h.plan_is) (record {
+      plan_is = put_same (allowed c t) t (used plan mv) ∙ h.plan_is;
+      delays_are = put_delays (allowed c t) t (used plan mv) ∙ h.delays_are;
+      room = room_times (allowed c t) t (used plan mv) (record { stages = h.room.stages; sidings = h.room.sidings; cells = h.room.cells }) kept;
+      latest_is = put_latest (allowed c t) t (used plan mv) ∙ ap (λ (n : ℕ). max n t) h.latest_is ∙ latest_more moves mv t;
+      times_are = λ x here. place_more plan moves c mv t x h.room kept here (h.times_are x here) (no_later plan delays moves mv x);
+    })
+
+-- the clock at the start
+zero_row : (m n k : ℕ) → k < m → length (row_at (replicate m (replicate n 0)) k) ≡ n
+zero_row zero n k within = absurd (omega arith)
+zero_row (suc m) n zero within = size n
+  where
+    size : (n : ℕ) → length {A = ℕ} (replicate n 0) ≡ n
+    size zero = refl
+    size (suc n) = ap suc (size n)
+zero_row (suc m) n (suc k) within = zero_row m n k (omega arith)
+
+started_at : (plan : Plan) (delays : List ℕ) (x : Site) → IsKept x → time_at (started plan delays) x ≡ last_at plan [] x
+started_at plan delays x here = let a = at_start plan delays x in let b = where_none (λ done. uses_place plan done.move x) in omega (arith, a, b)
+
+pub follows_start : (plan : Plan) (delays : List ℕ) → Follows plan delays [] (started plan delays)
+unfolding started greatest_time
+follows_start plan delays = record {
+  plan_is = refl;
+  delays_are = refl;
+  room = record { stages = refl; sidings = refl; cells = zero_row 8 8 };
+  latest_is = refl;
+  times_are = started_at plan delays;
+}
+
+-- what the layout has, the clock has room for
+there_kept : (plan : Plan) (x : Site) → IsAccepted plan → is_other x ≡ false → IsPlace plan x → IsKept x
+there_kept plan (Stage i) a o h = omega (arith, a.stages.1, h.1)
+there_kept plan (SidingCell k c) a o h = let w = siding_within plan k a h.0 in (w.2, omega (arith, w.1, h.1))
+there_kept plan Lane a o h = tt
+there_kept plan Fetching a o h = tt
+there_kept plan Memory a o h = tt
+there_kept plan Code a o h = tt
+there_kept plan _ a o h = absurd (cc)
+
+all_kept : (plan : Plan) (xs : List Site) → IsAccepted plan → AllByRecursion IsOne xs → AllByRecursion (IsPlace plan) xs → AllByRecursion IsKept xs
+all_kept plan [] a o h = tt
+all_kept plan (x ∷ xs) a o h = (there_kept plan x a o.0 h.0, all_kept plan xs a o.1 h.1)
+
+pub moves_kept : (plan : Plan) (mv : Move) → IsAccepted plan → AreThere plan mv → AreKept plan mv
+moves_kept plan mv a there = all_kept plan (used plan mv) a (used_ones plan mv) there
+
+-- so it tells when a further move is done
+pub follows_tells : (plan : Plan) (delays : List ℕ) (moves : List Done) (c : SiteTimes) → IsAccepted plan → Follows plan delays moves c → Tells plan delays moves c
+follows_tells plan delays moves c a h = record {
+  plan_is = h.plan_is;
+  delays_are = h.delays_are;
+  latest_is = h.latest_is;
+  finishes = λ mv there. finish_follows plan delays moves c mv h (moves_kept plan mv a there);
+}
+
+-- and so does a clock that is told the moves of a run
+pub follows_all : (plan : Plan) (delays : List ℕ) (earlier : List Done) (c : SiteTimes) (moves : List Move) → IsAccepted plan → AllByRecursion (AreThere plan) moves → Follows plan delays earlier c → Follows plan delays (times_behind plan delays earlier moves) (made_all c moves)
+unfolding made
+follows_all plan delays earlier c [] a there h = h
+follows_all plan delays earlier c (mv ∷ moves) a there h =
+    let kept = moves_kept plan mv a there.0 in
+    let e = finish_follows plan delays earlier c mv h kept in
+    let next : Follows plan delays (done_behind plan delays earlier mv ∷ earlier) (stamped c mv (finish c mv)) = rw e (follows_more plan delays earlier c mv h kept) in
+    follows_all plan delays (done_behind plan delays earlier mv ∷ earlier) (stamped c mv (finish c mv)) moves a there.1 next
+
+pub run_told : (plan : Plan) (delays : List ℕ) (moves : List Move) → IsAccepted plan → AllByRecursion (AreThere plan) moves → Tells plan delays (times plan delays moves) (made_all (started plan delays) moves)
+unfolding times
+run_told plan delays moves a there = follows_tells plan delays (times_behind plan delays [] moves) (made_all (started plan delays) moves) a (follows_all plan delays [] (started plan delays) moves a there (follows_start plan delays))

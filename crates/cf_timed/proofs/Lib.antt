@@ -1,0 +1,11 @@
+pub mod SiteTimes
+pub mod Told
+pub mod Greatest
+pub mod Following
+pub mod Chaining
+pub mod Swapping
+pub mod Leasts
+pub mod Room
+pub mod Simulated
+pub mod Rightly
+pub mod Exchanging

@@ -1,0 +1,12 @@
+use Rattle.std.proofs.Common.{◌≡◌, map}
+use Rattle.std.specs.Prelude.{◌==◌, filter}
+use Rattle.cf_layout.specs.Layout.{recover_stage}
+use Rattle.cf_semantics.specs.Candidates.{counted_from}
+use Rattle.cf_index.specs.Sites.{way_out}
+use Rattle.cf_timed.specs.Clocks.{time_at}
+use Rattle.cf_timed.specs.Times.{greatest}
+use Rattle.cf_timed.proofs.clock.Clock.exits.Given as goal
+
+-- the greatest time of those that were gone over
+abbrev pub invariant-loop-k : goal.invariant-loop-k
+invariant-loop-k l = l.most ≡ greatest (map (time_at l.self) (map (way_out l.self.plan) (filter (λ k. recover_stage l.self.plan k == l.i) (counted_from 0 l.k))))

@@ -1,0 +1,66 @@
+-- What a text of delays tells (a format of this project): a kind of move and its delay a line, comments and lines without words aside.
+use Rattle.std.specs.Prelude.{ℕ, ◌+◌, Bool, Option, Some, None, Result, Ok, Err, List, [], ◌∷◌, length, map, drop, replicate, slice_get, slice_set, unwrap_or, ◌&&◌, nat_le, nat_lt, if◌then◌else◌}
+use Rattle.rv_text.specs.Lines.{text_lines}
+use Rattle.rv_text.specs.Numbers.{numeral}
+use Rattle.cf_scripts.specs.Kinds.{place_named}
+use Rattle.cf_scripts.specs.MoveLines.{is_ascii}
+use Rattle.cf_scripts.specs.Scripts.{is_skipped}
+use Rattle.cf_scripts.specs.Words.{words_of, first_word}
+use Rattle.cf_semantics.specs.Options.{on, is_some}
+use Rattle.cf_timed.specs.declared.refusal.DelayErr.{DelayErr}
+use Rattle.cf_timed.specs.declared.refusal.DelayKind.{DelayKind}
+use Rattle.cf_timed.specs.declared.refusal.DelayKind.TheVariants.{NotAscii, UnknownKind, KindTwice, BadDelay, ExtraWords}
+
+-- the first refusal, or what the second step makes of the first one's answer
+abbrev pub and_then : {A B E : Type 0} → Result A E → (A → Result B E) → Result B E
+and_then (Ok a) step = step a
+and_then (Err e) step = Err e
+
+-- what must be there
+abbrev pub needed : {A : Type 0} → DelayKind → Option A → Result A DelayKind
+needed e (Some a) = Ok a
+needed e None = Err e
+
+-- the delay that a word spells: one to four decimal digits, from 1 to 1000
+unfoldable pub delay_word : List ℕ → Option ℕ
+delay_word word = on (numeral 10 4 word) None (λ n. if nat_le 1 n && nat_le n 1000 then Some n else None)
+
+-- for each kind the delay that a line has told, if one has
+abbrev pub unnamed : List (Option ℕ)
+unnamed = replicate 14 None
+
+-- a line has told the delay of this kind
+abbrev pub is_named : List (Option ℕ) → ℕ → Bool
+is_named named place = is_some (unwrap_or (slice_get named place) None)
+
+-- what some words tell beside the kinds above them: a kind that was not told yet, its delay, and nothing more
+unfoldable pub words_told : List (Option ℕ) → List (List ℕ) → Result (List (Option ℕ)) DelayKind
+words_told named words =
+    and_then (needed UnknownKind (place_named (first_word words))) (λ place.
+    if is_named named place then Err KindTwice else
+    and_then (needed BadDelay (delay_word (first_word (drop 1 words)))) (λ ticks.
+    if nat_lt (length words) 3 then Ok (slice_set named place (Some ticks)) else Err ExtraWords))
+
+-- what a line tells
+unfoldable pub line_told : List (Option ℕ) → List ℕ → Result (List (Option ℕ)) DelayKind
+line_told named line = if is_ascii line then words_told named (words_of line) else Err NotAscii
+
+-- the refusal with the number of its line
+abbrev pub in_line : ℕ → Result (List (Option ℕ)) DelayKind → Result (List (Option ℕ)) DelayErr
+in_line line (Ok named) = Ok named
+in_line line (Err kind) = Err (record { line = line; kind = kind })
+
+-- what the lines behind so many others tell, beside the kinds that those have told; lines are counted from 1
+abbrev pub lines_told : ℕ → List (Option ℕ) → List (List ℕ) → Result (List (Option ℕ)) DelayErr
+lines_told above named [] = Ok named
+lines_told above named (line ∷ lines) =
+    if is_skipped line then lines_told (above + 1) named lines
+    else and_then (in_line (above + 1) (line_told named line)) (λ more. lines_told (above + 1) more lines)
+
+-- a kind that no line tells has delay 1
+abbrev pub filled : List (Option ℕ) → List ℕ
+filled named = map (λ told. unwrap_or told 1) named
+
+-- the delays that a text tells, or the first refusal
+unfoldable pub delays_in : List ℕ → Result (List ℕ) DelayErr
+delays_in text = and_then (lines_told 0 unnamed (text_lines text)) (λ named. Ok (filled named))

@@ -1,0 +1,9 @@
+pub mod Delays
+pub mod DelayLines
+pub mod Times
+pub mod Chains
+pub mod Exchanges
+pub mod Clocks
+pub mod Earliest
+pub mod Timings
+pub mod TimedRuns

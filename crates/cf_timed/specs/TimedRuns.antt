@@ -1,0 +1,40 @@
+-- A timed run: the moves that are done first, one after another, and what the clock tells of them.
+use Rattle.std.specs.Prelude.{◌≡◌, ℕ, List, [], None}
+use Rattle.rv_machine.specs.Streams.{Streams}
+use Rattle.cf_core.specs.Processors.{Processor}
+use Rattle.cf_report.specs.declared.tally.Tally.{Tally}
+use Rattle.cf_run.specs.declared.answer.Ran.{Ran as Answer}
+use Rattle.cf_run.specs.declared.answer.Ran.TheVariants as ran
+use Rattle.cf_run.specs.declared.answer.Scripted.TheVariants.{Ran}
+use Rattle.cf_run.specs.declared.show.Show.TheVariants as show
+use Rattle.cf_run.specs.Ending.{EndsSequentially}
+use Rattle.cf_run.specs.Moving.{Place, place_of}
+use Rattle.cf_run.specs.Policies.{RunsRight}
+use Rattle.cf_run.specs.Reaching.{no_tally}
+use Rattle.cf_timed.specs.declared.answer.Timed.{Timed}
+use Rattle.cf_timed.specs.declared.answer.Timed.TheVariants.{Exit, Trap, Limit, ReadFault, WriteFault}
+use Rattle.cf_timed.specs.Clocks.{SiteTimes, Tells}
+use Rattle.cf_timed.specs.Earliest.{behind_earliest, earliest}
+use Rattle.cf_timed.specs.Times.{Done, times}
+
+-- the answer of a timed run as that of any run
+abbrev pub answer_of : Timed → Answer
+answer_of (Exit status) = ran.Exit status
+answer_of (Trap cause pc detail) = ran.Trap cause pc detail
+answer_of Limit = ran.Limit
+answer_of ReadFault = ran.ReadFault
+answer_of WriteFault = ran.WriteFault
+
+-- where a timed run begins, which reports nothing
+abbrev pub begins : Processor → Streams → Place
+begins core streams = place_of core streams None no_tally
+
+-- from there it is a run of the policy that picks what is done first, right by the sequential machine; so many moves were made, and the clock was told just these
+pub record RunsTimed (delays : List ℕ) (limit : ℕ) (begin : Place) (core : Processor) (streams : Streams) (clock : SiteTimes) (moves : ℕ) (answer : Timed) : Type 0 where
+  pub tally : Tally
+  pub counted : tally.moves ≡ moves
+  pub picked : List Done
+  pub right : RunsRight (earliest begin.core.plan delays) (behind_earliest begin.core.plan delays) limit show.Report begin (place_of core streams None tally) [] picked (answer_of answer)
+  pub told : Tells begin.core.plan delays (times begin.core.plan delays right.moves) clock
+  -- it ends as the sequential machine does under the same limit
+  pub ends : EndsSequentially limit begin (place_of core streams None tally) (Ran (answer_of answer))

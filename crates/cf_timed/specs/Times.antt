@@ -1,0 +1,45 @@
+-- Times of the moves of a run: a move begins where all earlier moves that use a place which it uses are done.
+use Rattle.std.specs.Prelude.{ℕ, ◌+◌, List, [], ◌∷◌, map, filter, max}
+use Rattle.cf_layout.specs.Layout.{Plan}
+use Rattle.cf_bind.specs.declared.moves.Move.{Move}
+use Rattle.cf_index.specs.Sites.{shares}
+use Rattle.cf_timed.specs.Delays.{delay}
+
+-- a move that was made, and when it is done
+pub record Done : Type 0 where
+  pub move : Move
+  pub time : ℕ
+
+-- the move with that time
+abbrev pub done_at : Move → ℕ → Done
+done_at mv time = record { move = mv; time = time }
+
+-- the greatest of some numbers, and 0 where there is none
+abbrev pub greatest : List ℕ → ℕ
+greatest [] = 0
+greatest (t ∷ ts) = max t (greatest ts)
+
+-- the greatest time of some moves
+unfoldable pub greatest_time : List Done → ℕ
+greatest_time moves = greatest (map (λ done. done.time) moves)
+
+-- those of the earlier moves that use a place which the move uses
+abbrev pub before : Plan → Move → List Done → List Done
+before plan mv earlier = filter (λ done. shares plan mv done.move) earlier
+
+-- the time of a move behind earlier ones: the greatest time of those that use a place which it uses, and its delay
+unfoldable pub time_behind : Plan → List ℕ → List Done → Move → ℕ
+time_behind plan delays earlier mv = greatest_time (before plan mv earlier) + delay delays mv
+
+-- the move behind earlier ones, with its time
+abbrev pub done_behind : Plan → List ℕ → List Done → Move → Done
+done_behind plan delays earlier mv = done_at mv (time_behind plan delays earlier mv)
+
+-- the moves of a run behind earlier ones, each with its time; the last stands first
+abbrev pub times_behind : Plan → List ℕ → List Done → List Move → List Done
+times_behind plan delays earlier [] = earlier
+times_behind plan delays earlier (mv ∷ moves) = times_behind plan delays (done_behind plan delays earlier mv ∷ earlier) moves
+
+-- the moves of a run, each with its time; the last stands first
+unfoldable pub times : Plan → List ℕ → List Move → List Done
+times plan delays moves = times_behind plan delays [] moves

@@ -1,0 +1,36 @@
+-- The policy of a timed run as it is carried out: by a clock, which is told a move once it was made.
+use Rattle.std.specs.Prelude.{ℕ, List, Option, slice_get}
+use Rattle.cf_bind.specs.declared.moves.Move.{Move}
+use Rattle.cf_semantics.specs.Options.{on}
+use Rattle.cf_run.specs.declared.answer.Ran.{Ran as Answer}
+use Rattle.cf_run.specs.declared.answer.Ran.TheVariants as ran
+use Rattle.cf_timed.specs.Clocks.{SiteTimes, capped, stamped}
+use Rattle.cf_timed.specs.Earliest.{first_least}
+
+-- the clock, and the last move that was picked, if there was one, of which it was not told yet
+pub record Pending : Type 0 where
+  pub clock : SiteTimes
+  pub last : Option Move
+
+-- the clock behind a move, whose times stop at the greatest number of 64 bits
+unfoldable pub marked : SiteTimes → Move → SiteTimes
+marked c mv = stamped c mv (capped c mv)
+
+-- the clock, told of the last move
+unfoldable pub told : Pending → SiteTimes
+told p = on p.last p.clock (marked p.clock)
+
+-- what it picks of some moves
+unfoldable pub pending_pick : Pending → List Move → ℕ
+pending_pick p moves = first_least (capped (told p)) moves
+
+-- and what it is behind that
+unfoldable pub behind_pick : Pending → List Move → Pending
+behind_pick p moves = record { clock = told p; last = slice_get moves (pending_pick p moves) }
+
+-- the clock behind the moves that were made: a fault comes at a move that was picked and not made
+unfoldable pub clock_behind : Pending → Answer → SiteTimes
+clock_behind p ran.ReadFault = p.clock
+clock_behind p ran.WriteFault = p.clock
+clock_behind p ran.ReportFault = p.clock
+clock_behind p answer = told p

@@ -1,0 +1,20 @@
+//! How a timed run finishes.
+
+/// How a timed run finishes.
+#[derive(Clone, Copy, PartialEq, Eq)]
+pub enum Timed {
+    /// The program ended itself with this status.
+    Exit(u8),
+
+    /// An instruction trapped.
+    Trap { cause: u8, pc: u32, detail: u32 },
+
+    /// So many instructions have retired as the limit allows.
+    Limit,
+
+    /// The input failed in a call of the environment.
+    ReadFault,
+
+    /// The output failed in a call of the environment.
+    WriteFault,
+}

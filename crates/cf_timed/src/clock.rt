@@ -1,0 +1,139 @@
+//! The clock of a timed run.
+
+ghost use Rattle.std.specs.Prelude.{◌≡◌, ℕ, ◌+◌, ◌-◌, ◌<◌, ◌≤◌, ◌^◌, min};
+ghost use Rattle.cf_index.specs.Sites.{AreThere};
+ghost use Rattle.cf_timed.specs.Delays.{AreDelays, delay};
+ghost use Rattle.cf_timed.specs.Clocks.{NoneLater, allowed, capped, finish, made, stamped, started};
+
+use crate::delays::Delays;
+use cf_bind::Move;
+use cf_layout::Layout;
+use std::marker::Model;
+
+/// For each place of a processor the time of the last move that used it: of each stage by its number, of each cell of a siding,
+/// of the lane, of what fetch does, of the memory and of the code.
+#[derive(Clone, Copy)]
+pub struct Clock {
+    pub(crate) layout: Layout,
+    pub(crate) delays: Delays,
+    pub(crate) stages: [u64; 34],
+    pub(crate) cells: [[u64; 8]; 8],
+    pub(crate) lane: u64,
+    pub(crate) fetch: u64,
+    pub(crate) memory: u64,
+    pub(crate) code: u64,
+    pub(crate) latest: u64,
+}
+
+impl Model for Clock {
+    ghost use Rattle.cf_timed.specs.Clocks.{NoneLater, SiteTimes};
+
+    ghost Value = { SiteTimes };
+
+    ghost view = { λ c. record { plan = c.layout; delays = c.delays; stages = c.stages; cells = c.cells; lane = c.lane; fetch = c.fetch; memory = c.memory; code = c.code; latest = c.latest } };
+
+    ghost invariant = { λ c. NoneLater (record { plan = c.layout; delays = c.delays; stages = c.stages; cells = c.cells; lane = c.lane; fetch = c.fetch; memory = c.memory; code = c.code; latest = c.latest }) };
+
+    ghost inverse = { λ c. record { layout = c.plan; delays = c.delays; stages = c.stages; cells = c.cells; lane = c.lane; fetch = c.fetch; memory = c.memory; code = c.code; latest = c.latest } };
+}
+
+impl Clock {
+    /// No move was made yet: all times are 0.
+    #[tactic(auto, unfolding(crate::specs::Clocks::started))]
+    pub fn new(layout: &Layout, delays: Delays) -> Clock
+        ensures { result ≡ started layout.now delays }
+    {
+        Clock {
+            layout: *layout,
+            delays,
+            stages: [0; 34],
+            cells: [[0; 8]; 8],
+            lane: 0,
+            fetch: 0,
+            memory: 0,
+            code: 0,
+            latest: 0,
+        }
+    }
+
+    /// The greatest time so far, or 0. No place has a later one.
+    pub fn greatest(&self) -> u64
+        ensures greatest { result ≡ self.now.latest }
+        ensures none_later { NoneLater self.now }
+    {
+        self.latest
+    }
+
+    /// What every clock keeps: a delay of each kind of move. It does nothing.
+    pub(crate) fn known(&self)
+        ensures { AreDelays self.now.delays }
+    {
+        self.delays.known();
+    }
+
+    /// The layout.
+    #[inline(always)]
+    pub(crate) fn layout(&self) -> &Layout
+        ensures { result.now ≡ self.now.plan }
+    {
+        &self.layout
+    }
+
+    /// How many ticks the move takes.
+    #[inline(always)]
+    fn delay(&self, mv: Move) -> u64
+        ensures delay { result ≡ delay self.now.delays mv }
+        ensures few { result ≤ 1000 }
+    {
+        u64::from(self.delays.of(mv))
+    }
+
+    /// When the move is done if it is made now, or the greatest u64 where that is later.
+    #[inline(always)]
+    #[tactic(auto, unfolding(crate::specs::Clocks::finish))]
+    pub(crate) fn capped(&self, mv: Move) -> u64
+        ensures { result ≡ capped self.now mv }
+    {
+        self.reach(mv).saturating_add(self.delay(mv))
+    }
+
+    /// Takes note of a move that is done at this time.
+    #[inline(always)]
+    pub(crate) fn stamp(&mut self, mv: Move, time: u64)
+        ensures { self.new ≡ stamped self.old mv time }
+    {
+        self.allow(time);
+        self.put(mv, time);
+    }
+
+    /// The greatest time is this one, if it is later.
+    #[inline(always)]
+    fn allow(&mut self, time: u64)
+        ensures { self.new ≡ allowed self.old time }
+    {
+        self.latest = self.latest.max(time);
+    }
+
+    /// When the move is done if it is made now: the greatest time of the places that it uses, and its delay. The layout has each
+    /// stage and each cell that the move uses.
+    #[tactic(auto, using(crate::proofs::SiteTimes::reach_within), unfolding(crate::specs::Clocks::finish))]
+    pub fn finish(&self, mv: Move) -> u64
+        requires sites { AreThere self.now.plan mv }
+        requires early { self.now.latest < 2 ^ 62 }
+        ensures { result ≡ finish self.now mv }
+    {
+        let _latest = self.greatest();
+        self.reach(mv) + self.delay(mv)
+    }
+
+    /// Takes note of a move that is made now. The layout has each stage and each cell that it uses.
+    #[tactic(auto, unfolding(crate::specs::Clocks::made))]
+    pub fn made(&mut self, mv: Move)
+        requires sites { AreThere self.old.plan mv }
+        requires early { self.old.latest < 2 ^ 62 }
+        ensures { self.new ≡ made self.old mv }
+    {
+        let time = self.finish(mv);
+        self.stamp(mv, time);
+    }
+}

@@ -1,0 +1,23 @@
+//! Timed schedules: each kind of move takes so many ticks, and the move that is done first is made next.
+#![tactic(auto)]
+
+mod answer;
+mod clock;
+mod delays;
+pub mod laws;
+mod putting;
+mod reaching;
+mod reading;
+mod refusal;
+mod run;
+mod timing;
+
+pub use answer::Timed;
+pub use clock::Clock;
+pub use delays::Delays;
+pub use reading::read_delays;
+pub use refusal::{DelayErr, DelayKind};
+pub use run::run_timed;
+
+#[cfg(test)]
+mod tests;

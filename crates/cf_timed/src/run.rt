@@ -1,0 +1,99 @@
+//! The timed run.
+
+ghost use Rattle.std.specs.Prelude.{◌≡◌, ◌≢◌, ◌+◌, ◌-◌, ◌<◌, ◌≤◌, ◌^◌, Some, length};
+ghost use Rattle.cf_io.specs.Causes.{HasCause};
+ghost use Rattle.rv_machine.specs.Streams.{streams_of};
+ghost use Rattle.cf_layout.specs.Accepted.{IsAccepted};
+ghost use Rattle.cf_run.specs.declared.answer.Ran.TheVariants as answers;
+ghost use Rattle.cf_run.specs.Policies.{IsOpened, input_stopped, most_moves, output_stopped};
+ghost use Rattle.cf_timed.specs.Clocks.{started};
+ghost use Rattle.cf_timed.specs.Delays.{AreDelays};
+ghost use Rattle.cf_timed.specs.TimedRuns.{RunsTimed, answer_of, begins};
+ghost use Rattle.cf_timed.specs.Timings.{clock_behind};
+
+use crate::answer::Timed;
+use crate::clock::Clock;
+use crate::timing::Timing;
+use cf_core::Core;
+use cf_index::Candidates;
+use cf_io::{Nowhere, Sink, Source};
+use cf_report::Tally;
+use cf_run::{Ran, Show, known, run_policy};
+
+/// Runs an opened processor by a clock that was told no move: of the candidates that any policy would be offered, the one that is done
+/// first is made, and the first in the order of all moves where several are. Until the program ends, as many instructions have
+/// retired as the limit allows, or a fault comes; these are looked at in this order before each move. The clock is told the moves
+/// that were made, and their number is given. It takes no memory, and always comes to an end.
+///
+/// `ReadFault` and `WriteFault` come only where the input, the output failed a call of the environment; the count of its faults
+/// rose, and that move is neither counted nor told to the clock.
+pub fn run_timed<S: Source, K: Sink>(
+    core: &mut Core,
+    candidates: &mut Candidates,
+    clock: &mut Clock,
+    limit: u64,
+    input: &mut S,
+    output: &mut K,
+    moves: &mut u64,
+) -> Timed
+    requires limit { limit ≤ 1000000000 }
+    requires retired { core.old.state.retired ≤ limit }
+    requires opened { IsOpened core.old }
+    requires clock { clock.old ≡ started core.old.plan clock.old.delays }
+    requires moves { moves.old ≡ 0 }
+    ensures run { RunsTimed clock.old.delays limit
+        (begins core.old (streams_of (S.left input.old) (K.written output.old)))
+        core.new (streams_of (S.left input.new) (K.written output.new)) clock.new moves.new result }
+    ensures bounded { moves.new ≤ most_moves core.old.plan (core.new.state.retired - core.old.state.retired) }
+    ensures input { HasCause (S.faults input.old) (S.faults input.new) (input_stopped (Some (answer_of result))) }
+    ensures output { HasCause (K.faults output.old) (K.faults output.new) (output_stopped (Some (answer_of result))) }
+{
+    known(core);
+    clock.known();
+    let mut timing = Timing::new(*clock);
+    let mut nowhere = Nowhere;
+    let mut tally = Tally {
+        moves: 0,
+        meets: 0,
+        kills: 0,
+        dead: 0,
+    };
+    let ran = run_policy(
+        core,
+        candidates,
+        &mut timing,
+        limit,
+        Show::Report,
+        input,
+        output,
+        &mut nowhere,
+        &mut tally,
+    );
+    *moves = tally.moves;
+    *clock = clock_behind(&timing, ran);
+    timed(ran)
+}
+
+/// The clock behind the moves that were made: a fault comes at a move that was picked and not made.
+#[tactic(auto, unfolding(crate::specs::Timings::clock_behind))]
+fn clock_behind(timing: &Timing, ran: Ran) -> Clock
+    ensures { result ≡ clock_behind timing.now ran }
+{
+    match ran {
+        Ran::ReadFault | Ran::WriteFault | Ran::ReportFault => timing.clock(),
+        Ran::Exit(_) | Ran::Trap { .. } | Ran::Limit => timing.told(),
+    }
+}
+
+/// The answer of a run whose report never fails.
+fn timed(ran: Ran) -> Timed
+    ensures { ran ≢ answers.ReportFault → answer_of result ≡ ran }
+{
+    match ran {
+        Ran::Exit(status) => Timed::Exit(status),
+        Ran::Trap { cause, pc, detail } => Timed::Trap { cause, pc, detail },
+        Ran::Limit => Timed::Limit,
+        Ran::ReadFault => Timed::ReadFault,
+        Ran::WriteFault | Ran::ReportFault => Timed::WriteFault,
+    }
+}

@@ -1,0 +1,48 @@
+//! Delays and their refusals, by the format.
+use super::*;
+use cf_bind::Move;
+use std::process::Abort;
+
+/// The text tells delays.
+fn delays(rt: &impl Abort, text: &[u8]) -> Delays {
+    assert!(rt; text.len() <= 65_536);
+    read_delays(text).expect(rt, "delays")
+}
+
+/// Spellings of the format: zeros in front, a carriage return, comments and lines without words.
+#[test]
+fn delays_that_are_told(rt: HostRuntime) {
+    let told = delays(
+        &rt,
+        b"climb 10\r\n\n \t\n# any \x80 byte\nserve\t0007 \nexit 1000",
+    );
+    assert_eq!(rt; told.of(Move::Climb(3)), 10);
+    assert_eq!(rt; told.of(Move::Serve), 7);
+    assert_eq!(rt; told.of(Move::Exit), 1000);
+    assert_eq!(rt; told.of(Move::Emit), 1);
+}
+
+/// What is refused first, and in which line.
+#[test]
+fn refusals(rt: HostRuntime) {
+    let rows = [
+        (b"leave 0".as_slice(), 1, DelayKind::BadDelay),
+        (b"emit 2\nemit 2", 2, DelayKind::KindTwice),
+        (b"\njump 2", 2, DelayKind::UnknownKind),
+        (b"emit", 1, DelayKind::BadDelay),
+        (b"emit 1001", 1, DelayKind::BadDelay),
+        (b"emit 00001", 1, DelayKind::BadDelay),
+        (b"emit 1 2", 1, DelayKind::ExtraWords),
+        (b"emit x 2", 1, DelayKind::BadDelay),
+        (b"emit \x80", 1, DelayKind::NotAscii),
+        (b"emit\r", 1, DelayKind::UnknownKind),
+        (b" # note", 1, DelayKind::UnknownKind),
+    ];
+    for (text, line, kind) in rows {
+        assert!(rt; text.len() <= 65_536);
+        assert!(rt;
+            matches!(read_delays(text), Err(refusal) if refusal == DelayErr { line, kind }),
+            "another refusal"
+        );
+    }
+}

@@ -1,0 +1,54 @@
+-- What the command `gen` with `--run` answers, and what it leaves of the streams.
+use Rattle.std.specs.Prelude.{◌≡◌, ◌⊎◌, ℕ, List, Option}
+use Rattle.rv_machine.specs.Hart.{Hart}
+use Rattle.rv_machine.specs.Streams.{Streams}
+use Rattle.cf_core.specs.Processors.{opened as opened_on}
+use Rattle.cf_gen.specs.Program.{program_text}
+use Rattle.cf_layout.specs.Plain.{plain}
+use Rattle.cf_run.specs.declared.show.Show.TheVariants.{Report}
+use Rattle.cf_words.specs.Options.{default_limit}
+use Rattle.cfpp_cli.specs.Image.{IsProgram, opened}
+use Rattle.cfpp_cli.specs.Programs.{IsNoProgram}
+use Rattle.cfpp_cli.specs.Run.{chosen_by, BreaksCore, ComesOf}
+use Rattle.cfpp_cli.specs.Schedules.{drawn_from}
+use Rattle.cfpp_cli.specs.Sources.{IsAssembly, IsUnassembled}
+use Rattle.cfpp_cli.specs.declared.status.Status.{Status}
+
+-- the hart on which the program begins, whose text is assembled to a file
+pub record StartsDrawn (number : ℕ) (hart : Hart) : Type 0 where
+  pub file : List ℕ
+  pub assembly : IsAssembly (program_text number) file
+  pub program : IsProgram file
+  pub begins : hart ≡ opened file
+
+-- there is none: the assembler or the loader refuses the text, or memory for it was refused
+abbrev pub IsUndrawn : ℕ → Status → List ℕ → Type 0
+IsUndrawn number answer report =
+    IsUnassembled (program_text number) answer report
+    ⊎ ((file : List ℕ) × IsAssembly (program_text number) file × IsNoProgram file answer report)
+
+-- the program was run on the built-in layout, by moves that are drawn from its number
+pub record RunsDrawn (number : ℕ) (before after : Streams) (blank : Option (List ℕ)) (answer : Status)
+    (report : List ℕ) : Type 0 where
+  pub hart : Hart
+  pub starts : StartsDrawn number hart
+  pub comes : ComesOf default_limit Report plain hart (drawn_from number) before after blank answer report
+
+-- it was not, and the streams were left alone
+pub record RefusesDrawn (number : ℕ) (before after : Streams) (answer : Status) (report : List ℕ) :
+    Type 0 where
+  pub lacks : IsUndrawn number answer report
+  pub streams : after ≡ before
+
+-- the answer of `gen` with `--run` and its report, behind what the report told before
+abbrev pub AnswersDrawn : ℕ → Streams → Streams → Option (List ℕ) → Status → List ℕ → Type 0
+AnswersDrawn number before after blank answer report =
+    RunsDrawn number before after blank answer report
+    ⊎ RefusesDrawn number before after answer report
+
+-- the report of the run failed
+pub record BreaksDrawn (number : ℕ) (before after : Streams) (blank full : Option (List ℕ)) : Type 0 where
+  pub hart : Hart
+  pub starts : StartsDrawn number hart
+  pub breaks : BreaksCore default_limit Report (opened_on plain hart)
+      (chosen_by default_limit Report (drawn_from number)) before after blank full

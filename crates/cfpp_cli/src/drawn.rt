@@ -1,0 +1,128 @@
+//! The command `gen`.
+
+ghost use Rattle.std.specs.Prelude.{◌≡◌, ◌≤◌, Ok, IfOk, IfErr};
+ghost use Rattle.cf_io.specs.Causes.{HasCause};
+ghost use Rattle.cf_gen.specs.Program.{program_text};
+ghost use Rattle.rv_machine.specs.Streams.{streams_of};
+ghost use Rattle.cfpp_cli.specs.Causes.{files_answered, input_answered, output_answered};
+ghost use Rattle.cfpp_cli.specs.Deciding.{Counts, Decides, files_decided};
+ghost use Rattle.cfpp_cli.specs.Drawn.{AnswersDrawn, BreaksDrawn, IsUndrawn, StartsDrawn};
+ghost use Rattle.cfpp_cli.specs.FileCommands.{PutsOrFails};
+
+use crate::answer::Answer;
+use crate::assembling::file_of;
+use crate::layouts::no_memory;
+use crate::programs::open_image;
+use crate::refusals::line;
+use crate::run::run_ready;
+use crate::run_files::Ready;
+use crate::schedules::ReadySchedule;
+use crate::status::Status;
+use cf_gen::generate;
+use cf_io::{Failed, MemSink, Sink, Source};
+use cf_layout::plain;
+use cf_texts::Page;
+use cf_words::{DEFAULT_LIMIT, RunOptions, Schedule, Show};
+use rv_machine::Machine;
+use std::alloc::Global;
+
+/// The room for the text of a program: as much as a source may have.
+const MOST_TEXT: usize = 1_048_576;
+
+/// Carries out `gen` without `--run`: puts the text of the program that is drawn from a number to the output.
+pub fn put_drawn<K: Sink>(number: u32, output: &mut K) -> Answer
+    requires some { 1 ≤ number }
+    requires limit { number ≤ 30000 }
+    ensures comes { PutsOrFails (program_text number) (K.written output.old) (K.written output.new) result.status result.closing }
+    ensures files { files_answered result.status ≡ Ok tt }
+    ensures input { input_answered result.status ≡ Ok tt }
+    ensures output { HasCause (K.faults output.old) (K.faults output.new) (output_answered result.status) }
+{
+    match generate(number, output) {
+        Ok(()) => Answer {
+            status: Status::Done,
+            closing: Page::new(),
+        },
+        Err(_) => Answer {
+            status: Status::WriteFault,
+            closing: line(b"write fault output"),
+        },
+    }
+}
+
+/// The text of that program, or the answer where there is no memory for it.
+fn drawn_text(alloc: Global, number: u32) -> Result<MemSink, Answer>
+    requires some { 1 ≤ number }
+    requires limit { number ≤ 30000 }
+    ensures text { IfOk result (λ sink. sink.written ≡ program_text number) }
+    ensures lacks { IfErr result (λ answer. IsUndrawn number answer.status answer.closing) }
+{
+    let Ok(mut text) = MemSink::new(alloc, MOST_TEXT, Vec::new(alloc)) else {
+        return Err(no_memory());
+    };
+    match generate(number, &mut text) {
+        Ok(()) => Ok(text),
+        Err(_) => Err(no_memory()),
+    }
+}
+
+/// The machine that the program starts, or the answer where it starts none.
+fn drawn_machine(alloc: Global, number: u32) -> Result<Machine, Answer>
+    requires some { 1 ≤ number }
+    requires limit { number ≤ 30000 }
+    ensures machine { IfOk result (StartsDrawn number) }
+    ensures count { IfOk result (λ machine. machine.retired ≡ 0) }
+    ensures lacks { IfErr result (λ answer. IsUndrawn number answer.status answer.closing) }
+{
+    let text = match drawn_text(alloc, number) {
+        Ok(text) => text,
+        Err(answer) => return Err(answer),
+    };
+    let file = match file_of(alloc, text.bytes()) {
+        Ok(file) => file,
+        Err(answer) => return Err(answer),
+    };
+    match open_image(alloc, file.as_slice()) {
+        Ok(machine) => Ok(machine),
+        Err(answer) => Err(answer),
+    }
+}
+
+/// Carries out `gen` with `--run`: assembles the text, runs it on the built-in layout by moves that are drawn from the same
+/// number, and puts what `run` puts. It fails where the report does, which is then put nothing more.
+pub fn run_drawn<S: Source, K: Sink, R: Sink>(
+    alloc: Global,
+    number: u32,
+    input: &mut S,
+    output: &mut K,
+    report: &mut R,
+) -> Result<Answer, Failed>
+    requires some { 1 ≤ number }
+    requires limit { number ≤ 30000 }
+    ensures answers { Decides
+        (AnswersDrawn number (streams_of (S.left input.old) (K.written output.old))
+        (streams_of (S.left input.new) (K.written output.new)) (R.written report.old))
+        (BreaksDrawn number (streams_of (S.left input.old) (K.written output.old))
+        (streams_of (S.left input.new) (K.written output.new)) (R.written report.old) (R.written report.new))
+        (R.written report.old) (R.written report.new) result }
+    ensures files { files_decided result ≡ Ok tt }
+    ensures input { Counts input_answered (S.faults input.old) (S.faults input.new) result }
+    ensures output { Counts output_answered (K.faults output.old) (K.faults output.new) result }
+    ensures report { HasCause (R.faults report.old) (R.faults report.new) result }
+{
+    let machine = match drawn_machine(alloc, number) {
+        Ok(machine) => machine,
+        Err(answer) => return Ok(answer),
+    };
+    let ready = Ready {
+        layout: plain(),
+        machine,
+        schedule: ReadySchedule::Seed(number),
+    };
+    let options = RunOptions {
+        schedule: Schedule::Seed(number),
+        limit: DEFAULT_LIMIT,
+        show: Show::Report,
+    };
+    run_ready(alloc, ready, options, input, output, report)
+}

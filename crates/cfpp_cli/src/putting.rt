@@ -1,0 +1,31 @@
+//! A text that a command puts to the output.
+
+ghost use Rattle.std.specs.Prelude.{◌≡◌, Ok};
+ghost use Rattle.cf_io.specs.Causes.{HasCause};
+ghost use Rattle.cfpp_cli.specs.Causes.{files_answered, input_answered, output_answered};
+ghost use Rattle.cfpp_cli.specs.FileCommands.{PutsOrFails};
+
+use crate::answer::Answer;
+use crate::refusals::line;
+use crate::status::Status;
+use cf_io::{Sink, put_all};
+use cf_texts::Page;
+
+/// Puts a text to the output.
+pub fn put_text<K: Sink>(text: &[u8], output: &mut K) -> Answer
+    ensures comes { PutsOrFails text.now (K.written output.old) (K.written output.new) result.status result.closing }
+    ensures files { files_answered result.status ≡ Ok tt }
+    ensures input { input_answered result.status ≡ Ok tt }
+    ensures output { HasCause (K.faults output.old) (K.faults output.new) (output_answered result.status) }
+{
+    match put_all(output, text) {
+        Ok(()) => Answer {
+            status: Status::Done,
+            closing: Page::new(),
+        },
+        Err(_) => Answer {
+            status: Status::WriteFault,
+            closing: line(b"write fault output"),
+        },
+    }
+}
