@@ -1,0 +1,143 @@
+"""Puts the page together: one HTML file with its style, its code, the module and the examples, which asks for nothing else."""
+import base64
+import gzip
+import hashlib
+import json
+import pathlib
+import re
+
+from making.examples import examples
+
+WEB = pathlib.Path(__file__).resolve().parent.parent
+TOP = WEB.parent
+SOURCE = WEB / "src"
+PAGE = WEB / "cfpp.html"
+MAIN = "main"
+# Without the examples the page has at most so many bytes.
+MOST = 410_000
+
+IMPORT = re.compile(r'^import \{ (.*) \} from "\./(\w+)\.js";$', re.M)
+EXPORT = re.compile(r"^export (?:async )?(?:class|function|const) (\w+)", re.M)
+
+
+def modules_in_order():
+    """The names of the code's modules, each behind those that it imports."""
+    order = []
+
+    def visit(name):
+        if name not in order:
+            for _, used in IMPORT.findall((SOURCE / f"{name}.js").read_text()):
+                visit(used)
+            order.append(name)
+
+    visit(MAIN)
+    return order
+
+
+def code_of(name):
+    """A module as a constant that has what it exports, so that the names of two modules cannot clash."""
+    text = (SOURCE / f"{name}.js").read_text()
+    exported = ", ".join(EXPORT.findall(text))
+    text = IMPORT.sub(lambda it: f"const {{ {it.group(1)} }} = {it.group(2)}Module;", text)
+    text = re.sub(r"^export ", "", text, flags=re.M)
+    return f"const {name}Module = (() => {{\n{text}return {{ {exported} }};\n}})();\n"
+
+
+def explanations():
+    """The tables of docs/ERRORS.md: by section and reason, why and what to do. A bar's own section is `Bars`."""
+    tables, section = {}, None
+    for line in (TOP / "docs" / "ERRORS.md").read_text().splitlines():
+        if line.startswith("## "):
+            section = tables.setdefault(line[3:], {})
+        row = re.match(r"\| `(Text )?(\w+)[^|]*\| ([^|]*) \|(?: ([^|]*) \|)?", line)
+        if row and section is not None:
+            text, name, why, mend = row.groups()
+            section[f"Text_{name}" if text else name] = [why.strip(), (mend or "").strip()]
+    return tables
+
+
+def as_data(kind, name, text):
+    return f'<script type="{kind}" id="data-{name}">{text}</script>\n'
+
+
+def as_json(name, value):
+    # No text of an example can end the element that it stands in.
+    return as_data("application/json", name, json.dumps(value, ensure_ascii=True).replace("<", "\\u003c"))
+
+
+def hash_of(text):
+    return f"'sha256-{base64.b64encode(hashlib.sha256(text.encode()).digest()).decode()}'"
+
+
+def policy(style, code):
+    """What the browser is to allow: this style, this code and the module, and no request at all."""
+    parts = [
+        "default-src 'none'",
+        f"script-src {hash_of(code)} 'wasm-unsafe-eval'",
+        f"style-src {hash_of(style)}",
+        "base-uri 'none'",
+        "form-action 'none'",
+    ]
+    return "; ".join(parts)
+
+
+def assembled(module, built):
+    """The page, of the module as packed text and of what it was built from."""
+    style = (SOURCE / "page.css").read_text()
+    code = '"use strict";\n' + "".join(code_of(name) for name in modules_in_order())
+    head = [
+        '<!doctype html>\n<html lang="en">\n<head>\n<meta charset="utf-8">\n',
+        f'<meta http-equiv="Content-Security-Policy" content="{policy(style, code)}">\n',
+        '<meta name="viewport" content="width=device-width, initial-scale=1">\n<meta name="referrer" content="no-referrer">\n',
+        f"<title>Counterflow pipeline</title>\n<style>{style}</style>\n</head>\n<body>\n",
+    ]
+    body = [
+        (SOURCE / "page.html").read_text(),
+        as_data("application/octet-stream", "module", module),
+        as_json("built", built),
+        as_json("explanations", explanations()),
+    ]
+    # The code comes last: it runs when all that it reads stands there.
+    end = [f"<script>{code}</script>\n</body>\n</html>\n"]
+    size = len("".join(head + body + end).encode())
+    if size > MOST:
+        raise SystemExit(f"the page has {size} bytes without the examples, over {MOST}")
+    return "".join(head + body + [as_json("examples", examples())] + end)
+
+
+def crates_below(program):
+    """The crates that the program is built of."""
+    listed = {}
+    for line in (TOP / "crates.txt").read_text().splitlines():
+        if line and not line.startswith("#"):
+            name, _, used = line.partition(":")
+            listed[name.split()[0]] = used.split()
+    found, left = set(), [program]
+    while left:
+        name = left.pop()
+        if name in listed and name not in found:
+            found.add(name)
+            left += listed[name]
+    return found
+
+
+def sum_of_sources():
+    """The checksum of the code that the module was made of, and of the files beside it."""
+    files = [path for name in crates_below("cfpp") for path in (TOP / "crates" / name / "src").rglob("*.rt")]
+    files += [*(WEB / "wasm").glob("*.[ch]"), WEB / "making" / "retarget.py", WEB / "making" / "module.py"]
+    total = hashlib.sha256()
+    for path in sorted(files):
+        total.update(f"{path.relative_to(TOP)} {hashlib.sha256(path.read_bytes()).hexdigest()}\n".encode())
+    return total.hexdigest()[:32]
+
+
+def packed(module):
+    return base64.b64encode(gzip.compress(module, 9, mtime=0)).decode()
+
+
+def kept():
+    """The module of the page that is kept, as packed text, and what that page was built from."""
+    text = PAGE.read_text()
+    module = re.search(r'<script type="application/octet-stream" id="data-module">([^<]*)</script>', text).group(1)
+    built = re.search(r'<script type="application/json" id="data-built">([^<]*)</script>', text).group(1)
+    return module, json.loads(built)

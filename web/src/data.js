@@ -1,0 +1,45 @@
+// What the build puts into the page beside the code: the module, the examples, and the words of docs/ERRORS.md.
+
+function part(id) {
+  return document.getElementById(`data-${id}`).textContent;
+}
+
+export function fromBase64(text) {
+  return Uint8Array.from(atob(text), (letter) => letter.charCodeAt(0));
+}
+
+export function toBase64(bytes) {
+  return btoa(Array.from(bytes, (byte) => String.fromCharCode(byte)).join(""));
+}
+
+// All bytes of a stream, at most so many.
+export async function bytesOfStream(stream, most) {
+  const parts = [];
+  let size = 0;
+  for (const reader = stream.getReader(); ;) {
+    const { done, value } = await reader.read();
+    if (done) break;
+    size += value.length;
+    if (size > most) throw new Error("too long");
+    parts.push(value);
+  }
+  return new Uint8Array(await new Blob(parts).arrayBuffer());
+}
+
+export async function moduleBytes() {
+  const packed = new Blob([fromBase64(part("module"))]);
+  return bytesOfStream(packed.stream().pipeThrough(new DecompressionStream("gzip")), 1 << 24);
+}
+
+export function examples() {
+  return JSON.parse(part("examples"));
+}
+
+// For each reason that a report can name: why, and what to do.
+export function explanations() {
+  return JSON.parse(part("explanations"));
+}
+
+export function built() {
+  return JSON.parse(part("built"));
+}

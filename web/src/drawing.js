@@ -1,0 +1,158 @@
+// Draws the processor: the register file and the lane on top, the stages with the sidings beside them, fetch and the cache below.
+
+import { svg } from "./element.js";
+import { geometryOf } from "./geometry.js";
+import { chip, chipWidth, cut, stageGroup } from "./stages.js";
+import { memorySiding } from "./layout.js";
+import { bindingText, instructionText, registerName, valueText } from "./values.js";
+
+function allowed(view, moves) {
+  return moves.filter((move) => view.picture.allowed.includes(move));
+}
+
+function registerCell(view, x, y, at) {
+  const value = view.picture.registers[at];
+  const was = view.before?.registers[at] ?? value;
+  const state = was !== value ? "changed" : value === "00000000" ? "faint" : "";
+  return svg("text", { x, y, class: `code register ${state}` }, `x${at}`.padEnd(4, "\u00a0") + valueText(value));
+}
+
+function registerFile(view, geometry) {
+  const x = geometry.instruction.x;
+  const width = geometry.width - x - 6;
+  const column = (width - 24) / 8;
+  const cells = view.picture.registers.map((_, at) =>
+    registerCell(view, x + 14 + Math.floor(at / 4) * column, 46 + (at % 4) * 19, at));
+  return svg("g", { class: "register-file" },
+    svg("rect", { x, y: 4, width, height: 112, rx: 8, class: "frame" }),
+    svg("text", { x: x + 12, y: 24, class: "heading" }, "register file"),
+    svg("text", { x: x + width - 12, y: 24, class: "heading end" }, `${view.picture.retired} retired`),
+    cells);
+}
+
+function laneWords(shown, more) {
+  if (shown === 0) return "lane: nothing is asked for";
+  return more > 0 ? `lane, and ${more} more` : "lane, next on the right";
+}
+
+// The registers that were asked for: the rightmost is answered next.
+function lane(view, geometry) {
+  const y = 120;
+  const right = geometry.result.x + geometry.result.width;
+  const emit = allowed(view, ["emit"]);
+  const end = right - (emit.length > 0 ? chipWidth("emit") + 10 : 0);
+  const most = Math.floor((end - geometry.gap.x + 150) / 40);
+  const asked = view.picture.lane.slice(0, most);
+  const more = view.picture.lane.length - asked.length;
+  return svg("g", { class: "lane" },
+    svg("text", { x: geometry.instruction.x + 12, y: y + 22, class: "heading" }, laneWords(asked.length, more)),
+    asked.map((register, at) => [
+      svg("rect", { x: end - 40 * (at + 1), y: y + 5, width: 36, height: 26, rx: 5, class: "request" }),
+      svg("text", { x: end - 40 * (at + 1) + 18, y: y + 23, class: "code center" }, registerName(register)),
+    ]),
+    emit.map((move) => chip(move, right - chipWidth(move), y + 8)));
+}
+
+// The operation in a cell of a siding: its text, and whether it has its answer.
+function operationIn(view, at, cell) {
+  const held = view.picture.sidings.get(at)?.[cell] ?? "-";
+  if (held === "-") return null;
+  return { text: instructionText(view.texts, held.replace("*", "")), isAnswered: held.endsWith("*") };
+}
+
+function movesOfCell(view, at, cell) {
+  const isPort = at === memorySiding(view.layout) && cell === view.layout.sidings[at].cells - 1;
+  return allowed(view, [`slide ${at} ${cell}`, ...(isPort ? ["access"] : [])]);
+}
+
+function sidingCell(view, at, cell, box) {
+  const operation = operationIn(view, at, cell);
+  const moves = movesOfCell(view, at, cell);
+  const middle = box.y + box.height / 2;
+  const isLow = box.height < 40;
+  const kind = operation ? `holds${operation.isAnswered ? " answered" : ""}` : "";
+  const words = operation ? `: ${operation.text}${operation.isAnswered ? ", answered" : ""}` : " is empty";
+  const place = { x: box.x + box.width / 2, y: middle + (moves.length > 0 && !isLow ? -4 : 5) };
+  return svg("g", { class: `cell ${kind}`, role: "img", "aria-label": `siding ${at}, cell ${cell}${words}` },
+    svg("rect", { ...box, rx: 5, class: "slot-of-cell" }),
+    operation && svg("text", { ...place, class: "code small center" }, cut(operation.text, 16)),
+    moves.map((move) => chip(move, box.x + box.width - chipWidth(move) - 2, isLow ? middle - 11 : middle + 2)));
+}
+
+// A siding: its cells from where it launches, below, to where it recovers, above.
+function siding(view, geometry, at) {
+  const { classes, launch, recover, cells } = view.layout.sidings[at];
+  const x = geometry.siding(at);
+  const width = geometry.sidingWidth;
+  const from = geometry.y(launch) + geometry.row / 2;
+  const to = geometry.y(recover) + geometry.row / 2;
+  const gap = 12;
+  const height = (from - to - 2 * gap) / cells;
+  const side = geometry.label.x + 4;
+  const boxOf = (cell) => ({ x, width, y: from - gap - (cell + 1) * height + 1, height: height - 2 });
+  const boxes = Array.from({ length: cells }, (_, cell) => boxOf(cell));
+  return svg("g", { class: "siding" },
+    svg("path", { d: `M ${side} ${from} H ${x + width / 2} V ${from - gap}`, class: "way", "marker-end": "url(#arrow)" }),
+    svg("path", { d: `M ${x + width / 2} ${to + gap} V ${to} H ${side}`, class: "way", "marker-end": "url(#arrow)" }),
+    svg("text", { x: x + width / 2, y: to - 6, class: "units center" }, classes.join(" ")),
+    boxes.map((box, cell) => sidingCell(view, at, cell, box)));
+}
+
+function fetch(view, geometry) {
+  const { x, width } = geometry.instruction;
+  const y = geometry.bottom + 12;
+  const at = view.picture.fetch;
+  const words = at === "wait" ? "fetch waits for a turn" : `fetch ${at}`;
+  const issues = allowed(view, ["issue next", "issue taken", "issue wait"]);
+  let right = x + 12;
+  return svg("g", { class: "fetch" },
+    svg("rect", { x, y, width, height: 74, rx: 8, class: "frame" }),
+    svg("text", { x: x + 12, y: y + 22, class: "heading" }, words),
+    at !== "wait" && svg("text", { x: x + 150, y: y + 22, class: "code strong" }, view.texts.get(at) ?? ""),
+    issues.map((move) => {
+      const it = chip(move, right, y + 40);
+      right += chipWidth(move) + 8;
+      return it;
+    }));
+}
+
+function cache(view, geometry) {
+  if (!view.layout.hasCache) return null;
+  const { x, width } = geometry.result;
+  const y = geometry.bottom + 12;
+  const kept = view.picture.cache ?? [];
+  return svg("g", { class: "cache" },
+    svg("rect", { x, y, width, height: 74, rx: 8, class: "frame" }),
+    svg("text", { x: x + 12, y: y + 22, class: "heading" }, "cache"),
+    kept.slice(0, 6).map((binding, at) => {
+      const place = { x: x + 12 + (at % 2) * (width / 2 - 6), y: y + 40 + Math.floor(at / 2) * 14 };
+      return svg("text", { ...place, class: "code small" }, bindingText(binding));
+    }),
+    kept.length > 6 && svg("text", { x: x + width - 10, y: y + 22, class: "units" }, `and ${kept.length - 6} more`));
+}
+
+function arrowHead() {
+  const form = { viewBox: "0 0 8 8", refX: 7, refY: 4, markerWidth: 7, markerHeight: 7, orient: "auto" };
+  const head = svg("path", { d: "M 0 0 L 8 4 L 0 8 z", class: "arrow-head" });
+  return svg("defs", {}, svg("marker", { id: "arrow", ...form }, head));
+}
+
+// Draws into the element. `view` has the layout, the picture and the one before it, the texts, the last move with the names of its
+// meeting, and the selected stage.
+export function draw(into, view) {
+  const geometry = geometryOf(view.layout);
+  const stages = Array.from({ length: view.layout.stages }, (_, above) => view.layout.stages - above);
+  into.setAttribute("viewBox", `0 0 ${geometry.width} ${geometry.height}`);
+  into.style.setProperty("--row", `${geometry.row}px`);
+  // The whole is to be seen at once, but no stage is to be lower than can be read.
+  into.style.setProperty("--least", `${240 + 28 * view.layout.stages}px`);
+  into.replaceChildren(
+    arrowHead(),
+    registerFile(view, geometry),
+    lane(view, geometry),
+    ...view.layout.sidings.map((_, at) => siding(view, geometry, at)),
+    ...stages.map((stage) => stageGroup(view, geometry, stage)),
+    fetch(view, geometry),
+    ...[cache(view, geometry)].filter((part) => part));
+  return geometry;
+}

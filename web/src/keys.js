@@ -1,0 +1,44 @@
+// The keys: all that the mouse can do.
+
+import { byId, html } from "./element.js";
+
+// Keys that make a move; those with `#` make it at the selected stage.
+export const MOVE_KEYS = {
+  i: "issue next", t: "issue taken", w: "issue wait", e: "emit", m: "meet #", x: "execute #", s: "send #", l: "launch #", r: "recover #",
+  c: "climb #", f: "fall #", d: "slide", a: "access", v: "leave", k: "serve", o: "exit",
+};
+
+const OTHER_KEYS = [
+  ["→", "one move, by the rule or from the seed"],
+  ["shift →", "the move again that was taken back last"],
+  ["←", "take a move back"],
+  ["space", "play, stop"],
+  ["Home", "take all moves back"],
+  ["End", "all moves again that were taken back"],
+  ["↑ ↓", "choose a stage"],
+  ["Enter", "the move of the chosen stage, where it has just one"],
+  ["?", "these keys"],
+];
+
+export function showKeys() {
+  const moves = Object.entries(MOVE_KEYS).map(([key, move]) => [key, move.replace("#", "at the chosen stage")]);
+  const rows = [...OTHER_KEYS, ...moves].map(([key, words]) => [html("dt", {}, html("kbd", {}, key)), html("dd", {}, words)]);
+  byId("key-list").replaceChildren(...rows.flat());
+}
+
+function isTyping(target) {
+  return ["INPUT", "TEXTAREA", "SELECT"].includes(target.tagName) || document.querySelector("dialog[open]") !== null;
+}
+
+// Calls the action of each key. An element that takes typing, or a key with control or alt, is left alone.
+export function listenToKeys(actions) {
+  document.addEventListener("keydown", (event) => {
+    if (event.ctrlKey || event.altKey || event.metaKey || isTyping(event.target)) return;
+    const isButton = event.target.tagName === "BUTTON" && (event.key === " " || event.key === "Enter");
+    const name = event.shiftKey && event.key === "ArrowRight" ? "again" : event.key;
+    const action = actions[name] ?? (MOVE_KEYS[name] && (() => actions.move(MOVE_KEYS[name])));
+    if (isButton || !action) return;
+    event.preventDefault();
+    action();
+  });
+}

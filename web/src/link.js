@@ -1,0 +1,31 @@
+// A link that has the layout, the program, its input and the script in its fragment, which a browser sends nowhere.
+
+import { bytesOfStream, fromBase64, toBase64 } from "./data.js";
+import { bytesOf, text } from "./program.js";
+
+const MOST = 1 << 20;
+const FORM = /^#cfpp1\.([A-Za-z0-9_-]+)$/;
+
+function packed(bytes) {
+  return bytesOfStream(new Blob([bytes]).stream().pipeThrough(new CompressionStream("deflate-raw")), MOST);
+}
+
+function unpacked(bytes) {
+  return bytesOfStream(new Blob([bytes]).stream().pipeThrough(new DecompressionStream("deflate-raw")), MOST);
+}
+
+export async function fragmentOf({ layout, program, input, script }) {
+  const state = { layout, program: toBase64(program), input: toBase64(input), script };
+  const code = toBase64(await packed(bytesOf(JSON.stringify(state))));
+  return `#cfpp1.${code.replaceAll("+", "-").replaceAll("/", "_").replaceAll("=", "")}`;
+}
+
+// What a fragment brings, or null where it is none of ours. Whatever it holds is taken as text and bytes alone.
+export async function readFragment(fragment) {
+  const [, code] = FORM.exec(fragment) ?? [];
+  if (code === undefined) return null;
+  const state = JSON.parse(text(await unpacked(fromBase64(code.replaceAll("-", "+").replaceAll("_", "/")))));
+  const parts = [state.layout, state.program, state.input, state.script];
+  if (!parts.every((part) => typeof part === "string")) throw new Error("a part of the link is missing");
+  return { layout: state.layout, program: fromBase64(state.program), input: fromBase64(state.input), script: state.script };
+}

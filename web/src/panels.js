@@ -1,0 +1,97 @@
+// What stands beside the drawing: the moves, one stage's moves with why they are barred, the sequential machine, the script.
+
+import { byId, html, sentence } from "./element.js";
+import { movesOfStage } from "./moves.js";
+import { text } from "./program.js";
+import { firstDifference, readRetired } from "./sequential.js";
+import { instructionText, registerName, valueText } from "./values.js";
+
+const ROWS_ABOVE = 7;
+const ROWS = 22;
+
+export function showMoves(picture, make) {
+  const buttons = picture.allowed.map((move) => {
+    const button = html("button", { "data-move": move }, move);
+    button.addEventListener("click", () => make(move));
+    return button;
+  });
+  byId("moves").replaceChildren(...(buttons.length > 0 ? buttons : ["nothing"]));
+}
+
+function movesAt(layout, stage) {
+  const ends = [...(stage === layout.stages ? ["leave", "serve", "emit"] : []), ...(stage === 1 ? ["exit"] : [])];
+  return [...movesOfStage(stage), ...ends];
+}
+
+// The moves of one stage that are barred; a click on one says why.
+export function showStage(view, make) {
+  const { picture, layout, selected } = view;
+  const barred = movesAt(layout, selected).filter((move) => picture.barred.has(move));
+  byId("stage-heading").textContent = `Barred at stage ${selected}, and why`;
+  byId("stage-moves").replaceChildren(...barred.map((move) => {
+    const button = html("button", {}, `${move}: ${picture.barred.get(move)}`);
+    button.addEventListener("click", () => make(move));
+    return button;
+  }));
+}
+
+export function showBarred(picture, reasons) {
+  if (!byId("barred-details").open) return;
+  const rows = [...picture.barred].flatMap(([move, bar]) => [html("dt", {}, move), html("dd", {}, sentence(reasons.bar(bar)))]);
+  byId("barred").replaceChildren(...rows);
+}
+
+function machineRow(view, line, at, retired) {
+  const { number, address, wrote } = readRetired(line);
+  const parts = /^(x\d\d)=(.*)$/.exec(wrote);
+  return html("li", { class: at < retired ? "retired" : "" },
+    html("span", { class: "number" }, String(number)),
+    html("span", { class: "text" }, instructionText(view.texts, address)),
+    html("span", {}, parts ? `${registerName(parts[1])}=${valueText(parts[2])}` : ""));
+}
+
+// The lines of the sequential machine around the place that the processor has reached.
+export function showMachine(view, machine) {
+  const retired = view.picture.retired;
+  const from = Math.max(0, Math.min(retired - ROWS_ABOVE, machine.lines.length - ROWS));
+  const rows = machine.lines.slice(from, from + ROWS).map((line, at) => machineRow(view, line, from + at, retired));
+  const mark = html("li", { class: "here" }, `▲ the processor has retired ${retired}`);
+  rows.splice(Math.min(retired - from, rows.length), 0, mark);
+  byId("machine").replaceChildren(...rows);
+  const total = machine.lines.length;
+  const ends = machine.first.startsWith("limit") ? `the first ${total} are shown` : `it retires ${total}, then: ${machine.first}`;
+  const bar = html("progress", { value: Math.min(retired, total), max: Math.max(total, 1), "aria-label": "retired" });
+  byId("progress").replaceChildren(bar, ` ${retired} of ${total}; ${ends}`);
+  showAgreement(machine, view.picture);
+}
+
+function showAgreement(machine, picture) {
+  const shown = { ...picture, lines: picture.lines.slice(0, machine.lines.length) };
+  const place = firstDifference(machine, shown);
+  const it = byId("agreement");
+  it.className = place < 0 ? "" : "fault";
+  if (place >= 0) it.textContent = `Instruction ${place + 1} differs. This must not be: please report it, with the script.`;
+  else if (picture.retired === 0) it.textContent = "Nothing has retired yet.";
+  else it.textContent = `What the processor retired is what this machine retires first: ${shown.lines.length} of ${shown.lines.length} lines are the same.`;
+}
+
+export function showWritten(picture) {
+  byId("written-words").hidden = picture.output.length === 0;
+  byId("written").textContent = text(picture.output);
+}
+
+export function showScript(session) {
+  const it = byId("script");
+  it.value = session.script;
+  it.scrollTop = it.scrollHeight;
+}
+
+export function showReport(picture) {
+  if (byId("report-details").open) byId("report").textContent = picture.text;
+}
+
+export function showLegend() {
+  const words = { out: "out: its operation is in a siding", value: "a value", turn: "a turn or a halt" };
+  const kinds = ["new", "out", "done", "dead", "trap", "exit", "value", "turn"];
+  byId("legend").replaceChildren(...kinds.map((kind) => html("span", { class: `is-${kind}` }, words[kind] ?? kind)));
+}

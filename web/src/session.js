@@ -1,0 +1,128 @@
+// What the page works on: a layout, a program with its input, and the script of the moves made so far. The script is all the state
+// that there is: each picture is the program's answer to it.
+
+import { candidates, issuesAfter } from "./schedule.js";
+
+export class Session {
+  constructor(simulator) {
+    this.simulator = simulator;
+    this.layout = null;
+    this.layoutName = "";
+    this.bytes = new Uint8Array();
+    this.input = new Uint8Array();
+    this.texts = new Map();
+    this.steps = [];
+    this.undone = [];
+  }
+
+  // A step is a move with the comment lines that stand above it in the script.
+  scriptOf(steps) {
+    return steps.map(({ move, notes }) => `${notes.map((note) => `${note}\n`).join("")}${move}\n`).join("");
+  }
+
+  get script() {
+    return this.scriptOf(this.steps);
+  }
+
+  start() {
+    this.steps = [];
+    this.undone = [];
+    return this.see();
+  }
+
+  // Asks the program where the script leads.
+  see() {
+    this.picture = this.simulator.standing(this, this.script);
+    this.before = this.steps.length === 0 ? null : this.simulator.run(this, this.scriptOf(this.steps.slice(0, -1)));
+    return this.picture;
+  }
+
+  // Makes one more move: the answer is the bar where it cannot be made.
+  make(move, notes = []) {
+    const step = { move, notes };
+    const after = this.simulator.standing(this, this.scriptOf([...this.steps, step]));
+    const refused = /^(barred at line \d+|bad script line \d+): (.*)$/.exec(after.first);
+    if (refused) return { kind: refused[1].startsWith("barred") ? "bar" : "line", reason: refused[2] };
+    step.issues = issuesAfter(this.issues, move, this.picture, after);
+    this.before = this.picture;
+    this.picture = after;
+    this.steps.push(step);
+    return null;
+  }
+
+  // Makes a move of its own choice, and forgets the moves that were taken back.
+  choose(move) {
+    const refused = this.make(move);
+    if (!refused) this.undone = [];
+    return refused;
+  }
+
+  // The move that a schedule chooses next, if there is any.
+  chosenBy(schedule) {
+    const offered = candidates(this.layout, this.picture, this.issues);
+    return offered.length > 0 ? schedule.next(offered, this.steps) : null;
+  }
+
+  back() {
+    if (this.steps.length === 0) return false;
+    this.undone.push(this.steps.pop());
+    this.see();
+    return true;
+  }
+
+  // Makes the move again that was taken back last.
+  again() {
+    const step = this.undone.at(-1);
+    if (!step) return null;
+    const refused = this.make(step.move, step.notes);
+    if (!refused) this.undone.pop();
+    return refused;
+  }
+
+  // Takes all moves back: they can be made again one by one.
+  rewind() {
+    while (this.steps.length > 0) this.undone.push(this.steps.pop());
+    this.see();
+  }
+
+  // Takes a script in place of the moves so far; none of its moves is made yet.
+  load(text) {
+    this.steps = readSteps(text);
+    this.undone = [];
+    this.rewind();
+  }
+
+  // Makes all moves again that were taken back, up to the first that is barred.
+  forward() {
+    const all = [...this.steps, ...[...this.undone].reverse()];
+    const made = this.simulator.run(this, this.scriptOf(all)).moves;
+    this.steps = all.slice(0, made);
+    this.undone = all.slice(made).reverse();
+    this.see();
+  }
+
+  get last() {
+    return this.steps.at(-1) ?? null;
+  }
+
+  // How many issues count for holding issue back, behind the moves so far.
+  get issues() {
+    if (!this.last) return 0;
+    this.last.issues ??= this.simulator.issues(this, this.script);
+    return this.last.issues;
+  }
+}
+
+// The moves of a script with the comments above each.
+export function readSteps(text) {
+  const steps = [];
+  let notes = [];
+  for (const line of text.split("\n").map((part) => part.replace(/\r$/, ""))) {
+    if (line.startsWith("#")) notes.push(line);
+    else if (line.trim() !== "") {
+      steps.push({ move: line.trim().split(/[ \t]+/).join(" "), notes });
+      notes = [];
+    }
+  }
+  return steps;
+}

@@ -1,0 +1,90 @@
+// The questions that the page asks of the program. Each answer is the report or the output of a call of it.
+
+import { bytesOf, text } from "./program.js";
+import { readLayout, multiplies } from "./layout.js";
+import { readReport } from "./report.js";
+import { issuesAfter } from "./schedule.js";
+
+export class Simulator {
+  constructor(program) {
+    this.program = program;
+  }
+
+  ask(words, files, input) {
+    const answer = this.program.call(words, files, input);
+    return { ...answer, report: text(answer.report) };
+  }
+
+  // The layout of a TOML text, or why it is refused.
+  check(toml) {
+    const answer = this.ask(["check", "layout"], { layout: bytesOf(toml) });
+    if (answer.status !== 0) return { refused: answer.report.trim() };
+    return { layout: readLayout(text(answer.output)) };
+  }
+
+  // The program that a source is assembled to, or why it is not.
+  assemble(source) {
+    const answer = this.ask(["asm", "source"], { source: bytesOf(source) });
+    return answer.status === 0 ? { bytes: answer.output } : { refused: answer.report.trim() };
+  }
+
+  // The text of each instruction by its address, or why the program is refused.
+  list(bytes) {
+    const answer = this.ask(["list", "program"], { program: bytes });
+    if (answer.status !== 0) return { refused: answer.report.trim() };
+    const lines = text(answer.output).matchAll(/^([0-9a-f]{8}) [0-9a-f]{8} (.*)$/gm);
+    return { texts: new Map([...lines].map(([, address, instruction]) => [address, instruction])) };
+  }
+
+  // What the sequential machine does, up to a limit.
+  machine(session, limit) {
+    const words = ["machine", "program", "--show", "retired", "--limit", String(limit)];
+    if (multiplies(session.layout)) words.push("--mul");
+    const answer = this.ask(words, { program: session.bytes }, session.input);
+    return { ...readReport(answer.report), output: answer.output };
+  }
+
+  // The processor's whole run in the order that a seed gives.
+  anyOrder(session, seed, limit) {
+    const words = ["run", "layout", "program", "--seed", String(seed), "--show", "retired", "--limit", String(limit)];
+    const answer = this.ask(words, { layout: bytesOf(session.layout.text), program: session.bytes }, session.input);
+    return { ...readReport(answer.report), output: answer.output };
+  }
+
+  scripted(session, script, command, ...options) {
+    const files = { layout: bytesOf(session.layout.text), program: session.bytes, script: bytesOf(script) };
+    return this.ask([command, "layout", "program", "--script", "script", ...options], files, session.input);
+  }
+
+  run(session, script) {
+    const answer = this.scripted(session, script, "run", "--show", "retired");
+    return { ...readReport(answer.report), output: answer.output };
+  }
+
+  // How many issues count for holding issue back behind a script: from the picture behind each of its moves.
+  issues(session, script) {
+    const [, ...moments] = this.scripted(session, script, "run", "--show", "moves").report.split(/^move \d+ /m);
+    let before = { retired: 0 };
+    return moments.reduce((issues, moment) => {
+      const move = moment.slice(0, moment.indexOf("\n"));
+      const picture = readReport(moment.slice(move.length));
+      const after = { ...picture, retired: before.retired + picture.lines.length };
+      const count = issuesAfter(issues, move, before, after);
+      before = after;
+      return count;
+    }, 0);
+  }
+
+  // Where a script leads, with the moves that can be made there and why the others cannot.
+  standing(session, script) {
+    const report = this.run(session, script);
+    if (!report.first.startsWith("script end")) return report;
+    return { ...report, ...this.nextMoves(session, script) };
+  }
+
+  // Which moves can be made behind a script, and the first bar of each of the others.
+  nextMoves(session, script) {
+    const { allowed, barred } = readReport(this.scripted(session, script, "moves").report);
+    return { allowed, barred };
+  }
+}

@@ -1,0 +1,216 @@
+// Draws the stages: the instruction on the left, the result on the right, and between them whether the two have met.
+
+import { svg } from "./element.js";
+import { unitsOf } from "./layout.js";
+import { isDead } from "./telling.js";
+import { bindingText, instructionText, packetText } from "./values.js";
+import { kindOf, stageOf } from "./moves.js";
+
+const LABELS = {
+  climb: "↑ climb", fall: "↓ fall", meet: "meet", execute: "execute", send: "send →", launch: "← launch", recover: "recover",
+  leave: "↑ leave", serve: "serve", exit: "↓ exit", emit: "↓ emit", slide: "↑", access: "access",
+  "issue next": "↑ issue next", "issue taken": "↑ taken", "issue wait": "↑ wait",
+};
+
+// Widths of letters, of the moves and of the two sizes of code, and the height of a move.
+const LETTER = 7.6;
+const CODE_STRONG = 8.5;
+const CODE_SMALL = 7;
+const CHIP = 22;
+
+export function chipWidth(move) {
+  return (LABELS[move] ?? LABELS[kindOf(move)]).length * LETTER + 14;
+}
+
+// A move that can be made now, as something to click on.
+export function chip(move, x, y) {
+  const label = LABELS[move] ?? LABELS[kindOf(move)];
+  const width = chipWidth(move);
+  return svg("g", { class: "chip", "data-move": move, "aria-hidden": "true" },
+    svg("rect", { x, y, width, height: CHIP, rx: 11 }),
+    svg("text", { x: x + width / 2, y: y + 15.5, class: "chip-text" }, label));
+}
+
+// Chips side by side that end at the right.
+function chipsTo(right, y, moves) {
+  let x = right;
+  return [...moves].reverse().map((move) => {
+    x -= chipWidth(move) + 5;
+    return chip(move, x + 5, y);
+  });
+}
+
+export function flagClass(passenger) {
+  if (isDead(passenger)) return "dead";
+  return passenger.flag;
+}
+
+const PASSENGERS = ["execute", "send", "launch", "recover", "climb"];
+const PACKETS = ["fall"];
+
+// The moves of a stage that can be made now, of its instruction and of its result.
+export function allowedAt(view, stage) {
+  const { picture, layout } = view;
+  const of = (kinds) => kinds.map((kind) => `${kind} ${stage}`).filter((move) => picture.allowed.includes(move));
+  const listed = (moves) => moves.filter((move) => picture.allowed.includes(move));
+  return {
+    passenger: [...of(PASSENGERS), ...(stage === layout.stages ? listed(["serve", "leave"]) : [])],
+    packet: [...of(PACKETS), ...(stage === 1 ? listed(["exit"]) : [])],
+    meeting: of(["meet"]),
+  };
+}
+
+function bindingsText(passenger) {
+  const sources = passenger.sources.filter((source) => source).map(bindingText);
+  const parts = [];
+  if (sources.length > 0) parts.push(`takes ${sources.join(", ")}`);
+  if (passenger.destination) parts.push(`gives ${bindingText(passenger.destination)}`);
+  if (passenger.owes) parts.push(`owes ${packetText(passenger.owes)}`);
+  return parts.join("; ");
+}
+
+function flagText(passenger) {
+  return passenger.guess === "next" ? passenger.flag : `${passenger.flag} (${passenger.guess})`;
+}
+
+export function cut(text, letters) {
+  return text.length <= letters ? text : `${text.slice(0, Math.max(1, letters - 1))}…`;
+}
+
+// An instruction in one line: its text, what else has room, and its moves.
+function passengerLine(view, box, passenger, moves) {
+  const used = moves.reduce((sum, move) => sum + chipWidth(move) + 5, 0);
+  const text = cut(instructionText(view.texts, passenger.address), 24);
+  const next = box.x + 26 + text.length * CODE_STRONG;
+  const letters = Math.floor((box.x + box.width - next - used - 8) / CODE_SMALL);
+  const y = box.y + box.height / 2 + 5;
+  return [
+    svg("text", { x: box.x + 16, y, class: "code strong" }, text),
+    letters > 3 && svg("text", { x: next, y, class: "code small" }, cut(`${flagText(passenger)} ${bindingsText(passenger)}`, letters)),
+  ];
+}
+
+// An instruction in two lines: text, moves and flag; what it takes, gives and owes.
+function passengerLines(view, box, passenger, moves) {
+  const flag = flagText(passenger);
+  const used = moves.reduce((sum, move) => sum + chipWidth(move) + 5, flag.length * 9 + 34);
+  const text = cut(instructionText(view.texts, passenger.address), Math.floor((box.width - used) / CODE_STRONG));
+  const [first, second] = [box.y + box.height * 0.31 + 5, box.y + box.height * 0.72 + 5];
+  return [
+    svg("text", { x: box.x + 16, y: first, class: "code strong" }, text),
+    svg("text", { x: box.x + box.width - 10, y: first, class: "flag" }, flag),
+    svg("text", { x: box.x + 16, y: second, class: "code" }, cut(bindingsText(passenger), 51)),
+  ];
+}
+
+function passengerBox(view, geometry, stage, passenger, moves) {
+  const { x, width } = geometry.instruction;
+  const box = { x, width, y: geometry.y(stage) + 2, height: geometry.row - 4 };
+  const isWide = geometry.lines === 2;
+  const words = isWide ? passengerLines(view, box, passenger, moves) : passengerLine(view, box, passenger, moves);
+  const right = isWide ? x + width - flagText(passenger).length * 9 - 22 : x + width - 6;
+  const middle = isWide ? box.y + box.height * 0.31 : box.y + box.height / 2;
+  return [
+    svg("title", {}, passenger.address),
+    svg("rect", { ...box, rx: 6, class: "box" }),
+    svg("rect", { ...box, width: 7, rx: 3, class: "edge" }),
+    words,
+    chipsTo(right, middle - CHIP / 2, moves),
+  ];
+}
+
+function packetBox(geometry, stage, packet, moves) {
+  const { x, width } = geometry.result;
+  const height = Math.min(geometry.row - 4, 54);
+  const y = geometry.y(stage) + (geometry.row - height) / 2;
+  const middle = y + height / 2;
+  return [
+    svg("rect", { x, y, width, height, rx: height / 2, class: "box" }),
+    svg("text", { x: x + 18, y: middle + 5, class: "code strong" }, packetText(packet)),
+    ...chipsTo(x + width - 8, middle - CHIP / 2, moves),
+  ];
+}
+
+// What stands between the two: that they can meet, that they have met, or what the meeting was that was just made.
+function meetingMark(view, geometry, stage, content, moves) {
+  const middle = geometry.y(stage) + geometry.row / 2;
+  const center = geometry.gap.x + geometry.gap.width / 2;
+  if (stageOf(view.last ?? "") === stage && kindOf(view.last) === "meet") {
+    const names = view.names.length > 0 ? view.names : ["pass by"];
+    return svg("text", { x: center, y: middle + 5 - (names.length - 1) * 8, class: "met strong" },
+      names.map((name, at) => svg("tspan", { x: center, dy: at === 0 ? 0 : 16 }, name)));
+  }
+  if (moves.length > 0) return chip(moves[0], center - chipWidth(moves[0]) / 2, middle - CHIP / 2);
+  if (content.passenger && content.packet && content.met) return svg("text", { x: center, y: middle + 5, class: "met faint" }, "have met");
+  return null;
+}
+
+// Words in lines of at most so many letters.
+function wrapped(words, letters) {
+  const lines = [];
+  for (const word of words) {
+    const joined = lines.length > 0 ? `${lines.at(-1)} ${word}` : word;
+    if (lines.length > 0 && joined.length <= letters) lines[lines.length - 1] = joined;
+    else lines.push(word);
+  }
+  return lines;
+}
+
+// The stage's number, with what its units execute.
+function labelOf(view, geometry, stage) {
+  const { x, width } = geometry.label;
+  const right = x + width - 12;
+  const y = geometry.y(stage);
+  const units = unitsOf(view.layout, stage);
+  const touched = view.last !== null && stageOf(view.last) === stage ? " changed" : "";
+  const number = (at) => svg("text", { x: right, y: at, class: `stage-number${touched}` }, String(stage));
+  if (geometry.lines === 1) {
+    const short = units.map((unit) => unit.slice(0, 3)).join(" ");
+    return [number(y + geometry.row / 2 + 6), svg("text", { x: right - 25, y: y + geometry.row / 2 + 5, class: "units" }, cut(short, 15))];
+  }
+  const lines = wrapped(units, 15).slice(0, geometry.row < 70 ? 2 : 4);
+  const first = y + (geometry.row - 12 * lines.length) / 2 + 6;
+  return [number(first), lines.map((line, at) => svg("text", { x: right, y: first + 13 + at * 12, class: "units" }, line))];
+}
+
+function passengerWords(view, passenger) {
+  return `instruction ${instructionText(view.texts, passenger.address)}, ${passenger.flag}, ${bindingsText(passenger)}`;
+}
+
+// What a stage holds, in words, for who cannot see the drawing.
+export function stageWords(view, stage) {
+  const content = view.picture.stages.get(stage);
+  if (!content) return `stage ${stage}: empty`;
+  const parts = [];
+  if (content.passenger) parts.push(passengerWords(view, content.passenger));
+  if (content.packet) parts.push(`result ${packetText(content.packet)}`);
+  if (content.passenger && content.packet) parts.push(content.met ? "they have met" : "they have not met");
+  return `stage ${stage}: ${parts.join("; ")}`;
+}
+
+function motion(view, stage, kind) {
+  const from = { climb: stage - 1, fall: stage + 1 }[kind];
+  return view.last === `${kind} ${from}` ? ` moved-${kind}` : "";
+}
+
+export function stageGroup(view, geometry, stage) {
+  const content = view.picture.stages.get(stage) ?? { passenger: null, packet: null, met: false };
+  const moves = allowedAt(view, stage);
+  const y = geometry.y(stage);
+  const selected = view.selected === stage;
+  const slot = ({ x, width }, side) =>
+    svg("rect", { x, y: y + 2, width, height: geometry.row - 4, rx: 6, class: "slot", "data-side": side });
+  const whole = { x: geometry.label.x, y: y + 1, width: geometry.width - geometry.label.x - 2, height: geometry.row - 2 };
+  const role = { role: "button", tabindex: selected ? 0 : -1, "aria-label": stageWords(view, stage) };
+  return svg("g", { class: `stage${selected ? " selected" : ""}`, "data-stage": stage, ...role },
+    svg("rect", { ...whole, rx: 8, class: "row" }),
+    labelOf(view, geometry, stage),
+    slot(geometry.instruction, "passenger"),
+    slot(geometry.gap, "meeting"),
+    slot(geometry.result, "packet"),
+    content.passenger && svg("g", { class: `passenger is-${flagClass(content.passenger)}${motion(view, stage, "climb")}`,
+      "data-side": "passenger" }, passengerBox(view, geometry, stage, content.passenger, moves.passenger)),
+    content.packet && svg("g", { class: `packet is-${content.packet.kind}${motion(view, stage, "fall")}`,
+      "data-side": "packet" }, packetBox(geometry, stage, content.packet, moves.packet)),
+    meetingMark(view, geometry, stage, content, moves.meeting));
+}
