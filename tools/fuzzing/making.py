@@ -1,0 +1,116 @@
+"""Makes files at random, of each kind that the program reads."""
+
+import struct
+
+OPCODES = [0x37, 0x17, 0x6F, 0x67, 0x63, 0x03, 0x23, 0x13, 0x33, 0x0F, 0x73]
+CLASSES = ["add", "logic", "shift", "compare", "branch", "jump", "memory", "mul", "div"]
+KINDS = ["emit", "access", "leave", "exit", "serve"]
+STAGE_KINDS = ["climb", "fall", "meet", "execute", "send", "launch", "recover"]
+STATEMENTS = [
+    "add x1, x2, x3", "addi x1, x1, 2047", "addi a0, a0, -2049", "lui x5, 0x12345", "lw x1, 4(x2)", "sw x1, 8(x2", "sw x1, -4(sp)",
+    "beq x1, x2, near", "j near", "call near", "la x7, far", "li x5, 4294967295", "li t0, -2147483649", "jal x1, 0x00010010",
+    "fence", "fence x1, x2, 15", "ecall", "ebreak", "nop", "ret", "bnez a0, near", ".word 1, near, 3", ".half 65536", ".byte -128",
+    '.ascii "a\\n\\x"', '.asciz "text"', ".space 1048576", ".space 1048577", ".align 12", ".globl near", ".data", ".text", ".frob",
+    "near:", "far: nop", "mul x1, x2, x3", "# a comment", "fence.i", "",
+]  # fmt: skip
+
+
+def instruction(draw):
+    """A word: any, or one whose opcode is one, or an environment call."""
+    kind = draw.randrange(8)
+    if kind == 0:
+        return draw.getrandbits(32)
+    if kind == 1:
+        return 0x73
+    if kind == 2:
+        number = draw.choice([63, 64, 93, 94, 214, draw.getrandbits(7)])
+        return number << 20 | 17 << 7 | 0x13
+    if kind == 3:
+        return draw.getrandbits(12) << 20 | 10 + draw.randrange(3) << 7 | 0x13
+    return draw.getrandbits(25) << 7 | draw.choice(OPCODES)
+
+
+def image(draw):
+    words = [instruction(draw) for _ in range(draw.randint(0, 60))]
+    return struct.pack(f"<{len(words)}I", *words) + draw.randbytes(draw.choice([0, 0, 1, 3]))
+
+
+def number(draw, usual):
+    """A field of an ELF file: what is usual in most cases."""
+    return usual if draw.random() < 0.9 else draw.choice([0, 1, usual + 1, usual * 2 & 0xFFFF, 0xFFFF])
+
+
+def elf(draw):
+    """A file with up to seventeen segments, whose fields are mostly sound."""
+    text = image(draw)
+    count = draw.choice([1, 1, 2, 3, 16, 17])
+    start = 52 + 32 * count
+    header = b"\x7fELF" + bytes([number(draw, 1) & 0xFF, number(draw, 1) & 0xFF, 1]) + bytes(9)
+    fields = [2, 243, 1, 0x10000, 52, 0, 0, 52, 32, count, 40, 0, 0]
+    header += struct.pack("<HHIIIIIHHHHHH", *(number(draw, field) for field in fields))
+    for place in range(count):
+        size = len(text) if place == 0 else draw.choice([0, 4, len(text)])
+        room = size if draw.random() < 0.7 else draw.choice([size + 100, 0x1000, 0x4000000, 0xFFFFFFFF, 0])
+        address = 0x10000 * (1 + place) if draw.random() < 0.9 else draw.getrandbits(32)
+        kind = draw.choice([1, 1, 1, 1, 0, 2, 3, 0x6474E551])
+        header += struct.pack("<IIIIIIII", kind, start, address, address, size, room, draw.randrange(8), 4)
+    return header + text
+
+
+def layout(draw):
+    stages = draw.choice([2, 3, 8, 16, 32, 33])
+    lines = [f"format = {draw.choice([1, 1, 2])}", f"stages = {stages}", f"lane = {draw.choice([1, 2, 4, 64, 65])}"]
+    lines += draw.choice([[], ["cache = true"], ["cache = 1"]]) + ["[units]"]
+    low = draw.randint(1, stages)
+    for name in CLASSES[:6]:
+        if draw.random() < 0.9:
+            lines.append(f"{name} = {[draw.randint(1, low) for _ in range(draw.randint(1, 3))]}")
+    for name in draw.choice([["memory"], ["memory"], ["memory", "shift"], ["memory", "mul", "div"]]):
+        up = draw.randint(low, stages)
+        lines += ["[[siding]]", f'classes = ["{name}"]', f"launch = {low}", f"recover = {up}", f"cells = {draw.randint(0, 9)}"]
+    return "\n".join(lines).encode() + b"\n"
+
+
+def move(draw):
+    kind = draw.randrange(4)
+    if kind == 0:
+        return f"issue {draw.choice(['next', 'next', 'taken', 'wait', 'to 00010004', 'to', 'foo'])}"
+    if kind == 1:
+        return draw.choice(KINDS)
+    if kind == 2:
+        return f"{draw.choice(STAGE_KINDS)} {draw.choice([1, 1, 2, 2, 3, 9, 1000000000])}"
+    return f"slide {draw.randrange(2)} {draw.randrange(3)}"
+
+
+def script(draw):
+    return "".join(f"{move(draw)}\n" for _ in range(draw.randint(0, 30))).encode()
+
+
+def source(draw):
+    lines = ["near:"] * draw.randrange(2) + draw.choices(STATEMENTS, k=draw.randint(0, 30))
+    return "\n".join(lines).encode()
+
+
+def delays(draw):
+    kinds = draw.sample(["issue", *KINDS, *STAGE_KINDS, "slide", "frob"], draw.randint(0, 8))
+    return "".join(f"{kind} {draw.choice([1, 2, 10, 999, 1000, 1001, 0])}\n" for kind in kinds).encode()
+
+
+def command(draw):
+    return draw.choice([
+        f"move {move(draw)}", f"auto {draw.choice([0, 1, 20, 1000, 1000001])}", "show", "regs", "bound", "back", "end",
+        f"mem {draw.choice([0x10000, 0x7F000000, 0x7F0FFFF8, draw.getrandbits(32)]):08x} {draw.choice([0, 1, 4, 16, 17])}",
+        f"break {draw.choice(['none', '00010004', '1'])}", "frob", "", "x" * draw.choice([10, 256, 257]),
+    ])  # fmt: skip
+
+
+def commands(draw):
+    return "".join(f"{command(draw)}\n" for _ in range(draw.randint(0, 40))).encode()
+
+
+def words(draw):
+    """Words of the command line, which mostly are none of a command."""
+    known = ["run", "machine", "check", "asm", "list", "debug", "gen", "moves", "time", "rounds", "audit", "help", "--help"]
+    known += ["--version", "plain", "program", "missing", "--limit", "--seed", "--script", "--show", "--mul", "--run", "moves"]
+    known += ["report", "retired", "sites", "0", "1", "1000000000", "1000000001", "4294967296", "", "-", "a/b", "\u00e9"]
+    return [draw.choice(known) for _ in range(draw.randint(0, 7))]

@@ -1,0 +1,76 @@
+"""A trace in Kanata 0004, the text that Konata shows: a row an instruction, a cycle a move.
+
+The first lane of a row has the stages in which the instruction stood, the second the cells of sidings in which its
+operation did. An instruction that died is flushed where it leaves. An arrow goes to each instruction from those whose
+values it took out of results, and none from the register file."""
+
+
+class Rows:
+    """The lines of the file, and what each row is doing."""
+
+    def __init__(self, trace):
+        self.trace = trace
+        self.lines = ["Kanata\t0004", "C=\t0"]
+        self.doing = {}
+        self.retired = 0
+
+    def add(self, *fields):
+        self.lines.append("\t".join(str(field) for field in fields))
+
+    def begin(self, row, lane, name):
+        """The row's lane goes on with this stage or cell, or with nothing."""
+        if (row, lane) in self.doing:
+            self.add("E", row, lane, self.doing.pop((row, lane)))
+        if name:
+            self.doing[row, lane] = name
+            self.add("S", row, lane, name)
+
+    def issue(self, step, row):
+        instruction = step.instruction
+        text = self.trace.texts.get(instruction.pc, "")
+        self.add("I", row, row, 0)
+        self.add("L", row, 0, f"{instruction.pc:08x} {text}")
+        self.begin(row, 0, "1")
+
+    def leave(self, step, row):
+        self.begin(row, 0, None)
+        is_dead = step.event == "gone"
+        self.retired += not is_dead
+        self.add("R", row, self.retired, int(is_dead))
+
+    def side(self, step, row):
+        """What the move did with the instruction's operation in a siding."""
+        move = step.group.move
+        if move.kind == "slide":
+            self.begin(row, 1, f"{move.siding}.{move.cell + 1}")
+        elif move.kind == "recover":
+            self.begin(row, 1, None)
+        else:
+            for k, cells in step.after.sidings.items():
+                if cells[0] and not step.before.sidings.get(k, (None,))[0]:
+                    self.begin(row, 1, f"{k}.0")
+
+    def step(self, step):
+        instruction, move = step.instruction, step.group.move
+        if instruction:
+            row = instruction.number - 1
+            if move.kind == "issue":
+                self.issue(step, row)
+            self.add("L", row, 1, f"{step.group.number} {move.text} {step.event}".rstrip() + "\\n")
+            for supplier, _register in step.supplies:
+                self.add("W", row, supplier.number - 1, 0)
+            if move.kind == "climb":
+                self.begin(row, 0, str(move.stage + 1))
+            elif move.kind in ("launch", "slide", "recover"):
+                self.side(step, row)
+            elif move.kind == "leave":
+                self.leave(step, row)
+        self.add("C", 1)
+
+
+def write(trace):
+    """The lines of the file."""
+    rows = Rows(trace)
+    for step in trace.steps:
+        rows.step(step)
+    return rows.lines
