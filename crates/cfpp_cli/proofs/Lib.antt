@@ -1,13 +1,8 @@
-pub mod FileFronts
-pub mod Flat
 pub mod Machines
-pub mod Named
-pub mod NoStreams
 pub mod ProcessorRuns
 pub mod ProgramFiles
 pub mod Reports
 pub mod RunFiles
 pub mod Runs
-pub mod Segments
 pub mod Shown
 pub mod Tops

@@ -29,14 +29,14 @@ use Rattle.cf_closing.specs.Lines.{first_line as line_of_finish, line_of_run}
 use Rattle.cfpp_cli.specs.Closing.{closing, first_line}
 use Rattle.cfpp_cli.specs.Finish.{opening, Runs}
 use Rattle.cfpp_cli.specs.Lines.{LeadsBy, ReachesBy, lines_of, text_of}
-use Rattle.cfpp_cli.specs.Deciding.{Decides}
+use Rattle.cli_files.specs.Deciding.{Decides}
 use Rattle.cfpp_cli.specs.Options.{chosen_of}
 use Rattle.cfpp_cli.specs.Run.{start_of, status_of, chosen_by, head_of, AgreesWithMachine, IsMachines, IsComplete, RunsCore, RunsOpened, BreaksCore, ComesOf}
-use Rattle.cfpp_cli.specs.Schedules.{ReadySchedule, in_script, drawn_from, in_turn}
-use Rattle.cfpp_cli.specs.declared.answer.Answer.{Answer}
+use Rattle.cli_files.specs.Schedules.{ReadySchedule, in_script, drawn_from, in_turn}
+use Rattle.cli_files.specs.declared.answer.Answer.{Answer}
 use Rattle.cfpp_cli.specs.declared.running.Finish.TheVariants as finish
-use Rattle.cfpp_cli.specs.declared.status.Status.{Status}
-use Rattle.cfpp_cli.specs.declared.status.Status.TheVariants as status
+use Rattle.cli_files.specs.declared.status.Status.{Status}
+use Rattle.cli_files.specs.declared.status.Status.TheVariants as status
 
 -- a step that goes on retires an instruction with a line
 record Steps (isa : Isa) (before next : Machine) : Type 0 where

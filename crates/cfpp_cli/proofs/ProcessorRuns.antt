@@ -23,10 +23,11 @@ use Rattle.cf_run.specs.Moving.{Place, place_of, Does}
 use Rattle.cf_run.specs.Policies.{input_stopped, output_stopped, report_stopped, IsOpened, RunsPolicy, RunsRight, most_moves}
 use Rattle.cf_run.specs.Scripts.{Stand, stand_of, first_moves, RunsScript, DoesLine, Stops, input_scripted, output_scripted}
 use Rattle.cf_closing.specs.Closing.{closing, is_report_fault}
-use Rattle.cfpp_cli.specs.Causes.{input_answered, output_answered}
-use Rattle.cfpp_cli.specs.Deciding.{Closes, Counts, Decides}
+use Rattle.cli_files.specs.Causes.{input_answered, output_answered}
+use Rattle.cli_files.specs.Deciding.{Counts, Decides}
+use Rattle.cfpp_cli.specs.Deciding.{Closes}
 use Rattle.cfpp_cli.specs.Run.{start_of, status_of, Chooses, ByScript, ByPolicy, ProcessorRun, RunsCore, BreaksCore}
-use Rattle.cfpp_cli.specs.declared.answer.Answer.{Answer}
+use Rattle.cli_files.specs.declared.answer.Answer.{Answer}
 use Rattle.cfpp_cli.proofs.Reports.{writes-again}
 
 -- what the report has where the run stops at the stand that it reached

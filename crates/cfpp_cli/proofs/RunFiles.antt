@@ -1,5 +1,5 @@
 -- What comes of the files of a run.
-use Rattle.std.proofs.Common.{◌≡◌, ℕ, List, ◌++◌, Option, Ok, Result, Err, inl}
+use Rattle.std.proofs.Common.{◌≡◌, ℕ, List, Option, Ok, Result, Err, inl}
 use Rattle.cf_io.specs.declared.failed.Failed.{Failed}
 use Rattle.rv_machine.specs.Hart.{Hart}
 use Rattle.rv_machine.specs.Streams.{Streams}
@@ -8,15 +8,15 @@ use Rattle.cf_layout.specs.Layout.{Plan}
 use Rattle.cf_layout.specs.Plain.{plain}
 use Rattle.cf_run.specs.declared.show.Show.TheVariants.{Report}
 use Rattle.cf_words.specs.Options.{default_limit}
-use Rattle.cfpp_cli.specs.Deciding.{Decides}
+use Rattle.cli_files.specs.Deciding.{Decides}
 use Rattle.cfpp_cli.specs.Drawn.{StartsDrawn, AnswersDrawn, BreaksDrawn}
-use Rattle.cfpp_cli.specs.Outside.{Outside}
+use Rattle.cli_files.specs.Outside.{Outside}
 use Rattle.cfpp_cli.specs.Run.{chosen_by, ComesOf, BreaksCore, AnswersRun, BreaksRun}
-use Rattle.cfpp_cli.specs.RunFiles.{RunAsked, IsReady, ReadsFiles, AnswersFiles}
-use Rattle.cfpp_cli.specs.Schedules.{ReadySchedule, drawn_from}
+use Rattle.cli_files.specs.RunFiles.{RunAsked, IsReady, ReadsFiles, AnswersFiles}
+use Rattle.cli_files.specs.Schedules.{ReadySchedule, drawn_from}
 use Rattle.cfpp_cli.specs.Standing.{ShowsOf, BreaksShowing, AnswersMoves, BreaksMoves}
-use Rattle.cfpp_cli.specs.declared.answer.Answer.{Answer}
-use Rattle.cfpp_cli.specs.declared.status.Status.{Status}
+use Rattle.cli_files.specs.declared.answer.Answer.{Answer}
+use Rattle.cli_files.specs.declared.status.Status.{Status}
 
 -- what is decided of the files is what the command decides that reads them
 decides-files : (Comes : Plan → Hart → ReadySchedule → Status → List ℕ → Type 0) (Breaks : Plan → Hart → ReadySchedule → Type 0)

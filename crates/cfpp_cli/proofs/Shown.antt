@@ -9,13 +9,12 @@ use Rattle.rv_machine.specs.Hart.{Hart}
 use Rattle.rv_machine.specs.Streams.{Streams}
 use Rattle.cf_layout.specs.Layout.{Plan}
 use Rattle.cf_core.specs.Processors.{Processor}
-use Rattle.cf_report.specs.Putting.{PutsText}
 use Rattle.cf_run.specs.declared.show.Show.{Show}
-use Rattle.cfpp_cli.specs.Deciding.{Counts, Decides}
-use Rattle.cfpp_cli.specs.Schedules.{ReadySchedule}
+use Rattle.cli_files.specs.Deciding.{Counts, Decides}
+use Rattle.cli_files.specs.Schedules.{ReadySchedule}
 use Rattle.cfpp_cli.specs.Standing.{lines_behind, ShowsOf, BreaksShowing}
-use Rattle.cfpp_cli.specs.declared.answer.Answer.{Answer}
-use Rattle.cfpp_cli.specs.declared.status.Status.{Status}
+use Rattle.cli_files.specs.declared.answer.Answer.{Answer}
+use Rattle.cli_files.specs.declared.status.Status.{Status}
 use Rattle.cfpp_cli.proofs.Machines.{Opens}
 use Rattle.cfpp_cli.proofs.Reports.{writes-again}
 

@@ -4,13 +4,13 @@ use Rattle.cf_io.specs.Causes.{Rose, HasCause}
 use Rattle.cf_io.specs.Puts.{Writes, WritesFront}
 use Rattle.cf_io.specs.declared.failed.Failed.{Failed}
 use Rattle.cf_words.specs.Words.{Asked}
-use Rattle.cfpp_cli.specs.Causes.{files_answered, input_answered, output_answered}
+use Rattle.cli_files.specs.Causes.{files_answered, input_answered, output_answered}
 use Rattle.cfpp_cli.specs.Deciding.{Decided}
-use Rattle.cfpp_cli.specs.Outside.{Outside, Report, report_of}
+use Rattle.cli_files.specs.Outside.{Outside, Report, report_of}
 use Rattle.cfpp_cli.specs.Top.{Completes, IsTop, NoneRose, Reports, says_fault}
-use Rattle.cfpp_cli.specs.declared.answer.Answer.{Answer}
-use Rattle.cfpp_cli.specs.declared.status.Status.{Status}
-use Rattle.cfpp_cli.specs.declared.status.Status.TheVariants as status
+use Rattle.cli_files.specs.declared.answer.Answer.{Answer}
+use Rattle.cli_files.specs.declared.status.Status.{Status}
+use Rattle.cli_files.specs.declared.status.Status.TheVariants as status
 use Rattle.cfpp_cli.proofs.Reports.{writes-again, front-again}
 
 -- counts of faults rose just where the status says so
@@ -110,6 +110,8 @@ says-none (status.BadProgram error) h = record { files = refl; input = refl; out
 says-none (status.BadScript fault) h = record { files = refl; input = refl; output = refl }
 says-none (status.BarredAt line bar) h = record { files = refl; input = refl; output = refl }
 says-none (status.BadSource error) h = record { files = refl; input = refl; output = refl }
+says-none (status.BadDelays fault) h = record { files = refl; input = refl; output = refl }
+says-none (status.BadTrace fault) h = record { files = refl; input = refl; output = refl }
 says-none status.NoMemory h = record { files = refl; input = refl; output = refl }
 
 -- beside no error a count stays

@@ -1,43 +1,10 @@
--- Which answers say that a file, the program's input or its output failed.
+-- Which answer of a listing says that the output failed.
 use Rattle.std.specs.Prelude.{Result, Ok, Err}
-use Rattle.cfpp_cli.specs.declared.answer.Answer.{Answer}
 use Rattle.cfpp_cli.specs.declared.listing.ListErr.{ListErr}
-use Rattle.cfpp_cli.specs.declared.answer.Answer.{Answer}
 use Rattle.cfpp_cli.specs.declared.listing.ListErr.TheVariants as err
-use Rattle.cfpp_cli.specs.declared.status.Status.{Status}
-use Rattle.cfpp_cli.specs.declared.status.Status.TheVariants as status
-use Rattle.cfpp_cli.specs.declared.status.Which.TheVariants as which
-
--- an error where the answer is that the program's input failed
-abbrev pub input_answered : Status → Result (Unit {0}) (Unit {0})
-input_answered (status.ReadFault which.Input) = Err tt
-input_answered (status.ReadFault which.Layout) = Ok tt
-input_answered (status.ReadFault which.Program) = Ok tt
-input_answered (status.ReadFault which.Script) = Ok tt
-input_answered (status.ReadFault which.Source) = Ok tt
-input_answered _ = Ok tt
-
--- an error where the answer is that a file could not be read
-abbrev pub files_answered : Status → Result (Unit {0}) (Unit {0})
-files_answered (status.ReadFault which.Input) = Ok tt
-files_answered (status.ReadFault which.Layout) = Err tt
-files_answered (status.ReadFault which.Program) = Err tt
-files_answered (status.ReadFault which.Script) = Err tt
-files_answered (status.ReadFault which.Source) = Err tt
-files_answered _ = Ok tt
-
--- an error where it is the answer that was given in place of what a file holds
-abbrev pub files_read : {T : Type 0} → Result T Answer → Result (Unit {0}) (Unit {0})
-files_read (Ok x) = Ok tt
-files_read (Err answer) = files_answered answer.status
 
 -- an error where it is said of a listing that the output failed
 abbrev pub output_listed : Result (Unit {0}) ListErr → Result (Unit {0}) (Unit {0})
 output_listed (Ok u) = Ok tt
 output_listed (Err (err.Refused error)) = Ok tt
 output_listed (Err err.Failed) = Err tt
-
--- an error where the answer is that the program's output failed
-abbrev pub output_answered : Status → Result (Unit {0}) (Unit {0})
-output_answered status.WriteFault = Err tt
-output_answered _ = Ok tt

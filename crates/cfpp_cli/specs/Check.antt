@@ -6,9 +6,9 @@ use Rattle.layout_file.specs.Text.{text_of}
 use Rattle.cf_texts.specs.Texts.{line}
 use Rattle.cf_words.specs.Words.{Layout}
 use Rattle.cfpp_cli.specs.FileCommands.{FileSide}
-use Rattle.cfpp_cli.specs.Layouts.{IsLayoutAt, LacksLayout}
-use Rattle.cfpp_cli.specs.declared.status.Status.{Status}
-use Rattle.cfpp_cli.specs.declared.status.Status.TheVariants as status
+use Rattle.cli_files.specs.Layouts.{IsLayoutAt, LacksLayout}
+use Rattle.cli_files.specs.declared.status.Status.{Status}
+use Rattle.cli_files.specs.declared.status.Status.TheVariants as status
 
 -- what the output has after the layout's text was put to it, and the report, by the status
 abbrev pub WritesText : Plan → Option (List ℕ) → Option (List ℕ) → Status → List ℕ → Type 0

@@ -7,12 +7,12 @@ use Rattle.cf_gen.specs.Program.{program_text}
 use Rattle.cf_layout.specs.Plain.{plain}
 use Rattle.cf_run.specs.declared.show.Show.TheVariants.{Report}
 use Rattle.cf_words.specs.Options.{default_limit}
-use Rattle.cfpp_cli.specs.Image.{IsProgram, opened}
-use Rattle.cfpp_cli.specs.Programs.{IsNoProgram}
+use Rattle.cli_files.specs.Image.{IsProgram, opened}
+use Rattle.cli_files.specs.Programs.{IsNoProgram}
 use Rattle.cfpp_cli.specs.Run.{chosen_by, BreaksCore, ComesOf}
-use Rattle.cfpp_cli.specs.Schedules.{drawn_from}
+use Rattle.cli_files.specs.Schedules.{drawn_from}
 use Rattle.cfpp_cli.specs.Sources.{IsAssembly, IsUnassembled}
-use Rattle.cfpp_cli.specs.declared.status.Status.{Status}
+use Rattle.cli_files.specs.declared.status.Status.{Status}
 
 -- the hart on which the program begins, whose text is assembled to a file
 pub record StartsDrawn (number : ℕ) (hart : Hart) : Type 0 where

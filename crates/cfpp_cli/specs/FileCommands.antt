@@ -3,11 +3,11 @@ use Rattle.std.specs.Prelude.{◌≡◌, ℕ, List, [], codes, Option}
 use Rattle.cf_io.specs.Puts.{Writes, WritesFront}
 use Rattle.cf_io.specs.Reads.{Told}
 use Rattle.cf_texts.specs.Texts.{line}
-use Rattle.cfpp_cli.specs.Outside.{Outside}
-use Rattle.cfpp_cli.specs.Files.{IsFrontOf, IsUnreadable, LacksMemory}
-use Rattle.cfpp_cli.specs.declared.status.Status.{Status}
-use Rattle.cfpp_cli.specs.declared.status.Status.TheVariants as status
-use Rattle.cfpp_cli.specs.declared.status.Which.{Which}
+use Rattle.cli_files.specs.Outside.{Outside}
+use Rattle.cli_files.specs.Files.{IsFrontOf, IsUnreadable, LacksMemory}
+use Rattle.cli_files.specs.declared.status.Status.{Status}
+use Rattle.cli_files.specs.declared.status.Status.TheVariants as status
+use Rattle.cli_files.specs.declared.status.Which.{Which}
 
 -- what such a command deals with at one moment: the files, and what was written to the output
 pub record FileSide : Type 0 where

@@ -4,16 +4,16 @@ use Rattle.elf_view.specs.Executables.{IsElf}
 use Rattle.elf_view.specs.Refusal.{starts_with_elf, refusal as elf_refusal}
 use Rattle.cf_io.specs.Puts.{WritesFront}
 use Rattle.cf_listing.specs.Listing.{elf_listing, flat_listing}
-use Rattle.cfpp_cli.specs.Image.{most_bytes}
-use Rattle.cfpp_cli.specs.Refusals.{bad_program}
+use Rattle.cli_files.specs.Image.{most_bytes}
+use Rattle.cli_files.specs.Refusals.{bad_program}
 use Rattle.cfpp_cli.specs.FileCommands.{FileSide, PutsText, FailsText, ComesOfFile, IsUnread, IsUnheld}
 use Rattle.cfpp_cli.specs.declared.listing.ListErr.{ListErr}
 use Rattle.cfpp_cli.specs.declared.listing.ListErr.TheVariants as err
-use Rattle.cfpp_cli.specs.declared.status.ProgramErr.{ProgramErr}
-use Rattle.cfpp_cli.specs.declared.status.ProgramErr.TheVariants as program
-use Rattle.cfpp_cli.specs.declared.status.Status.{Status}
-use Rattle.cfpp_cli.specs.declared.status.Status.TheVariants as status
-use Rattle.cfpp_cli.specs.declared.status.Which.TheVariants as which
+use Rattle.cli_files.specs.declared.status.ProgramErr.{ProgramErr}
+use Rattle.cli_files.specs.declared.status.ProgramErr.TheVariants as program
+use Rattle.cli_files.specs.declared.status.Status.{Status}
+use Rattle.cli_files.specs.declared.status.Status.TheVariants as status
+use Rattle.cli_files.specs.declared.status.Which.TheVariants as which
 
 -- the listing of a program file; one that does not begin as an ELF file is a flat image
 unfoldable pub listing_of : List ℕ → List ℕ

@@ -5,13 +5,13 @@ use Rattle.rv_machine.specs.Streams.{Streams}
 use Rattle.cfpp_cli.specs.Options.{Chosen}
 use Rattle.cfpp_cli.specs.Finish.{Runs, BreaksOff}
 use Rattle.cfpp_cli.specs.Closing.{closing}
-use Rattle.cfpp_cli.specs.Outside.{Outside}
-use Rattle.cfpp_cli.specs.Programs.{IsProgramAt, LacksProgram}
+use Rattle.cli_files.specs.Outside.{Outside}
+use Rattle.cli_files.specs.Programs.{IsProgramAt, LacksProgram}
 use Rattle.cfpp_cli.specs.declared.running.Finish.{Finish}
 use Rattle.cfpp_cli.specs.declared.running.Finish.TheVariants as finish
-use Rattle.cfpp_cli.specs.declared.status.Status.{Status}
-use Rattle.cfpp_cli.specs.declared.status.Status.TheVariants as status
-use Rattle.cfpp_cli.specs.declared.status.Which.TheVariants as which
+use Rattle.cli_files.specs.declared.status.Status.{Status}
+use Rattle.cli_files.specs.declared.status.Status.TheVariants as status
+use Rattle.cli_files.specs.declared.status.Which.TheVariants as which
 
 -- the status that a finish gives
 abbrev pub status_of : ℕ → Finish → Status

@@ -27,13 +27,13 @@ use Rattle.cf_closing.specs.Closing.{closing, is_report_fault}
 use Rattle.cf_closing.specs.Lines.{first_line}
 use Rattle.cfpp_cli.specs.Machine.{RunsHart}
 use Rattle.cfpp_cli.specs.Options.{chosen_of}
-use Rattle.cfpp_cli.specs.Outside.{Outside}
-use Rattle.cfpp_cli.specs.RunFiles.{RunAsked, ReadsFiles, AnswersFiles}
-use Rattle.cfpp_cli.specs.Schedules.{ReadySchedule, in_script, drawn_from, in_turn}
-use Rattle.cfpp_cli.specs.declared.status.ScriptFault.TheVariants as fault
-use Rattle.cfpp_cli.specs.declared.status.Status.{Status}
-use Rattle.cfpp_cli.specs.declared.status.Status.TheVariants as status
-use Rattle.cfpp_cli.specs.declared.status.Which.TheVariants as which
+use Rattle.cli_files.specs.Outside.{Outside}
+use Rattle.cli_files.specs.RunFiles.{RunAsked, ReadsFiles, AnswersFiles}
+use Rattle.cli_files.specs.Schedules.{ReadySchedule, in_script, drawn_from, in_turn}
+use Rattle.cli_files.specs.declared.status.ScriptFault.TheVariants as fault
+use Rattle.cli_files.specs.declared.status.Status.{Status}
+use Rattle.cli_files.specs.declared.status.Status.TheVariants as status
+use Rattle.cli_files.specs.declared.status.Which.TheVariants as which
 
 -- the status of a run that finished so under this limit, with so many moves made
 abbrev pub status_of : (limit moves : ℕ) → Scripted → Status

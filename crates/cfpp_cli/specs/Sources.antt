@@ -10,9 +10,9 @@ use Rattle.elf_make.specs.Files.{elf_file}
 use Rattle.elf_make.specs.Viewed.{IsView}
 use Rattle.asm_texts.specs.Refusals.{bad_source}
 use Rattle.cfpp_cli.specs.FileCommands.{FileSide, PutsOrFails, ComesOfFile, IsUnread, IsUnheld}
-use Rattle.cfpp_cli.specs.declared.status.Status.{Status}
-use Rattle.cfpp_cli.specs.declared.status.Status.TheVariants as status
-use Rattle.cfpp_cli.specs.declared.status.Which.TheVariants as which
+use Rattle.cli_files.specs.declared.status.Status.{Status}
+use Rattle.cli_files.specs.declared.status.Status.TheVariants as status
+use Rattle.cli_files.specs.declared.status.Which.TheVariants as which
 
 -- the greatest length that is read of a source: one byte more than a source may have
 abbrev pub most_source : ℕ

@@ -7,12 +7,12 @@ use Rattle.cf_layout.specs.Layout.{Plan}
 use Rattle.cf_core.specs.Processors.{Processor, opened}
 use Rattle.cf_closing.specs.Moves.{moves_text}
 use Rattle.cf_run.specs.declared.show.Show.{Show}
-use Rattle.cfpp_cli.specs.Outside.{Outside}
+use Rattle.cli_files.specs.Outside.{Outside}
 use Rattle.cfpp_cli.specs.Run.{chosen_by, RunsOpened, LacksProcessor, BreaksCore}
-use Rattle.cfpp_cli.specs.RunFiles.{RunAsked, ReadsFiles, AnswersFiles}
-use Rattle.cfpp_cli.specs.Schedules.{ReadySchedule}
-use Rattle.cfpp_cli.specs.declared.status.Status.{Status}
-use Rattle.cfpp_cli.specs.declared.status.Status.TheVariants as status
+use Rattle.cli_files.specs.RunFiles.{RunAsked, ReadsFiles, AnswersFiles}
+use Rattle.cli_files.specs.Schedules.{ReadySchedule}
+use Rattle.cli_files.specs.declared.status.Status.{Status}
+use Rattle.cli_files.specs.declared.status.Status.TheVariants as status
 
 -- the lines behind the report of `run`: where the script has no further move, which moves can be made
 abbrev pub lines_behind : Status → Processor → List ℕ

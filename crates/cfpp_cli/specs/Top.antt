@@ -7,20 +7,20 @@ use Rattle.cf_texts.specs.Texts.{counted_line}
 use Rattle.cf_words.specs.declared.options.Show.TheVariants as shows
 use Rattle.cf_words.specs.Words.{Asks, IsBadAt, Asked, machine, run, moves, rounds, debug, time, audit, check, asm, listing, gen, help, version}
 use Rattle.cfpp_cli.specs.Options.{chosen_of}
-use Rattle.cfpp_cli.specs.Causes.{files_answered, input_answered, output_answered}
-use Rattle.cfpp_cli.specs.Outside.{Outside, Report}
+use Rattle.cli_files.specs.Causes.{files_answered, input_answered, output_answered}
+use Rattle.cli_files.specs.Outside.{Outside, Report}
 use Rattle.cfpp_cli.specs.Machine.{AnswersMachine, BreaksProgram}
 use Rattle.cfpp_cli.specs.Check.{AnswersCheck}
 use Rattle.cfpp_cli.specs.Drawn.{AnswersDrawn, BreaksDrawn}
 use Rattle.cfpp_cli.specs.FileCommands.{PutsOrFails, side_of}
 use Rattle.cfpp_cli.specs.Listings.{AnswersList}
 use Rattle.cfpp_cli.specs.Sources.{AnswersAsm}
-use Rattle.cfpp_cli.specs.RunFiles.{run_asked}
+use Rattle.cli_files.specs.RunFiles.{run_asked}
 use Rattle.cfpp_cli.specs.Run.{AnswersRun, BreaksRun}
 use Rattle.cfpp_cli.specs.Standing.{AnswersMoves, BreaksMoves}
 use Rattle.cfpp_cli.specs.declared.help.TheConstants.{HELP, VERSION}
-use Rattle.cfpp_cli.specs.declared.status.Status.{Status}
-use Rattle.cfpp_cli.specs.declared.status.Status.TheVariants as status
+use Rattle.cli_files.specs.declared.status.Status.{Status}
+use Rattle.cli_files.specs.declared.status.Status.TheVariants as status
 
 -- the words ask this of a command, or the first of them that has no place stands at this index
 abbrev pub Reading : List (List ℕ) → Result Asked ℕ → Type 0

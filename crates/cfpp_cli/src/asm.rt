@@ -2,17 +2,14 @@
 
 ghost use Rattle.std.specs.Prelude.{◌≡◌, Ok};
 ghost use Rattle.cf_io.specs.Causes.{HasCause};
-ghost use Rattle.cfpp_cli.specs.Causes.{files_answered, input_answered, output_answered};
+ghost use Rattle.cli_files.specs.Causes.{files_answered, input_answered, output_answered};
 ghost use Rattle.cfpp_cli.specs.FileCommands.{file_side};
 ghost use Rattle.cfpp_cli.specs.Sources.{AssemblesSource, AnswersAsm};
 
-use crate::answer::Answer;
 use crate::assembling::file_of;
-use crate::layouts::no_memory;
 use crate::putting::put_text;
-use crate::refusals::line;
-use crate::status::{Status, Which};
 use cf_io::{Files, FilesErr, Sink};
+use cli_files::{Answer, Status, Which, line, no_memory};
 use std::alloc::Global;
 
 /// How much is read of a source: one byte more than it may have.

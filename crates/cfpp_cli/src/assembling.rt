@@ -2,13 +2,11 @@
 
 ghost use Rattle.std.specs.Prelude.{◌≡◌, ◌≢◌, true, false, Ok, IfOk, IfErr};
 ghost use Rattle.rv_asm.specs.declared.refusal.AsmKind.{AsmKind as Kind};
-ghost use Rattle.cfpp_cli.specs.Causes.{files_answered, input_answered, output_answered};
+ghost use Rattle.cli_files.specs.Causes.{files_answered, input_answered, output_answered};
 ghost use Rattle.cfpp_cli.specs.Sources.{IsAssembly, IsUnassembled, Refused};
 
-use crate::answer::Answer;
-use crate::layouts::no_memory;
-use crate::status::Status;
 use asm_texts::bad_source;
+use cli_files::{Answer, Status, no_memory};
 use elf_make::write_elf;
 use rv_asm::{AsmErr, AsmKind, assemble};
 use std::alloc::Global;

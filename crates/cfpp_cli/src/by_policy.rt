@@ -4,17 +4,17 @@ ghost use Rattle.std.specs.Prelude.{◌≡◌, ◌≤◌, [], IfOk, Ok};
 ghost use Rattle.cf_io.specs.Causes.{HasCause};
 ghost use Rattle.rv_machine.specs.Streams.{streams_of};
 ghost use Rattle.cf_run.specs.Policies.{IsOpened};
-ghost use Rattle.cfpp_cli.specs.Causes.{input_answered, output_answered};
-ghost use Rattle.cfpp_cli.specs.Deciding.{Counts, Decides, files_decided};
+ghost use Rattle.cli_files.specs.Causes.{input_answered, output_answered};
+ghost use Rattle.cli_files.specs.Deciding.{Counts, Decides, files_decided};
 ghost use Rattle.cfpp_cli.specs.Run.{ByPolicy, RunsCore, BreaksCore};
 
-use crate::answer::Answer;
 use crate::finishing::{close, is_cut, no_moves};
 use cf_core::Core;
 use cf_index::Candidates;
 use cf_io::{Failed, Sink, Source};
 use cf_run::{Scripted, Show, run_policy};
 use cf_sched::Policy;
+use cli_files::Answer;
 
 /// Runs the opened processor by the picks of a policy, and puts what is shown and the closing lines.
 pub fn run_by_policy<P: Policy, S: Source, K: Sink, R: Sink>(

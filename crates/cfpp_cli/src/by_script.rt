@@ -3,16 +3,16 @@
 ghost use Rattle.std.specs.Prelude.{◌≡◌, ◌≤◌, [], false, length, IfOk, Ok};
 ghost use Rattle.cf_io.specs.Causes.{HasCause};
 ghost use Rattle.rv_machine.specs.Streams.{streams_of};
-ghost use Rattle.cfpp_cli.specs.Causes.{input_answered, output_answered};
-ghost use Rattle.cfpp_cli.specs.Deciding.{Counts, Decides, files_decided};
+ghost use Rattle.cli_files.specs.Causes.{input_answered, output_answered};
+ghost use Rattle.cli_files.specs.Deciding.{Counts, Decides, files_decided};
 ghost use Rattle.cfpp_cli.specs.Run.{ByScript, RunsCore, BreaksCore};
 
-use crate::answer::Answer;
 use crate::finishing::{close, is_cut, no_moves};
 use cf_core::Core;
 use cf_io::{Failed, Sink, Source};
 use cf_run::{Show, run_script};
 use cf_scripts::Script;
+use cli_files::Answer;
 
 /// Runs the processor by the moves of a text, and puts what is shown and the closing lines.
 pub fn run_by_script<S: Source, K: Sink, R: Sink>(

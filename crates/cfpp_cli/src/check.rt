@@ -3,18 +3,15 @@
 ghost use Rattle.std.specs.Prelude.{◌≡◌, Ok};
 ghost use Rattle.cf_io.specs.Causes.{HasCause};
 ghost use Rattle.cf_words.specs.Views.{layout_of};
-ghost use Rattle.cfpp_cli.specs.Causes.{files_answered, input_answered, output_answered};
+ghost use Rattle.cli_files.specs.Causes.{files_answered, input_answered, output_answered};
 ghost use Rattle.cfpp_cli.specs.Check.{AnswersCheck, WritesText};
 ghost use Rattle.cfpp_cli.specs.FileCommands.{file_side};
 
-use crate::answer::Answer;
-use crate::layouts::{layout_at, no_memory};
-use crate::refusals::line;
-use crate::status::Status;
 use cf_io::{Files, Sink, put_all};
 use cf_layout::Layout;
 use cf_texts::Page;
 use cf_words::LayoutWord;
+use cli_files::{Answer, Status, layout_at, line, no_memory};
 use layout_file::write_layout;
 use std::alloc::Global;
 

@@ -4,25 +4,19 @@ ghost use Rattle.std.specs.Prelude.{◌≡◌, ◌≤◌, Ok, IfOk, IfErr};
 ghost use Rattle.cf_io.specs.Causes.{HasCause};
 ghost use Rattle.cf_gen.specs.Program.{program_text};
 ghost use Rattle.rv_machine.specs.Streams.{streams_of};
-ghost use Rattle.cfpp_cli.specs.Causes.{files_answered, input_answered, output_answered};
-ghost use Rattle.cfpp_cli.specs.Deciding.{Counts, Decides, files_decided};
+ghost use Rattle.cli_files.specs.Causes.{files_answered, input_answered, output_answered};
+ghost use Rattle.cli_files.specs.Deciding.{Counts, Decides, files_decided};
 ghost use Rattle.cfpp_cli.specs.Drawn.{AnswersDrawn, BreaksDrawn, IsUndrawn, StartsDrawn};
 ghost use Rattle.cfpp_cli.specs.FileCommands.{PutsOrFails};
 
-use crate::answer::Answer;
 use crate::assembling::file_of;
-use crate::layouts::no_memory;
-use crate::programs::open_image;
-use crate::refusals::line;
 use crate::run::run_ready;
-use crate::run_files::Ready;
-use crate::schedules::ReadySchedule;
-use crate::status::Status;
 use cf_gen::generate;
 use cf_io::{Failed, MemSink, Sink, Source};
 use cf_layout::plain;
 use cf_texts::Page;
 use cf_words::{DEFAULT_LIMIT, RunOptions, Schedule, Show};
+use cli_files::{Answer, Ready, ReadySchedule, Status, line, no_memory, open_image};
 use rv_machine::Machine;
 use std::alloc::Global;
 

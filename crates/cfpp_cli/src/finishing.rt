@@ -4,18 +4,18 @@ ghost use Rattle.std.specs.Prelude.{◌≡◌, [], false, IfOk, Ok};
 ghost use Rattle.cf_io.specs.Causes.{HasCause};
 ghost use Rattle.cf_closing.specs.Closing.{is_report_fault};
 ghost use Rattle.cf_run.specs.Reaching.{no_tally};
-ghost use Rattle.cfpp_cli.specs.Causes.{files_answered};
-ghost use Rattle.cfpp_cli.specs.Deciding.{Closes, files_decided};
+ghost use Rattle.cli_files.specs.Causes.{files_answered};
+ghost use Rattle.cli_files.specs.Deciding.{files_decided};
+ghost use Rattle.cfpp_cli.specs.Deciding.{Closes};
 ghost use Rattle.cfpp_cli.specs.Run.{status_of as status_for};
 
-use crate::answer::Answer;
-use crate::status::{ScriptFault, Status, Which};
 use cf_closing::put_closing;
 use cf_core::Core;
 use cf_io::{Failed, Sink};
 use cf_report::Tally;
 use cf_run::{Ran, Scripted};
 use cf_texts::Page;
+use cli_files::{Answer, ScriptFault, Status, Which};
 
 /// Whether the report failed.
 pub fn is_cut(finish: Scripted) -> bool

@@ -3,17 +3,15 @@
 ghost use Rattle.std.specs.Prelude.{◌≡◌, Ok, OnOk, IfErr};
 ghost use Rattle.cf_io.specs.Causes.{HasCause};
 ghost use Rattle.cf_io.specs.Puts.{Writes};
-ghost use Rattle.cfpp_cli.specs.Causes.{files_answered, input_answered, output_listed, output_answered};
+ghost use Rattle.cli_files.specs.Causes.{files_answered, input_answered, output_answered};
+ghost use Rattle.cfpp_cli.specs.Causes.{output_listed};
 ghost use Rattle.cfpp_cli.specs.FileCommands.{file_side};
 ghost use Rattle.cfpp_cli.specs.Listings.{listing_of, IsListable, IsNotListed, ListsImage, AnswersList};
 
-use crate::answer::Answer;
-use crate::opening::{MOST_BYTES, is_elf};
-use crate::refusals::{bad_program, line};
-use crate::status::{ProgramErr, Status, Which};
 use cf_io::{Files, FilesErr, Sink};
 use cf_listing::{put_elf_listing, put_flat_listing};
 use cf_texts::Page;
+use cli_files::{Answer, MOST_BYTES, ProgramErr, Status, Which, bad_program, is_elf, line};
 use elf_view::Elf;
 use std::alloc::Global;
 

@@ -3,19 +3,17 @@
 ghost use Rattle.std.specs.Prelude.{◌≡◌, Ok};
 ghost use Rattle.cf_io.specs.Causes.{HasCause};
 ghost use Rattle.rv_machine.specs.Streams.{streams_of};
-ghost use Rattle.cfpp_cli.specs.Causes.{files_answered, input_answered, output_answered};
-ghost use Rattle.cfpp_cli.specs.Deciding.{Counts, Decides, files_decided};
+ghost use Rattle.cli_files.specs.Causes.{files_answered, input_answered, output_answered};
+ghost use Rattle.cli_files.specs.Deciding.{Counts, Decides, files_decided};
 ghost use Rattle.cfpp_cli.specs.Machine.{RunsHart, BreaksHart, AnswersMachine, BreaksProgram, status_of as status_for};
 ghost use Rattle.cfpp_cli.specs.Options.{chosen_of};
-ghost use Rattle.cfpp_cli.specs.Outside.{outside_of};
+ghost use Rattle.cli_files.specs.Outside.{outside_of};
 
-use crate::answer::Answer;
 use crate::closing::closing_page;
-use crate::programs::program_at;
 use crate::running::{Finish, run};
-use crate::status::{Status, Which};
 use cf_io::{Failed, Files, Sink, Source};
 use cf_words::MachineOptions;
+use cli_files::{Answer, Status, Which, program_at};
 use rv_machine::Machine;
 use std::alloc::Global;
 

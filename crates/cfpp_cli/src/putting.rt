@@ -2,14 +2,12 @@
 
 ghost use Rattle.std.specs.Prelude.{◌≡◌, Ok};
 ghost use Rattle.cf_io.specs.Causes.{HasCause};
-ghost use Rattle.cfpp_cli.specs.Causes.{files_answered, input_answered, output_answered};
+ghost use Rattle.cli_files.specs.Causes.{files_answered, input_answered, output_answered};
 ghost use Rattle.cfpp_cli.specs.FileCommands.{PutsOrFails};
 
-use crate::answer::Answer;
-use crate::refusals::line;
-use crate::status::Status;
 use cf_io::{Sink, put_all};
 use cf_texts::Page;
+use cli_files::{Answer, Status, line};
 
 /// Puts a text to the output.
 pub fn put_text<K: Sink>(text: &[u8], output: &mut K) -> Answer

@@ -6,25 +6,22 @@ ghost use Rattle.rv_machine.specs.Streams.{streams_of};
 ghost use Rattle.cf_words.specs.Views.{layout_of, schedule_view as asked_schedule};
 ghost use Rattle.cf_core.specs.Processors.{opened};
 ghost use Rattle.cf_run.specs.Policies.{IsOpened};
-ghost use Rattle.cfpp_cli.specs.Causes.{input_answered, output_answered};
-ghost use Rattle.cfpp_cli.specs.Deciding.{Counts, Decides, files_decided};
-ghost use Rattle.cfpp_cli.specs.Outside.{outside_of};
-ghost use Rattle.cfpp_cli.specs.RunFiles.{run_asked, show_of};
+ghost use Rattle.cli_files.specs.Causes.{input_answered, output_answered};
+ghost use Rattle.cli_files.specs.Deciding.{Counts, Decides, files_decided};
+ghost use Rattle.cli_files.specs.Outside.{outside_of};
+ghost use Rattle.cli_files.specs.RunFiles.{run_asked, show_of};
 ghost use Rattle.cfpp_cli.specs.Run.{chosen_by, RunsCore, BreaksCore, ComesOf, AnswersRun, BreaksRun};
-ghost use Rattle.cfpp_cli.specs.Schedules.{schedule_view, FitsScript};
+ghost use Rattle.cli_files.specs.Schedules.{schedule_view, FitsScript};
 
-use crate::answer::Answer;
 use crate::by_policy::run_by_policy;
 use crate::by_script::run_by_script;
-use crate::layouts::no_memory;
-use crate::run_files::{Ready, read_files};
-use crate::schedules::ReadySchedule;
 use cf_core::Core;
 use cf_index::Candidates;
 use cf_io::{Failed, Files, Sink, Source};
 use cf_run::Show;
 use cf_sched::{Drawn, Round};
 use cf_words::{LayoutWord, RunOptions, Show as ShowWord};
+use cli_files::{Answer, Ready, ReadySchedule, no_memory, read_files};
 use std::alloc::Global;
 
 /// What is shown, by the word for it.

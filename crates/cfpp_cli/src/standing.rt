@@ -5,23 +5,20 @@ ghost use Rattle.cf_io.specs.Causes.{HasCause};
 ghost use Rattle.rv_machine.specs.Streams.{streams_of};
 ghost use Rattle.cf_report.specs.Putting.{PutsText};
 ghost use Rattle.cf_words.specs.Views.{layout_of, schedule_view as asked_schedule};
-ghost use Rattle.cfpp_cli.specs.Causes.{input_answered, output_answered};
-ghost use Rattle.cfpp_cli.specs.Deciding.{Counts, Decides, files_decided};
-ghost use Rattle.cfpp_cli.specs.Outside.{outside_of};
-ghost use Rattle.cfpp_cli.specs.RunFiles.{run_asked, show_of};
-ghost use Rattle.cfpp_cli.specs.Schedules.{schedule_view, FitsScript};
+ghost use Rattle.cli_files.specs.Causes.{input_answered, output_answered};
+ghost use Rattle.cli_files.specs.Deciding.{Counts, Decides, files_decided};
+ghost use Rattle.cli_files.specs.Outside.{outside_of};
+ghost use Rattle.cli_files.specs.RunFiles.{run_asked, show_of};
+ghost use Rattle.cli_files.specs.Schedules.{schedule_view, FitsScript};
 ghost use Rattle.cfpp_cli.specs.Standing.{lines_behind, ShowsOf, BreaksShowing, AnswersMoves, BreaksMoves};
 
-use crate::answer::Answer;
-use crate::layouts::no_memory;
 use crate::run::{run_scheduled, shown};
-use crate::run_files::{Ready, read_files};
-use crate::status::Status;
 use cf_closing::put_moves;
 use cf_core::Core;
 use cf_index::Candidates;
 use cf_io::{Failed, Files, Sink, Source};
 use cf_words::{LayoutWord, RunOptions};
+use cli_files::{Answer, Ready, Status, no_memory, read_files};
 use std::alloc::Global;
 
 /// Puts which moves can be made, where a script has no further move.

@@ -2,12 +2,12 @@
 
 ghost use Rattle.std.specs.Prelude.{◌≡◌, false, map, string_bytes};
 ghost use Rattle.cf_io.specs.Causes.{HasCause};
-ghost use Rattle.cfpp_cli.specs.Causes.{input_answered, output_answered};
-ghost use Rattle.cfpp_cli.specs.Deciding.{Counts, Decided, files_decided};
-ghost use Rattle.cfpp_cli.specs.Outside.{outside_of, report_of};
+ghost use Rattle.cli_files.specs.Causes.{input_answered, output_answered};
+ghost use Rattle.cli_files.specs.Deciding.{Counts, files_decided};
+ghost use Rattle.cfpp_cli.specs.Deciding.{Decided};
+ghost use Rattle.cli_files.specs.Outside.{outside_of, report_of};
 ghost use Rattle.cfpp_cli.specs.Top.{IsTop, NoneRose, says_fault};
 
-use crate::answer::Answer;
 use crate::asm::assemble_program;
 use crate::check::check_layout;
 use crate::drawn::{put_drawn, run_drawn};
@@ -15,12 +15,11 @@ use crate::help::{HELP, VERSION};
 use crate::listing::list_program;
 use crate::machine::run_program;
 use crate::putting::put_text;
-use crate::refusals::bad_words;
 use crate::run::run_processor;
 use crate::standing::show_moves;
-use crate::status::Status;
 use cf_io::{Failed, Files, Sink, Source, put_all};
 use cf_words::{Command, RunOptions, Show, read_words};
+use cli_files::{Answer, Status, bad_words};
 use std::alloc::Global;
 
 /// Carries out what the words ask, but for the closing lines of the report.

@@ -1,6 +1,6 @@
 use Rattle.std.proofs.Common.{inl}
 use Rattle.cfpp_cli.specs.Sources.{most_source}
-use Rattle.cfpp_cli.proofs.FileFronts.{file-front}
+use Rattle.cli_files.proofs.FileFronts.{file-front}
 use Rattle.cfpp_cli.proofs.asm.assemble_program.Goals as goal
 
 pub returns-in-Ok-clause-answers : goal.returns-in-Ok-clause-answers

@@ -1,5 +1,5 @@
 use Rattle.std.proofs.Common.{inl, inr, refl}
-use Rattle.cfpp_cli.proofs.NoStreams.{no-cause, lacks-layout-says}
+use Rattle.cli_files.proofs.NoStreams.{no-cause, lacks-layout-says}
 use Rattle.cfpp_cli.proofs.check.check_layout.Goals as goal
 
 pub returns-in-Ok-clause-answers : goal.returns-in-Ok-clause-answers

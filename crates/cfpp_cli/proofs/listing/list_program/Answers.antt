@@ -1,6 +1,6 @@
 use Rattle.std.proofs.Common.{inl, ◌+◌}
-use Rattle.cfpp_cli.specs.Image.{most_bytes}
-use Rattle.cfpp_cli.proofs.FileFronts.{file-front}
+use Rattle.cli_files.specs.Image.{most_bytes}
+use Rattle.cli_files.proofs.FileFronts.{file-front}
 use Rattle.cfpp_cli.proofs.listing.list_program.Goals as goal
 
 pub returns-in-Ok-clause-answers : goal.returns-in-Ok-clause-answers

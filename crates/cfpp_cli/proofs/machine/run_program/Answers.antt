@@ -1,5 +1,5 @@
 use Rattle.std.proofs.Common.{inr, refl, []}
-use Rattle.cfpp_cli.proofs.NoStreams.{no-cause, lacks-program-says}
+use Rattle.cli_files.proofs.NoStreams.{no-cause, lacks-program-says}
 use Rattle.cfpp_cli.proofs.ProgramFiles.{decides-program}
 use Rattle.cfpp_cli.proofs.Reports.{writes-nothing}
 use Rattle.cfpp_cli.proofs.machine.run_program.Goals as goal

@@ -1,5 +1,5 @@
 use Rattle.std.proofs.Common.{inr, refl, []}
-use Rattle.cfpp_cli.proofs.NoStreams.{no-cause, lacks-file-says}
+use Rattle.cli_files.proofs.NoStreams.{no-cause, lacks-file-says}
 use Rattle.cfpp_cli.proofs.Reports.{writes-nothing}
 use Rattle.cfpp_cli.proofs.RunFiles.{decides-moves}
 use Rattle.cfpp_cli.proofs.standing.show_moves.Goals as goal

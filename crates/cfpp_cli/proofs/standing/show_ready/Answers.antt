@@ -1,7 +1,7 @@
 use Rattle.std.proofs.Common.{Ok, inr, refl, []}
 use Rattle.rv_machine.specs.Streams.{streams_of}
-use Rattle.cfpp_cli.specs.RunFiles.{show_of}
-use Rattle.cfpp_cli.specs.Schedules.{schedule_view}
+use Rattle.cli_files.specs.RunFiles.{show_of}
+use Rattle.cli_files.specs.Schedules.{schedule_view}
 use Rattle.cfpp_cli.proofs.Machines.{opens, newly-opened}
 use Rattle.cfpp_cli.proofs.Reports.{writes-nothing}
 use Rattle.cfpp_cli.proofs.Shown.{shown-behind, failed-behind, fallen-never}

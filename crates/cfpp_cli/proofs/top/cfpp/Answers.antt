@@ -1,5 +1,4 @@
-use Rattle.cfpp_cli.specs.Top.{IsTop}
-use Rattle.cfpp_cli.proofs.Tops.{HasCauses, top-put, top-failed, top-cut, none-rose}
+use Rattle.cfpp_cli.proofs.Tops.{top-put, top-failed}
 use Rattle.cfpp_cli.proofs.top.cfpp.Goals as goal
 
 pub returns-in-Ok-put_all-clause-top : goal.returns-in-Ok-put_all-clause-top

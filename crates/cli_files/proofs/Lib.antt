@@ -1,0 +1,6 @@
+pub mod FileFronts
+pub mod Flat
+pub mod Named
+pub mod NoStreams
+pub mod ProgramFiles
+pub mod Segments

@@ -1,0 +1,58 @@
+-- No answer that is given in place of what a file holds says that the program's input or output failed.
+use Rattle.std.proofs.Common.{◌≡◌, ℕ, List, Option, Result, Ok, Err, inl, inr, refl, arith}
+use Rattle.cf_io.specs.Causes.{HasCause}
+use Rattle.cf_io.specs.Reads.{Told}
+use Rattle.cf_words.specs.Words.{Layout, plain, in_file}
+use Rattle.cli_files.specs.Causes.{input_answered, output_answered}
+use Rattle.cli_files.specs.Layouts.{LacksLayout}
+use Rattle.cli_files.specs.Programs.{LacksProgram}
+use Rattle.cli_files.specs.RunFiles.{RunAsked, LacksFile}
+use Rattle.cli_files.specs.Scripts.{LacksScript}
+use Rattle.cli_files.specs.declared.status.Status.{Status}
+
+-- a count that stays, beside no error
+pub no-cause : (n : ℕ) (r : Result (Unit {0}) (Unit {0})) → r ≡ Ok tt → HasCause n n r
+no-cause n (Ok u) h = record { never_falls = omega arith; rose = tt; still = refl }
+no-cause n (Err u) h = absurd (cc)
+
+-- the answer says of neither that it failed
+pub record SaysNoStream (answer : Status) : Type 0 where
+  pub input : input_answered answer ≡ Ok tt
+  pub output : output_answered answer ≡ Ok tt
+
+pub lacks-layout-says : (word : Layout) (before after : Option Told) (answer : Status) (report : List ℕ) →
+    LacksLayout word before after answer report → SaysNoStream answer
+lacks-layout-says plain before after answer report h = absurd h
+lacks-layout-says (in_file name) before after answer report (inl r) =
+    record { input = rw r.status_is; output = rw r.status_is }
+lacks-layout-says (in_file name) before after answer report (inr (inl r)) =
+    record { input = rw r.status_is; output = rw r.status_is }
+lacks-layout-says (in_file name) before after answer report (inr (inr r)) =
+    record { input = rw r.status_is; output = rw r.status_is }
+
+pub lacks-program-says : (name : List ℕ) (before after : Option Told) (answer : Status) (report : List ℕ) →
+    LacksProgram name before after answer report → SaysNoStream answer
+lacks-program-says name before after answer report (inl r) =
+    record { input = rw r.status_is; output = rw r.status_is }
+lacks-program-says name before after answer report (inr (inl r)) =
+    record { input = rw r.status_is; output = rw r.status_is }
+lacks-program-says name before after answer report (inr (inr r)) =
+    record { input = rw r.status_is; output = rw r.status_is }
+
+lacks-script-says : (name : List ℕ) (before after : Option Told) (answer : Status) (report : List ℕ) →
+    LacksScript name before after answer report → SaysNoStream answer
+lacks-script-says name before after answer report (inl r) =
+    record { input = rw r.status_is; output = rw r.status_is }
+lacks-script-says name before after answer report (inr (inl r)) =
+    record { input = rw r.status_is; output = rw r.status_is }
+lacks-script-says name before after answer report (inr (inr r)) =
+    record { input = rw r.status_is; output = rw r.status_is }
+
+pub lacks-file-says : (asked : RunAsked) (before after : Option Told) (answer : Status) (report : List ℕ) →
+    LacksFile asked before after answer report → SaysNoStream answer
+lacks-file-says asked before after answer report (inl h) =
+    lacks-layout-says asked.layout before after answer report h
+lacks-file-says asked before after answer report (inr (inl h)) =
+    lacks-program-says asked.program h.between after answer report h.lacks
+lacks-file-says asked before after answer report (inr (inr h)) =
+    lacks-script-says h.lacks.file h.between after answer report h.lacks.lacks

@@ -1,0 +1,17 @@
+use Rattle.std.proofs.Common.{◌+◌}
+use Rattle.cli_files.specs.Layouts.{most_layout_bytes}
+use Rattle.cli_files.proofs.FileFronts.{file-front}
+use Rattle.cli_files.proofs.Named.{layout-described, layout-refused}
+use Rattle.cli_files.proofs.layouts.read_file.Goals as goal
+
+pub returns-in-Ok-clause-ok : goal.returns-in-Ok-clause-ok
+returns-in-Ok-clause-ok g c =
+    layout-described _ _ _ _ c.read_content.result
+    (file-front (most_layout_bytes + 1) _ _ _ c.in-Ok.file c.in-Ok.ensures.bytes)
+    (rw c.as_slice.ensures.value at c.read_content.ensures.ok)
+
+pub returns-in-Ok-clause-refused : goal.returns-in-Ok-clause-refused
+returns-in-Ok-clause-refused g c =
+    layout-refused _ _ _ _ c.read_content.result
+    (file-front (most_layout_bytes + 1) _ _ _ c.in-Ok.file c.in-Ok.ensures.bytes)
+    (rw c.as_slice.ensures.value at c.read_content.ensures.refused)

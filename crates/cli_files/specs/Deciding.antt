@@ -1,0 +1,25 @@
+-- What a command decides before the closing lines of its report are put.
+use Rattle.std.specs.Prelude.{◌≡◌, ◌≤◌, ℕ, List, ◌++◌, Option, Result, Ok, Err}
+use Rattle.cf_io.specs.Causes.{HasCause}
+use Rattle.cf_io.specs.Puts.{Writes}
+use Rattle.cf_io.specs.declared.failed.Failed.{Failed}
+use Rattle.cli_files.specs.Causes.{files_answered}
+use Rattle.cli_files.specs.declared.answer.Answer.{Answer}
+use Rattle.cli_files.specs.declared.status.Status.{Status}
+
+-- some lines were put, and with the closing lines they are the answer's report; or the report failed
+abbrev pub Decides : (Status → List ℕ → Type 0) → Type 0 → Option (List ℕ) → Option (List ℕ) →
+    Result Answer Failed → Type 0
+Decides answers breaks blank full (Ok answer) =
+    (lines : List ℕ) × Writes blank full lines × answers answer.status (lines ++ answer.closing)
+Decides answers breaks blank full (Err failed) = breaks
+
+-- an error where the decision is that a file could not be read
+abbrev pub files_decided : Result Answer Failed → Result (Unit {0}) (Unit {0})
+files_decided (Ok answer) = files_answered answer.status
+files_decided (Err failed) = Ok tt
+
+-- a count of faults beside what was decided: it rose just where the answer says so; where the report failed it has not fallen
+abbrev pub Counts : (Status → Result (Unit {0}) (Unit {0})) → ℕ → ℕ → Result Answer Failed → Type 0
+Counts answered before now (Ok answer) = HasCause before now (answered answer.status)
+Counts answered before now (Err failed) = before ≤ now

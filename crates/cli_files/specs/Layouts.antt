@@ -1,0 +1,52 @@
+-- The layout that a word of the command line names, and why there is none.
+use Rattle.std.specs.Prelude.{◌≡◌, ◌≢◌, ◌⊎◌, ℕ, ◌+◌, List, codes, Option}
+use Rattle.cf_io.specs.Reads.{Told}
+use Rattle.cf_layout.specs.Layout.{Plan}
+use Rattle.cf_layout.specs.Plain as built_in
+use Rattle.layout_file.specs.declared.fault.FileErr.{FileErr}
+use Rattle.layout_file.specs.declared.fault.FileErr.TheVariants as err
+use Rattle.layout_file.specs.Answers.{Fails, Describes}
+use Rattle.layout_refusals.specs.Texts.{bad_layout}
+use Rattle.cf_texts.specs.Texts.{line}
+use Rattle.cf_words.specs.Words.{Layout, plain, in_file}
+use Rattle.cli_files.specs.Files.{IsFrontOf, IsUnreadable, LacksMemory}
+use Rattle.cli_files.specs.declared.status.Status.{Status}
+use Rattle.cli_files.specs.declared.status.Status.TheVariants as status
+use Rattle.cli_files.specs.declared.status.Which.TheVariants as which
+
+-- the greatest length of a layout file
+abbrev pub most_layout_bytes : ℕ
+most_layout_bytes = 65536
+
+-- the word names this layout: the built-in one, or the one that is described by its file's first bytes, one more than a
+-- layout may have
+abbrev pub IsLayoutAt : Layout → Option Told → Option Told → Plan → Type 0
+IsLayoutAt plain before after plan = (plan ≡ built_in.plain) × (after ≡ before)
+IsLayoutAt (in_file name) before after plan =
+    (file : List ℕ) × IsFrontOf (most_layout_bytes + 1) before after name file × Describes file plan
+
+-- the content of a file is no layout, and the status and the report say why; or memory for it was refused
+abbrev pub IsNoLayout : List ℕ → Status → List ℕ → Type 0
+IsNoLayout file answer report =
+    ((error : FileErr) × Fails file error × (error ≢ err.NoMemory)
+    × (answer ≡ status.BadLayout error) × (report ≡ bad_layout error))
+    ⊎ ((answer ≡ status.NoMemory) × (report ≡ line (codes "no memory")))
+
+-- the file was read, and is no layout
+pub record RefusesLayout (name : List ℕ) (before after : Option Told) (answer : Status)
+    (report : List ℕ) : Type 0 where
+  pub file : List ℕ
+  pub front : IsFrontOf (most_layout_bytes + 1) before after name file
+  pub error : FileErr
+  pub fails : Fails file error
+  pub reason : error ≢ err.NoMemory
+  pub status_is : answer ≡ status.BadLayout error
+  pub reports : report ≡ bad_layout error
+
+-- why the word names no layout, the status that says so, and the report; the built-in layout is always there
+abbrev pub LacksLayout : Layout → Option Told → Option Told → Status → List ℕ → Type 0
+LacksLayout plain before after answer report = ⊥
+LacksLayout (in_file name) before after answer report =
+    RefusesLayout name before after answer report
+    ⊎ (IsUnreadable which.Layout (codes "read fault layout") name before after answer report
+    ⊎ LacksMemory before after answer report)

@@ -1,0 +1,13 @@
+pub mod Causes
+pub mod Codes
+pub mod Deciding
+pub mod Files
+pub mod Image
+pub mod Layouts
+pub mod Opening
+pub mod Outside
+pub mod Programs
+pub mod Refusals
+pub mod RunFiles
+pub mod Schedules
+pub mod Scripts

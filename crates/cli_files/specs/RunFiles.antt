@@ -1,0 +1,97 @@
+-- The files that `run` reads, one after another: the layout's, the program's and, where its moves stand in one, the script's.
+use Rattle.std.specs.Prelude.{◌≡◌, ◌⊎◌, ℕ, List, Option}
+use Rattle.cf_io.specs.Reads.{Told}
+use Rattle.rv_machine.specs.Hart.{Hart}
+use Rattle.cf_layout.specs.Layout.{Plan}
+use Rattle.cf_words.specs.Options.{Schedule}
+use Rattle.cf_words.specs.Words.{Layout}
+use Rattle.cf_words.specs.declared.options.Show.{Show as ShowWord}
+use Rattle.cf_words.specs.declared.options.Show.TheVariants as word
+use Rattle.cf_run.specs.declared.show.Show.{Show}
+use Rattle.cf_run.specs.declared.show.Show.TheVariants as show
+use Rattle.cli_files.specs.Layouts.{IsLayoutAt, LacksLayout}
+use Rattle.cli_files.specs.Outside.{Outside}
+use Rattle.cli_files.specs.Programs.{IsProgramAt, LacksProgram}
+use Rattle.cli_files.specs.Schedules.{ReadySchedule, IsScheduled, LacksSchedule}
+use Rattle.cli_files.specs.declared.status.Status.{Status}
+
+-- what a run of the processor is to show, by the word for it
+abbrev pub show_of : ShowWord → Show
+show_of word.Report = show.Report
+show_of word.Retired = show.Retired
+show_of word.Moves = show.Moves
+
+-- what the words ask of `run`: where the layout is, the file with the program, what chooses the moves, the retired instructions at which the run stops, and what it shows
+pub record RunAsked : Type 0 where
+  pub layout : Layout
+  pub program : List ℕ
+  pub schedule : Schedule
+  pub limit : ℕ
+  pub show : Show
+
+abbrev pub run_asked : Layout → List ℕ → Schedule → ℕ → ShowWord → RunAsked
+run_asked layout program schedule limit lines = record {
+  layout = layout;
+  program = program;
+  schedule = schedule;
+  limit = limit;
+  show = show_of lines;
+}
+
+-- the word names this layout, and behind it was read the program that begins on this hart
+pub record IsLoaded (asked : RunAsked) (before after : Option Told) (plan : Plan) (hart : Hart) : Type 0 where
+  pub between : Option Told
+  pub laid : IsLayoutAt asked.layout before between plan
+  pub program : IsProgramAt asked.program between after hart
+
+-- all are there: behind layout and program this schedule was read
+pub record IsReady (asked : RunAsked) (before after : Option Told) (plan : Plan) (hart : Hart)
+    (schedule : ReadySchedule) : Type 0 where
+  pub between : Option Told
+  pub loaded : IsLoaded asked before between plan hart
+  pub scheduled : IsScheduled asked.schedule between after schedule
+
+-- there is a layout, and no program
+pub record StopsAtProgram (asked : RunAsked) (before after : Option Told) (answer : Status)
+    (report : List ℕ) : Type 0 where
+  pub plan : Plan
+  pub between : Option Told
+  pub laid : IsLayoutAt asked.layout before between plan
+  pub lacks : LacksProgram asked.program between after answer report
+
+-- there are a layout and a program, and in the file of the script none
+pub record StopsAtScript (asked : RunAsked) (before after : Option Told) (answer : Status)
+    (report : List ℕ) : Type 0 where
+  pub plan : Plan
+  pub hart : Hart
+  pub between : Option Told
+  pub loaded : IsLoaded asked before between plan hart
+  pub lacks : LacksSchedule asked.schedule between after answer report
+
+-- the first of them that is not there, the status that says why, and the report
+abbrev pub LacksFile : RunAsked → Option Told → Option Told → Status → List ℕ → Type 0
+LacksFile asked before after answer report =
+    LacksLayout asked.layout before after answer report
+    ⊎ (StopsAtProgram asked before after answer report
+    ⊎ StopsAtScript asked before after answer report)
+
+-- all files are there, and this comes of them
+pub record ReadsFiles (Comes : Plan → Hart → ReadySchedule → Type 0) (asked : RunAsked)
+    (before after : Outside) : Type 0 where
+  pub plan : Plan
+  pub hart : Hart
+  pub schedule : ReadySchedule
+  pub ready : IsReady asked before.files after.files plan hart schedule
+  pub comes : Comes plan hart schedule
+
+-- one of them is not, and the streams were left alone
+pub record RefusesRun (asked : RunAsked) (before after : Outside) (answer : Status)
+    (report : List ℕ) : Type 0 where
+  pub lacks : LacksFile asked before.files after.files answer report
+  pub streams : after.streams ≡ before.streams
+
+-- the answer of a command that reads these files, and its report
+abbrev pub AnswersFiles : (Plan → Hart → ReadySchedule → Type 0) → RunAsked → Outside → Outside → Status →
+    List ℕ → Type 0
+AnswersFiles Comes asked before after answer report =
+    ReadsFiles Comes asked before after ⊎ RefusesRun asked before after answer report

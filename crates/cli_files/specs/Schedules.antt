@@ -1,0 +1,41 @@
+-- What chooses the moves of a run, once its files are read.
+use Rattle.std.specs.Prelude.{◌≡◌, ◌≤◌, ℕ, List, length, vec_items, Option}
+use Rattle.cf_io.specs.Reads.{Told}
+use Rattle.cf_words.specs.Options.{Schedule, by_script, by_seed, by_rule}
+use Rattle.cli_files.specs.Scripts.{IsScriptAt, LacksScript, most_script}
+use Rattle.cli_files.specs.declared.status.Status.{Status}
+use Rattle.cli_files.specs.declared.schedules.ReadySchedule as rust
+use Rattle.cli_files.specs.declared.schedules.ReadySchedule.TheVariants as schedules
+
+-- the text of a script, a seed from which the moves are drawn, or the fixed rule
+pub data ReadySchedule : Type 0 where
+  in_script : (text : List ℕ) → ReadySchedule
+  drawn_from : (seed : ℕ) → ReadySchedule
+  in_turn : ReadySchedule
+
+-- of the schedule that the words ask this becomes: a script's file is read, and where there is none, none
+abbrev pub IsScheduled : Schedule → Option Told → Option Told → ReadySchedule → Type 0
+IsScheduled (by_script file) before after (in_script text) = IsScriptAt file before after text
+IsScheduled (by_script file) before after (drawn_from seed) = ⊥
+IsScheduled (by_script file) before after in_turn = ⊥
+IsScheduled (by_seed seed) before after ready = (ready ≡ drawn_from seed) × (after ≡ before)
+IsScheduled by_rule before after ready = (ready ≡ in_turn) × (after ≡ before)
+
+-- a text is no longer than a script may be
+abbrev pub FitsScript : ReadySchedule → Type 0
+FitsScript (in_script text) = length text ≤ most_script
+FitsScript (drawn_from seed) = Unit {0}
+FitsScript in_turn = Unit {0}
+
+-- the words ask for the script in a file, and that gives none: the status that says why, and the report
+pub record LacksSchedule (schedule : Schedule) (before after : Option Told) (answer : Status)
+    (report : List ℕ) : Type 0 where
+  pub file : List ℕ
+  pub asks : schedule ≡ by_script file
+  pub lacks : LacksScript file before after answer report
+
+-- what contracts see of it
+abbrev pub schedule_view : rust.ReadySchedule → ReadySchedule
+schedule_view (schedules.Script text) = in_script (vec_items text)
+schedule_view (schedules.Seed seed) = drawn_from seed
+schedule_view schedules.Rule = in_turn

@@ -1,0 +1,34 @@
+-- The script that a file holds, and why there is none.
+use Rattle.std.specs.Prelude.{◌≡◌, ◌<◌, ◌≤◌, ◌+◌, ◌⊎◌, ℕ, List, length, codes, Option}
+use Rattle.cf_io.specs.Reads.{Told}
+use Rattle.cf_texts.specs.Texts.{line}
+use Rattle.cli_files.specs.Files.{IsFrontOf, IsUnreadable, LacksMemory}
+use Rattle.cli_files.specs.declared.status.ScriptFault.TheVariants as fault
+use Rattle.cli_files.specs.declared.status.Status.{Status}
+use Rattle.cli_files.specs.declared.status.Status.TheVariants as status
+use Rattle.cli_files.specs.declared.status.Which.TheVariants as which
+
+-- the greatest length of a script
+abbrev pub most_script : ℕ
+most_script = 16777216
+
+-- the file's first bytes, one more than a script may have, are not too many, and are this text
+pub record IsScriptAt (name : List ℕ) (before after : Option Told) (text : List ℕ) : Type 0 where
+  pub front : IsFrontOf (most_script + 1) before after name text
+  pub fits : length text ≤ most_script
+
+-- they are too many
+pub record IsTooLong (name : List ℕ) (before after : Option Told) (answer : Status)
+    (report : List ℕ) : Type 0 where
+  pub text : List ℕ
+  pub front : IsFrontOf (most_script + 1) before after name text
+  pub long : most_script < length text
+  pub status_is : answer ≡ status.BadScript fault.TooLong
+  pub reports : report ≡ line (codes "bad script: TooLong")
+
+-- why the file of this name gives no script, the status that says so, and the report
+abbrev pub LacksScript : List ℕ → Option Told → Option Told → Status → List ℕ → Type 0
+LacksScript name before after answer report =
+    IsTooLong name before after answer report
+    ⊎ (IsUnreadable which.Script (codes "read fault script") name before after answer report
+    ⊎ LacksMemory before after answer report)

@@ -1,0 +1,85 @@
+//! The layouts that words of the command line name.
+
+ghost use Rattle.std.specs.Prelude.{◌≡◌, IfOk, IfErr, codes};
+ghost use Rattle.cf_io.specs.Causes.{HasCause};
+ghost use Rattle.cf_texts.specs.Texts.{line as line_of};
+ghost use Rattle.cf_words.specs.Words.{in_file};
+ghost use Rattle.cf_words.specs.Views.{layout_of};
+ghost use Rattle.layout_file.specs.Answers.{Describes};
+ghost use Rattle.cli_files.specs.declared.status.Status.TheVariants.{NoMemory as Refused};
+ghost use Rattle.cli_files.specs.Causes.{files_read};
+ghost use Rattle.cli_files.specs.Layouts.{IsNoLayout, IsLayoutAt, LacksLayout};
+
+use crate::answer::Answer;
+use crate::refusals::line;
+use crate::status::{Status, Which};
+use cf_io::{Files, FilesErr};
+use cf_layout::{Layout, plain};
+use cf_words::LayoutWord;
+use layout_file::{FileErr, read_layout};
+use layout_refusals::bad_layout;
+use std::alloc::Global;
+
+/// The greatest length of a layout file, in bytes.
+const MOST_BYTES: u64 = 65_536;
+
+/// The answer where memory was refused.
+pub fn no_memory() -> Answer
+    ensures status { result.status ≡ Refused }
+    ensures closing { result.closing ≡ line_of (codes "no memory") }
+{
+    Answer {
+        status: Status::NoMemory,
+        closing: line(b"no memory"),
+    }
+}
+
+/// The layout that a file of this content describes, or the answer where it describes none.
+fn read_content(alloc: Global, file: &[u8]) -> Result<Layout, Answer>
+    ensures ok { IfOk result (λ layout. Describes file.now layout) }
+    ensures refused { IfErr result (λ answer. IsNoLayout file.now answer.status answer.closing) }
+{
+    match read_layout(alloc, file) {
+        Ok(layout) => Ok(layout),
+        Err(FileErr::NoMemory) => Err(no_memory()),
+        Err(error) => {
+            let closing = bad_layout(&error);
+            let status = Status::BadLayout(error);
+            Err(Answer { status, closing })
+        }
+    }
+}
+
+/// The layout in the file of this name, or the answer where there is none.
+fn read_file<F: Files>(alloc: Global, name: &str, files: &mut F) -> Result<Layout, Answer>
+    ensures ok { IfOk result (IsLayoutAt (in_file name.now) (F.told files.old) (F.told files.new)) }
+    ensures refused { IfErr result (λ answer. LacksLayout (in_file name.now) (F.told files.old) (F.told files.new)
+        answer.status answer.closing) }
+    ensures faults { HasCause (F.faults files.old) (F.faults files.new) (files_read result) }
+{
+    match files.read(alloc, name, MOST_BYTES + 1) {
+        Ok(file) => read_content(alloc, file.as_slice()),
+        Err(FilesErr::Failed) => Err(Answer {
+            status: Status::ReadFault(Which::Layout),
+            closing: line(b"read fault layout"),
+        }),
+        Err(FilesErr::NoMemory) => Err(no_memory()),
+    }
+}
+
+/// The layout that the word names, or the answer where there is none.
+pub fn layout_at<F: Files>(
+    alloc: Global,
+    word: LayoutWord<'_>,
+    files: &mut F,
+) -> Result<Layout, Answer>
+    ensures ok { IfOk result (IsLayoutAt (layout_of word.entry) (F.told files.old) (F.told files.new)) }
+    ensures refused { IfErr result (λ answer. LacksLayout (layout_of word.entry) (F.told files.old) (F.told files.new)
+        answer.status answer.closing) }
+    ensures faults { HasCause (F.faults files.old) (F.faults files.new) (files_read result) }
+{
+    match word {
+        LayoutWord::Plain => Ok(plain()),
+        LayoutWord::File(name) => read_file(alloc, name, files),
+    }
+}

@@ -1,0 +1,23 @@
+//! The files that the words of the command line name: what each of them holds, and what is answered where one is not there
+//! or is refused.
+#![tactic(auto)]
+
+mod answer;
+mod layouts;
+mod opening;
+mod parts;
+mod programs;
+mod refusals;
+mod run_files;
+mod schedules;
+mod scripts;
+mod status;
+
+pub use answer::Answer;
+pub use layouts::{layout_at, no_memory};
+pub use opening::{MOST_BYTES, is_elf};
+pub use programs::{open_image, program_at};
+pub use refusals::{bad_program, bad_words, line};
+pub use run_files::{Ready, read_files};
+pub use schedules::ReadySchedule;
+pub use status::{DelaysFault, ProgramErr, ScriptFault, Status, TraceFault, Which};

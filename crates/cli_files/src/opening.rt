@@ -1,0 +1,119 @@
+//! Opening a program file.
+
+ghost use Rattle.std.specs.Prelude.{◌≡◌, ◌≤◌, IfOk, IfErr, MatchResult, All, length, true, false};
+ghost use Rattle.elf_view.specs.Refusal.{starts_with_elf};
+ghost use Rattle.mem_regions.specs.Causes.{IsAccepted};
+ghost use Rattle.mem_regions.specs.Loading.{LiesIn, loaded};
+ghost use Rattle.mem_regions.specs.Refusal.{refusal, refusal_told};
+ghost use Rattle.rv_machine.specs.Machine.{start_hart};
+ghost use Rattle.cli_files.specs.Image.{IsProgram, opened};
+ghost use Rattle.cli_files.specs.Opening.{IsNotOpened};
+
+use crate::parts::{MOST_PARTS, STACK, count_parts, parts_of};
+use crate::status::ProgramErr;
+use elf_view::Elf;
+use mem_regions::{LoadErr, Part, Regions};
+use rv_machine::Machine;
+use std::alloc::Global;
+
+/// The greatest length of a program file, in bytes.
+pub const MOST_BYTES: u64 = 33_554_432;
+
+/// Where a flat image stands, and where it is entered.
+const FLAT_BASE: u32 = 0x1_0000;
+
+/// Why a program file was not opened.
+pub enum OpenErr {
+    /// It is no program.
+    Refused(ProgramErr),
+
+    /// There was no memory for it.
+    NoMemory,
+}
+
+/// Whether a file begins as an ELF file does.
+pub fn is_elf(image: &[u8]) -> bool
+    ensures { result ≡ starts_with_elf image.now }
+{
+    image.starts_with(b"\x7fELF")
+}
+
+/// A machine at the entry, with these parts of the file as its memory.
+fn load(alloc: Global, image: &[u8], parts: &[Part], entry: u32) -> Result<Machine, LoadErr>
+    requires { All (LiesIn image.now) parts.now }
+    ensures accepted { IfOk result (λ machine. IsAccepted parts.now) }
+    ensures machine { IfOk result (λ machine. machine ≡ start_hart (loaded image.now parts.now) entry) }
+    ensures refused { IfErr result (λ error. refusal parts.now ≡ refusal_told error) }
+{
+    let memory = Regions::load(alloc, image, parts)?;
+    Ok(Machine::new(memory, entry))
+}
+
+#[tactic(auto, using(crate::proofs::Flat::flat), unfolding(crate::specs::Image::opened))]
+fn open_flat(alloc: Global, image: &[u8]) -> Result<Machine, OpenErr>
+    requires fits { length image.now ≤ 33554432 }
+    requires flat { starts_with_elf image.now ≡ false }
+    ensures program { IfOk result (λ machine. IsProgram image.now) }
+    ensures machine { IfOk result (λ machine. machine ≡ opened image.now) }
+    ensures refused { IfErr result (IsNotOpened image.now) }
+{
+    let size = image.len() as u32;
+    let flat = Part {
+        base: FLAT_BASE,
+        start: 0,
+        len: size,
+        size,
+        write: true,
+        exec: true,
+    };
+    match load(alloc, image, &[flat, STACK], FLAT_BASE) {
+        Ok(machine) => Ok(machine),
+        Err(LoadErr::NoMemory) => Err(OpenErr::NoMemory),
+        Err(_) => unreachable!(),
+    }
+}
+
+#[tactic(auto, using(crate::proofs::Segments::segment_parts), unfolding(crate::specs::Image::opened))]
+fn open_elf(alloc: Global, image: &[u8]) -> Result<Machine, OpenErr>
+    requires fits { length image.now ≤ 33554432 }
+    requires elf { starts_with_elf image.now ≡ true }
+    ensures program { IfOk result (λ machine. IsProgram image.now) }
+    ensures machine { IfOk result (λ machine. machine ≡ opened image.now) }
+    ensures refused { IfErr result (IsNotOpened image.now) }
+{
+    let elf = match Elf::view(image) {
+        Ok(elf) => elf,
+        Err(error) => return Err(OpenErr::Refused(ProgramErr::Elf(error))),
+    };
+    let count = count_parts(&elf);
+    if count > MOST_PARTS {
+        let error = LoadErr::TooMany(count);
+        return Err(OpenErr::Refused(ProgramErr::Load(error)));
+    }
+    let (parts, count) = parts_of(&elf);
+    match load(alloc, image, &parts[..count], elf.entry()) {
+        Ok(machine) => Ok(machine),
+        Err(LoadErr::NoMemory) => Err(OpenErr::NoMemory),
+        Err(error) => Err(OpenErr::Refused(ProgramErr::Load(error))),
+    }
+}
+
+/// The machine that a program file starts. A file that begins as an ELF file is one: its segments that take room in
+/// memory are loaded, and the machine begins at its entry. Any other file is a flat image, in one region that may be
+/// read, written and executed, and begins there. Behind them stands the stack.
+#[tactic(auto, unfolding(crate::specs::Image::opened))]
+pub fn open(alloc: Global, image: &[u8]) -> Result<Machine, OpenErr>
+    ensures program { IfOk result (λ machine. IsProgram image.now) }
+    ensures machine { IfOk result (λ machine. machine ≡ opened image.now) }
+    ensures count { IfOk result (λ machine. machine.retired ≡ 0) }
+    ensures refused { IfErr result (IsNotOpened image.now) }
+{
+    if image.len() as u64 > MOST_BYTES {
+        return Err(OpenErr::Refused(ProgramErr::TooLong));
+    }
+    if is_elf(image) {
+        open_elf(alloc, image)
+    } else {
+        open_flat(alloc, image)
+    }
+}

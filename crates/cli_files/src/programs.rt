@@ -1,0 +1,51 @@
+//! The programs that words of the command line name.
+
+ghost use Rattle.std.specs.Prelude.{◌≡◌, IfOk, IfErr};
+ghost use Rattle.cf_io.specs.Causes.{HasCause};
+ghost use Rattle.cli_files.specs.Causes.{files_read};
+ghost use Rattle.cli_files.specs.Image.{IsProgram, opened};
+ghost use Rattle.cli_files.specs.Programs.{IsProgramAt, LacksProgram, IsNoProgram};
+
+use crate::answer::Answer;
+use crate::layouts::no_memory;
+use crate::opening::{MOST_BYTES, OpenErr, open};
+use crate::refusals::{bad_program, line};
+use crate::status::{Status, Which};
+use cf_io::{Files, FilesErr};
+use rv_machine::Machine;
+use std::alloc::Global;
+
+/// The machine that a program file starts, or the answer where it starts none.
+pub fn open_image(alloc: Global, image: &[u8]) -> Result<Machine, Answer>
+    ensures program { IfOk result (λ machine. IsProgram image.now) }
+    ensures machine { IfOk result (λ machine. machine ≡ opened image.now) }
+    ensures count { IfOk result (λ machine. machine.retired ≡ 0) }
+    ensures refused { IfErr result (λ answer. IsNoProgram image.now answer.status answer.closing) }
+{
+    match open(alloc, image) {
+        Ok(machine) => Ok(machine),
+        Err(OpenErr::Refused(error)) => Err(Answer {
+            status: Status::BadProgram(error),
+            closing: bad_program(error),
+        }),
+        Err(OpenErr::NoMemory) => Err(no_memory()),
+    }
+}
+
+/// The machine that the program in the file of this name starts, or the answer where there is none.
+pub fn program_at<F: Files>(alloc: Global, name: &str, files: &mut F) -> Result<Machine, Answer>
+    ensures ok { IfOk result (IsProgramAt name.now (F.told files.old) (F.told files.new)) }
+    ensures count { IfOk result (λ machine. machine.retired ≡ 0) }
+    ensures refused { IfErr result (λ answer. LacksProgram name.now
+        (F.told files.old) (F.told files.new) answer.status answer.closing) }
+    ensures faults { HasCause (F.faults files.old) (F.faults files.new) (files_read result) }
+{
+    match files.read(alloc, name, MOST_BYTES + 1) {
+        Ok(image) => open_image(alloc, image.as_slice()),
+        Err(FilesErr::Failed) => Err(Answer {
+            status: Status::ReadFault(Which::Program),
+            closing: line(b"read fault program"),
+        }),
+        Err(FilesErr::NoMemory) => Err(no_memory()),
+    }
+}

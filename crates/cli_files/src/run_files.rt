@@ -1,0 +1,65 @@
+//! The files of a run of the processor.
+
+ghost use Rattle.std.specs.Prelude.{◌≡◌, IfOk, IfErr};
+ghost use Rattle.cf_io.specs.Causes.{HasCause};
+ghost use Rattle.cli_files.specs.Causes.{files_read};
+ghost use Rattle.cf_words.specs.Views.{layout_of, schedule_view as asked_schedule};
+ghost use Rattle.cli_files.specs.RunFiles.{run_asked, IsReady, LacksFile};
+ghost use Rattle.cli_files.specs.Schedules.{schedule_view, FitsScript};
+
+use crate::answer::Answer;
+use crate::layouts::layout_at;
+use crate::programs::program_at;
+use crate::schedules::{ReadySchedule, schedule_at};
+use cf_io::Files;
+use cf_layout::Layout;
+use cf_words::{LayoutWord, RunOptions};
+use rv_machine::Machine;
+use std::alloc::Global;
+
+/// What a run of the processor begins with: its layout, the machine that the program starts, and what chooses the moves.
+#[derive(Drop)]
+pub struct Ready {
+    pub layout: Layout,
+    pub machine: Machine,
+    pub schedule: ReadySchedule,
+}
+
+/// Reads the layout, the program and the script, where the words name one, in this order; or the answer of the first that
+/// is not there.
+pub fn read_files<F: Files>(
+    alloc: Global,
+    layout: LayoutWord<'_>,
+    program: &str,
+    options: RunOptions<'_>,
+    files: &mut F,
+) -> Result<Ready, Answer>
+    ensures ready { IfOk result (λ ready. IsReady
+        (run_asked (layout_of layout.entry) program.now (asked_schedule options.entry.schedule) options.entry.limit options.entry.show)
+        (F.told files.old) (F.told files.new)
+        ready.layout ready.machine (schedule_view ready.schedule)) }
+    ensures count { IfOk result (λ ready. ready.machine.retired ≡ 0) }
+    ensures fits { IfOk result (λ ready. FitsScript (schedule_view ready.schedule)) }
+    ensures lacks { IfErr result (λ answer. LacksFile
+        (run_asked (layout_of layout.entry) program.now (asked_schedule options.entry.schedule) options.entry.limit options.entry.show)
+        (F.told files.old) (F.told files.new)
+        answer.status answer.closing) }
+    ensures faults { HasCause (F.faults files.old) (F.faults files.new) (files_read result) }
+{
+    let layout = match layout_at(alloc, layout, files) {
+        Ok(layout) => layout,
+        Err(answer) => return Err(answer),
+    };
+    let machine = match program_at(alloc, program, files) {
+        Ok(machine) => machine,
+        Err(answer) => return Err(answer),
+    };
+    match schedule_at(alloc, options.schedule, files) {
+        Ok(schedule) => Ok(Ready {
+            layout,
+            machine,
+            schedule,
+        }),
+        Err(answer) => Err(answer),
+    }
+}

@@ -1,0 +1,49 @@
+//! What chooses the moves of a run, once its files are read.
+
+ghost use Rattle.std.specs.Prelude.{IfOk, IfErr};
+ghost use Rattle.cf_io.specs.Causes.{HasCause};
+ghost use Rattle.cli_files.specs.Causes.{files_read};
+ghost use Rattle.cf_words.specs.Views.{schedule_view as asked_schedule};
+ghost use Rattle.cli_files.specs.Schedules.{schedule_view, FitsScript, IsScheduled, LacksSchedule};
+
+use crate::answer::Answer;
+use crate::scripts::script_at;
+use cf_io::Files;
+use cf_words::Schedule;
+use std::alloc::Global;
+
+/// What chooses the moves of a run.
+#[derive(Drop)]
+pub enum ReadySchedule {
+    /// The script of this text.
+    Script(Vec<u8>),
+    /// They are drawn from this seed.
+    Seed(u32),
+    /// The fixed rule.
+    Rule,
+}
+
+/// Reads the script, where the words ask for one in a file; or the answer where that gives none.
+pub fn schedule_at<F: Files>(
+    alloc: Global,
+    schedule: Schedule<'_>,
+    files: &mut F,
+) -> Result<ReadySchedule, Answer>
+    ensures ready { IfOk result (λ ready. IsScheduled (asked_schedule schedule.entry)
+        (F.told files.old) (F.told files.new)
+        (schedule_view ready)) }
+    ensures fits { IfOk result (λ ready. FitsScript (schedule_view ready)) }
+    ensures lacks { IfErr result (λ answer. LacksSchedule (asked_schedule schedule.entry)
+        (F.told files.old) (F.told files.new)
+        answer.status answer.closing) }
+    ensures faults { HasCause (F.faults files.old) (F.faults files.new) (files_read result) }
+{
+    match schedule {
+        Schedule::Script(file) => match script_at(alloc, file, files) {
+            Ok(text) => Ok(ReadySchedule::Script(text)),
+            Err(answer) => Err(answer),
+        },
+        Schedule::Seed(seed) => Ok(ReadySchedule::Seed(seed)),
+        Schedule::Rule => Ok(ReadySchedule::Rule),
+    }
+}

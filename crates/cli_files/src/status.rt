@@ -1,0 +1,147 @@
+ghost use Rattle.std.specs.Prelude.{◌≡◌};
+
+use cf_audit::TraceKind;
+use cf_bind::Bar;
+use cf_scripts::ScriptErr;
+use cf_timed::DelayErr;
+use elf_view::ElfErr;
+use layout_file::FileErr;
+use mem_regions::LoadErr;
+use rv_asm::AsmErr;
+
+/// What could not be read.
+#[derive(Clone, Copy, Debug, PartialEq, Eq)]
+pub enum Which {
+    Layout,
+    Program,
+    Script,
+    Source,
+    Delays,
+    Trace,
+    Input,
+}
+
+/// Why a file is no program.
+#[derive(Clone, Copy, Debug, PartialEq, Eq)]
+pub enum ProgramErr {
+    /// It has over 33,554,432 bytes.
+    TooLong,
+
+    /// It begins as an ELF file does, and is none that can be viewed.
+    Elf(ElfErr),
+
+    /// The parts of memory that it describes cannot be loaded. A part is named by its index among the segments that
+    /// take room in memory, behind which the stack stands.
+    Load(LoadErr),
+}
+
+/// Why a file is no script of moves that can be made.
+#[derive(Clone, Copy, Debug, PartialEq, Eq)]
+pub enum ScriptFault {
+    /// It has over 16,777,216 bytes.
+    TooLong,
+
+    /// The line that was reached tells no move.
+    Line(ScriptErr),
+}
+
+/// Why a file does not tell how long moves take.
+#[derive(Clone, Copy, Debug, PartialEq, Eq)]
+pub enum DelaysFault {
+    /// It has over 65,536 bytes.
+    TooLong,
+
+    /// A line tells no delay.
+    Line(DelayErr),
+}
+
+/// Why a file is not the trace of a run.
+#[derive(Clone, Copy, PartialEq, Eq)]
+pub enum TraceFault {
+    /// It has over 16,777,216 bytes.
+    TooLong,
+
+    /// The line in which that is seen, counted from 1, and why.
+    Line { line: u32, kind: TraceKind },
+}
+
+/// How a call of the simulator ended.
+#[derive(Drop)]
+pub enum Status {
+    /// The program ended itself with this code.
+    Exit(u8),
+
+    /// An instruction trapped: the cause, its address, and the address or the word at fault.
+    Trap { cause: u8, pc: u32, detail: u32 },
+
+    /// So many instructions had retired, and the program had not ended.
+    Limit(Option<u64>),
+
+    /// The script had no further move after so many that were made, and the program had not ended.
+    ScriptEnd(u64),
+
+    /// A command that runs no program was carried out.
+    Done,
+
+    /// The words are not those of any command: the index of the first that has no place.
+    BadWords(u32),
+
+    /// The file is no layout.
+    BadLayout(FileErr),
+
+    /// The file is no program.
+    BadProgram(ProgramErr),
+
+    /// The file is no script, or a line of it that was reached tells no move.
+    BadScript(ScriptFault),
+
+    /// The move of this line of the script could not be made: the bar is the first of its row in the table of moves.
+    BarredAt { line: u32, bar: Bar },
+
+    /// The assembly source is refused.
+    BadSource(AsmErr),
+
+    /// The file does not tell how long moves take.
+    BadDelays(DelaysFault),
+
+    /// The file is not the trace of a run.
+    BadTrace(TraceFault),
+
+    /// A file or the input could not be read.
+    ReadFault(Which),
+
+    /// The output or the report could not be written.
+    WriteFault,
+
+    /// Memory was refused, before anything was written.
+    NoMemory,
+}
+
+impl Status {
+    ghost use Rattle.cli_files.specs.Codes.{code_of};
+
+    /// The status that the process ends with: a program's own, 0 after a command that runs none or at a script's end, or
+    /// one from 120 on.
+    pub fn code(&self) -> u8
+        ensures { result ≡ code_of self.now }
+    {
+        match self {
+            Status::Exit(code) => *code,
+            Status::Trap { .. } => 120,
+            Status::Limit(_) => 121,
+            Status::ScriptEnd(_) => 0,
+            Status::Done => 0,
+            Status::BadWords(_) => 122,
+            Status::BadLayout(_) => 123,
+            Status::BadProgram(_) => 124,
+            Status::BadScript(_) => 125,
+            Status::BarredAt { .. } => 126,
+            Status::BadSource(_) => 127,
+            Status::ReadFault(_) => 128,
+            Status::WriteFault => 129,
+            Status::NoMemory => 130,
+            Status::BadDelays(_) => 131,
+            Status::BadTrace(_) => 132,
+        }
+    }
+}
