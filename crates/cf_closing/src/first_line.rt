@@ -12,7 +12,7 @@ use cf_texts::Page;
 
 /// What bars a move: its name, and the register of a source without a value.
 #[tactic(auto, unfolding(crate::specs::Lines::bar_text))]
-pub(crate) fn push_bar(page: &mut Page, bar: Bar)
+pub fn push_bar(page: &mut Page, bar: Bar)
     requires { length page.old + 20 ≤ 640 }
     ensures text { page.new ≡ page.old ++ bar_text bar }
     ensures size { length page.new ≤ length page.old + 20 }

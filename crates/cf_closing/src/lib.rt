@@ -8,6 +8,7 @@ mod moves;
 mod parts;
 
 pub use closing::put_closing;
+pub use first_line::push_bar;
 pub use moves::put_moves;
 
 #[cfg(test)]

@@ -9,7 +9,6 @@ unfoldable pub is_built : Name → Bool
 is_built names.Debug = false
 is_built names.Time = false
 is_built names.Rounds = false
-is_built names.Audit = false
 is_built _ = true
 
 -- the first word of each command

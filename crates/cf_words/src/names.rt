@@ -32,7 +32,7 @@ impl Name {
     pub(crate) fn is_built(self) -> bool
         ensures { result ≡ is_built self }
     {
-        !matches!(self, Name::Debug | Name::Time | Name::Rounds | Name::Audit)
+        !matches!(self, Name::Debug | Name::Time | Name::Rounds)
     }
 
     /// The command that begins with this word.

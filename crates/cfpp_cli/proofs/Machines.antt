@@ -259,8 +259,3 @@ pub opened-comes : (limit : ℕ) (show : Show) (last : Processor) (plan : Plan) 
     → Decides (ComesOf limit show plan hart schedule before after blank) (BreaksCore limit show (opened plan hart) (chosen_by limit show schedule) before after blank full) blank full result
 opened-comes limit show last plan hart schedule before after blank full (Ok answer) (lines, put, runs) = (lines, put, inl (last, runs))
 opened-comes limit show last plan hart schedule before after blank full (Err failed) breaks = breaks
-
--- a new processor is opened
-pub newly-opened : (core : Processor) (plan : Plan) (hart : Hart) → core ≡ opened plan hart → IsOpened core
-unfolding opened
-newly-opened core plan hart is = record { hart = hart; is = is ∙ ap (λ (p : Plan). opened p hart) (sym (ap (λ (p : Processor). p.plan) is)) }

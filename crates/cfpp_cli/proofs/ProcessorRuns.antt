@@ -82,19 +82,6 @@ policy-shown picked onward limit show start new policy later moves (ran.Trap cau
 policy-shown picked onward limit show start new policy later moves ran.Limit r sound =
     same-place _ _ _ _ r.reaches.report r.stops.1
 
--- a processor that was opened on a hart has its count, and has not failed
-pub opened-count : (plan : Plan) (hart : Hart) → (opened plan hart).state.retired ≡ hart.retired
-unfolding opened opened_on
-opened-count plan hart = refl
-
-pub opened-works : (plan : Plan) (hart : Hart) → (opened plan hart).state.failed ≡ false
-unfolding opened opened_on
-opened-works plan hart = refl
-
--- an opened processor has not failed
-pub opened-sound : (core : Processor) → IsOpened core → core.state.failed ≡ false
-opened-sound core o = ap (λ (p : Processor). p.state.failed) o.is ∙ opened-works core.plan o.hart
-
 -- a run, and where it ends
 run_of : (limit : ℕ) (show : Show) (core last : Processor) (by : Chooses) (before after : Streams)
     (blank told : Option (List ℕ)) (tally : Tally) (finish : Scripted) (trace : List Made) (moves : List Move) →
@@ -300,5 +287,3 @@ policy-report before now ran.ReportFault sound h = absurd (cc)
 pub closed-report : (before half now : ℕ) (result : Result Answer Failed) → half ≡ before →
     HasCause half now result → HasCause before now result
 closed-report before half now result same h = subst (λ (n : ℕ). HasCause n now result) same h
-
-pub ruleset opened_cores = (opened-count, opened-works, opened-sound)

@@ -7,6 +7,7 @@ use Rattle.cf_texts.specs.Texts.{counted_line}
 use Rattle.cf_words.specs.declared.options.Show.TheVariants as shows
 use Rattle.cf_words.specs.Words.{Asks, IsBadAt, Asked, machine, run, moves, rounds, debug, time, audit, check, asm, listing, gen, help, version}
 use Rattle.cfpp_cli.specs.Options.{chosen_of}
+use Rattle.cli_audit.specs.Audit.{AnswersAudit, audit_asked, side_of as audit_side}
 use Rattle.cli_files.specs.Causes.{files_answered, input_answered, output_answered}
 use Rattle.cli_files.specs.Outside.{Outside, Report}
 use Rattle.cfpp_cli.specs.Machine.{AnswersMachine, BreaksProgram}
@@ -53,7 +54,9 @@ Answers (Ok (moves layout program schedule limit)) before after blank answer rep
 Answers (Ok (rounds layout program limit)) before after blank answer report = Unit {0}
 Answers (Ok (debug layout program)) before after blank answer report = Unit {0}
 Answers (Ok (time delays program layouts limit sites)) before after blank answer report = Unit {0}
-Answers (Ok (audit layout program trace)) before after blank answer report = Unit {0}
+Answers (Ok (audit layout program trace)) before after blank answer report =
+    AnswersAudit (audit_asked layout program trace) (audit_side before) (audit_side after) answer report
+    × (after.streams.output ≡ before.streams.output)
 Answers (Ok (check layout)) before after blank answer report =
     AnswersCheck layout (side_of before) (side_of after) answer report
     × (after.streams.input ≡ before.streams.input)

@@ -36,7 +36,7 @@ pub fn shown(word: ShowWord) -> Show
 }
 
 /// Runs the opened processor by what was read.
-#[tactic(auto, using(crate::proofs::ProcessorRuns::opened_cores))]
+#[tactic(auto, using(cli_files::proofs::Opened::opened_cores))]
 pub fn run_scheduled<S: Source, K: Sink, R: Sink>(
     core: &mut Core,
     candidates: &mut Candidates,
@@ -99,7 +99,7 @@ pub fn run_scheduled<S: Source, K: Sink, R: Sink>(
 }
 
 /// Opens the processor of the layout on the machine, and runs it by what was read.
-#[tactic(auto, using(crate::proofs::ProcessorRuns::opened_cores))]
+#[tactic(auto, using(cli_files::proofs::Opened::opened_cores))]
 pub fn run_ready<S: Source, K: Sink, R: Sink>(
     alloc: Global,
     ready: Ready,

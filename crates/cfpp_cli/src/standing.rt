@@ -33,7 +33,7 @@ fn put_behind<R: Sink>(core: &Core, status: &Status, report: &mut R) -> Result<(
 }
 
 /// Opens the processor of the layout on the machine, runs it by what was read, and puts which moves can be made then.
-#[tactic(auto, using(crate::proofs::ProcessorRuns::opened_cores))]
+#[tactic(auto, using(cli_files::proofs::Opened::opened_cores))]
 fn show_ready<S: Source, K: Sink, R: Sink>(
     alloc: Global,
     ready: Ready,

@@ -19,6 +19,7 @@ use crate::run::run_processor;
 use crate::standing::show_moves;
 use cf_io::{Failed, Files, Sink, Source, put_all};
 use cf_words::{Command, RunOptions, Show, read_words};
+use cli_audit::audit_trace;
 use cli_files::{Answer, Status, bad_words};
 use std::alloc::Global;
 
@@ -79,11 +80,17 @@ fn decide<F: Files, S: Source, K: Sink, R: Sink>(
         Ok(Command::Gen { number, run: false }) => Ok(put_drawn(number, output)),
         Ok(Command::Help) => Ok(put_text(HELP, output)),
         Ok(Command::Version) => Ok(put_text(VERSION, output)),
+        Ok(
+            Command::Audit {
+                layout,
+                program,
+                trace,
+            },
+        ) => Ok(audit_trace(alloc, layout, program, trace, files, input)),
         // These commands are not built, and no words ask for them.
         Ok(Command::Rounds { .. }) => unreachable!(),
         Ok(Command::Debug { .. }) => unreachable!(),
         Ok(Command::Time { .. }) => unreachable!(),
-        Ok(Command::Audit { .. }) => unreachable!(),
         Err(index) => Ok(Answer {
             status: Status::BadWords(index),
             closing: bad_words(index),

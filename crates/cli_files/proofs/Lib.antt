@@ -2,5 +2,6 @@ pub mod FileFronts
 pub mod Flat
 pub mod Named
 pub mod NoStreams
+pub mod Opened
 pub mod ProgramFiles
 pub mod Segments

@@ -5,6 +5,7 @@ use Rattle.cf_io.specs.Reads.{Told}
 use Rattle.cf_words.specs.Words.{Layout, plain, in_file}
 use Rattle.cli_files.specs.Causes.{input_answered, output_answered}
 use Rattle.cli_files.specs.Layouts.{LacksLayout}
+use Rattle.cli_files.specs.Loading.{LacksLoaded}
 use Rattle.cli_files.specs.Programs.{LacksProgram}
 use Rattle.cli_files.specs.RunFiles.{RunAsked, LacksFile}
 use Rattle.cli_files.specs.Scripts.{LacksScript}
@@ -48,11 +49,16 @@ lacks-script-says name before after answer report (inr (inl r)) =
 lacks-script-says name before after answer report (inr (inr r)) =
     record { input = rw r.status_is; output = rw r.status_is }
 
+pub lacks-loaded-says : (layout : Layout) (program : List ℕ) (before after : Option Told) (answer : Status)
+    (report : List ℕ) → LacksLoaded layout program before after answer report → SaysNoStream answer
+lacks-loaded-says layout program before after answer report (inl h) =
+    lacks-layout-says layout before after answer report h
+lacks-loaded-says layout program before after answer report (inr h) =
+    lacks-program-says program h.between after answer report h.lacks
+
 pub lacks-file-says : (asked : RunAsked) (before after : Option Told) (answer : Status) (report : List ℕ) →
     LacksFile asked before after answer report → SaysNoStream answer
 lacks-file-says asked before after answer report (inl h) =
-    lacks-layout-says asked.layout before after answer report h
-lacks-file-says asked before after answer report (inr (inl h)) =
-    lacks-program-says asked.program h.between after answer report h.lacks
-lacks-file-says asked before after answer report (inr (inr h)) =
+    lacks-loaded-says asked.layout asked.program before after answer report h
+lacks-file-says asked before after answer report (inr h) =
     lacks-script-says h.lacks.file h.between after answer report h.lacks.lacks

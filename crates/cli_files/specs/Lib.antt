@@ -4,6 +4,7 @@ pub mod Deciding
 pub mod Files
 pub mod Image
 pub mod Layouts
+pub mod Loading
 pub mod Opening
 pub mod Outside
 pub mod Programs

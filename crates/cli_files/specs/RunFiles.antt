@@ -9,9 +9,8 @@ use Rattle.cf_words.specs.declared.options.Show.{Show as ShowWord}
 use Rattle.cf_words.specs.declared.options.Show.TheVariants as word
 use Rattle.cf_run.specs.declared.show.Show.{Show}
 use Rattle.cf_run.specs.declared.show.Show.TheVariants as show
-use Rattle.cli_files.specs.Layouts.{IsLayoutAt, LacksLayout}
+use Rattle.cli_files.specs.Loading.{IsLoaded, LacksLoaded}
 use Rattle.cli_files.specs.Outside.{Outside}
-use Rattle.cli_files.specs.Programs.{IsProgramAt, LacksProgram}
 use Rattle.cli_files.specs.Schedules.{ReadySchedule, IsScheduled, LacksSchedule}
 use Rattle.cli_files.specs.declared.status.Status.{Status}
 
@@ -38,26 +37,12 @@ run_asked layout program schedule limit lines = record {
   show = show_of lines;
 }
 
--- the word names this layout, and behind it was read the program that begins on this hart
-pub record IsLoaded (asked : RunAsked) (before after : Option Told) (plan : Plan) (hart : Hart) : Type 0 where
-  pub between : Option Told
-  pub laid : IsLayoutAt asked.layout before between plan
-  pub program : IsProgramAt asked.program between after hart
-
 -- all are there: behind layout and program this schedule was read
 pub record IsReady (asked : RunAsked) (before after : Option Told) (plan : Plan) (hart : Hart)
     (schedule : ReadySchedule) : Type 0 where
   pub between : Option Told
-  pub loaded : IsLoaded asked before between plan hart
+  pub loaded : IsLoaded asked.layout asked.program before between plan hart
   pub scheduled : IsScheduled asked.schedule between after schedule
-
--- there is a layout, and no program
-pub record StopsAtProgram (asked : RunAsked) (before after : Option Told) (answer : Status)
-    (report : List ℕ) : Type 0 where
-  pub plan : Plan
-  pub between : Option Told
-  pub laid : IsLayoutAt asked.layout before between plan
-  pub lacks : LacksProgram asked.program between after answer report
 
 -- there are a layout and a program, and in the file of the script none
 pub record StopsAtScript (asked : RunAsked) (before after : Option Told) (answer : Status)
@@ -65,15 +50,14 @@ pub record StopsAtScript (asked : RunAsked) (before after : Option Told) (answer
   pub plan : Plan
   pub hart : Hart
   pub between : Option Told
-  pub loaded : IsLoaded asked before between plan hart
+  pub loaded : IsLoaded asked.layout asked.program before between plan hart
   pub lacks : LacksSchedule asked.schedule between after answer report
 
 -- the first of them that is not there, the status that says why, and the report
 abbrev pub LacksFile : RunAsked → Option Told → Option Told → Status → List ℕ → Type 0
 LacksFile asked before after answer report =
-    LacksLayout asked.layout before after answer report
-    ⊎ (StopsAtProgram asked before after answer report
-    ⊎ StopsAtScript asked before after answer report)
+    LacksLoaded asked.layout asked.program before after answer report
+    ⊎ StopsAtScript asked before after answer report
 
 -- all files are there, and this comes of them
 pub record ReadsFiles (Comes : Plan → Hart → ReadySchedule → Type 0) (asked : RunAsked)

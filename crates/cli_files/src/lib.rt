@@ -4,6 +4,7 @@
 
 mod answer;
 mod layouts;
+mod loading;
 mod opening;
 mod parts;
 mod programs;
@@ -15,6 +16,7 @@ mod status;
 
 pub use answer::Answer;
 pub use layouts::{layout_at, no_memory};
+pub use loading::{Loaded, load};
 pub use opening::{MOST_BYTES, is_elf};
 pub use programs::{open_image, program_at};
 pub use refusals::{bad_program, bad_words, line};

@@ -8,8 +8,7 @@ ghost use Rattle.cli_files.specs.RunFiles.{run_asked, IsReady, LacksFile};
 ghost use Rattle.cli_files.specs.Schedules.{schedule_view, FitsScript};
 
 use crate::answer::Answer;
-use crate::layouts::layout_at;
-use crate::programs::program_at;
+use crate::loading::load;
 use crate::schedules::{ReadySchedule, schedule_at};
 use cf_io::Files;
 use cf_layout::Layout;
@@ -46,18 +45,14 @@ pub fn read_files<F: Files>(
         answer.status answer.closing) }
     ensures faults { HasCause (F.faults files.old) (F.faults files.new) (files_read result) }
 {
-    let layout = match layout_at(alloc, layout, files) {
-        Ok(layout) => layout,
-        Err(answer) => return Err(answer),
-    };
-    let machine = match program_at(alloc, program, files) {
-        Ok(machine) => machine,
+    let loaded = match load(alloc, layout, program, files) {
+        Ok(loaded) => loaded,
         Err(answer) => return Err(answer),
     };
     match schedule_at(alloc, options.schedule, files) {
         Ok(schedule) => Ok(Ready {
-            layout,
-            machine,
+            layout: loaded.layout,
+            machine: loaded.machine,
             schedule,
         }),
         Err(answer) => Err(answer),

@@ -2,7 +2,8 @@ use Rattle.std.proofs.Common.{inr, refl, []}
 use Rattle.rv_machine.specs.Streams.{streams_of}
 use Rattle.cli_files.specs.RunFiles.{show_of}
 use Rattle.cli_files.specs.Schedules.{schedule_view}
-use Rattle.cfpp_cli.proofs.Machines.{opens, opened-comes, newly-opened}
+use Rattle.cli_files.proofs.Opened.{newly-opened}
+use Rattle.cfpp_cli.proofs.Machines.{opens, opened-comes}
 use Rattle.cfpp_cli.proofs.Reports.{writes-nothing}
 use Rattle.cfpp_cli.proofs.run.run_ready.Goals as goal
 

@@ -1,7 +1,7 @@
 use Rattle.std.proofs.Common.{◌≡◌, true, false, Ok, Err, refl, []}
 use Rattle.rv_machine.specs.Streams.{streams_of}
 use Rattle.cf_words.specs.Commands.{is_built}
-use Rattle.cf_words.specs.Words.{machine, run, moves, check, asm, listing, gen, help, version}
+use Rattle.cf_words.specs.Words.{machine, run, moves, audit, check, asm, listing, gen, help, version}
 use Rattle.cf_words.specs.Views.{layout_of, schedule_view}
 use Rattle.cfpp_cli.specs.Drawn.{AnswersDrawn, BreaksDrawn}
 use Rattle.cfpp_cli.proofs.Reports.{writes-nothing}
@@ -103,6 +103,13 @@ returns-in-Ok-Version-clause-decided g c = record {
   );
 }
 
+pub returns-in-Ok-Audit-clause-decided : goal.returns-in-Ok-Audit-clause-decided
+returns-in-Ok-Audit-clause-decided g c = record {
+  reading = Ok (audit (layout_of c.in-Ok-Audit.layout) c.in-Ok-Audit.program.now c.in-Ok-Audit.trace.now);
+  reads = rw c.in-Ok-Audit.field-0-is at c.in-Ok-Audit.ensures.answers;
+  decides = ([], writes-nothing _, (c.audit_trace.ensures.answers, refl));
+}
+
 -- no words ask for a command that is not built
 pub unreachable-requires : goal.unreachable-requires
 unfolding is_built
@@ -115,10 +122,6 @@ unreachable-requires-in-Ok-Debug g c = cc (rw c.in-Ok-Debug.field-0-is at c.in-O
 pub unreachable-requires-in-Ok-Time : goal.unreachable-requires-in-Ok-Time
 unfolding is_built
 unreachable-requires-in-Ok-Time g c = cc (rw c.in-Ok-Time.field-0-is at c.in-Ok-Time.ensures.built)
-
-pub unreachable-requires-in-Ok-Audit : goal.unreachable-requires-in-Ok-Audit
-unfolding is_built
-unreachable-requires-in-Ok-Audit g c = cc (rw c.in-Ok-Audit.field-0-is at c.in-Ok-Audit.ensures.built)
 
 pub returns-in-Err-clause-decided : goal.returns-in-Err-clause-decided
 returns-in-Err-clause-decided g c = record {

@@ -1,0 +1,50 @@
+-- What an audit found is what the command answers.
+use Rattle.std.proofs.Common.{◌≡◌, ℕ, List, Option, Some, None, refl, ap}
+use Rattle.rv_machine.specs.Hart.{Hart}
+use Rattle.cf_layout.specs.Layout.{Plan}
+use Rattle.cf_core.specs.Processors.{Processor, opened}
+use Rattle.cf_audit.specs.declared.answer.Audit.{Audit}
+use Rattle.cf_audit.specs.declared.answer.Audit.TheVariants as found
+use Rattle.cf_audit.specs.Audits.{Audits, AgreesWithAll, IsAgreement, RetiresSequentially}
+use Rattle.cli_files.specs.declared.status.Status.{Status}
+use Rattle.cli_audit.specs.Audit.{status_of, text_of, RetiresAsMachine, AnswersText, IsAccepted, AcceptsRuns, ComesOfTrace}
+use Rattle.cli_audit.specs.Reports.{trace_of}
+
+-- the lines of a trace that agrees are those of the machine on whose hart the processor was opened
+retires : (plan : Plan) (hart : Hart) (told : Option (List ℕ)) (text : List ℕ) (n : ℕ) →
+    RetiresSequentially (opened plan hart) told text (found.Agrees n) → RetiresAsMachine plan hart told text n
+unfolding RetiresSequentially opened
+retires plan hart None text n h = tt
+retires plan hart (Some rest) text n h = h hart refl
+
+answers : (plan : Plan) (hart : Hart) (new : Processor) (text : List ℕ) (before after : Option (List ℕ)) (a : Audit) →
+    Audits (opened plan hart) new before after text a → RetiresSequentially (opened plan hart) before text a →
+    AnswersText plan hart text before after (status_of a) (text_of a)
+unfolding Audits
+answers plan hart new text before after (found.Agrees n) (last, is, stands) lines =
+    (n, record { last = last; is = is; input = stands.input; retires = retires plan hart before text n lines }, refl)
+answers plan hart new text before after (found.Wrong number kind) wrong lines = (wrong, refl)
+answers plan hart new text before after found.ReadFault stops lines = (stops, refl)
+
+accepted : (n : ℕ) (a : Audit) → IsAgreement n a → IsAccepted n (status_of a) (text_of a)
+accepted n (found.Agrees m) same = ap trace_of same
+accepted n (found.Wrong number kind) h = h
+accepted n found.ReadFault h = tt
+
+accepts : (plan : Plan) (hart : Hart) (text : List ℕ) (told : Option (List ℕ)) (a : Audit) →
+    AgreesWithAll (opened plan hart) told text a → AcceptsRuns plan hart text told (status_of a) (text_of a)
+accepts plan hart text None a h = tt
+accepts plan hart text (Some rest) a h = λ n last is. accepted n a (h n last is)
+
+pub comes : (core new : Processor) (plan : Plan) (hart : Hart) (text : List ℕ) (before after : Option (List ℕ)) (a : Audit)
+    (answer : Status) (report : List ℕ) → core ≡ opened plan hart → Audits core new before after text a →
+    AgreesWithAll core before text a → RetiresSequentially core before text a → answer ≡ status_of a → report ≡ text_of a →
+    ComesOfTrace plan hart text before after answer report
+comes core new plan hart text before after a answer report is audits agrees lines said told =
+    let audited : Audits (opened plan hart) new before after text a = rw is at audits in
+    let all : AgreesWithAll (opened plan hart) before text a = rw is at agrees in
+    let retired : RetiresSequentially (opened plan hart) before text a = rw is at lines in
+    rw (said, told) (record {
+      answers = answers plan hart new text before after a audited retired;
+      accepts = accepts plan hart text before a all;
+    })

@@ -1,0 +1,134 @@
+-- What the command `audit` answers, and what it leaves of the outside.
+use Rattle.std.specs.Prelude.{◌≡◌, ◌⊎◌, ℕ, List, codes, Option, Some, None}
+use Rattle.cf_io.specs.Reads.{Told}
+use Rattle.rv_machine.specs.Hart.{Hart}
+use Rattle.rv_machine.specs.Streams.{Becomes}
+use Rattle.cf_layout.specs.Layout.{Plan}
+use Rattle.cf_semantics.specs.State.{Moment}
+use Rattle.cf_core.specs.Processors.{opened}
+use Rattle.cf_audit.specs.declared.answer.Audit.{Audit}
+use Rattle.cf_audit.specs.declared.answer.Audit.TheVariants as found
+use Rattle.cf_audit.specs.Audits.{RetiresAs}
+use Rattle.cf_audit.specs.Traces.{IsTrace, GoesWrong, StopsAtCall}
+use Rattle.cf_texts.specs.Texts.{line}
+use Rattle.cf_words.specs.Words.{Layout}
+use Rattle.cli_files.specs.Loading.{IsLoaded, LacksLoaded}
+use Rattle.cli_files.specs.Outside.{Outside}
+use Rattle.cli_files.specs.declared.status.Status.{Status}
+use Rattle.cli_files.specs.declared.status.Status.TheVariants as status
+use Rattle.cli_files.specs.declared.status.TraceFault.TheVariants as fault
+use Rattle.cli_files.specs.declared.status.Which.TheVariants as which
+use Rattle.cli_audit.specs.Reports.{bad_trace, trace_of}
+use Rattle.cli_audit.specs.Traces.{IsTraceAt, LacksTrace}
+
+-- what the words ask of `audit`: where the layout is, and the files with the program and the trace
+pub record AuditAsked : Type 0 where
+  pub layout : Layout
+  pub program : List ℕ
+  pub trace : List ℕ
+
+abbrev pub audit_asked : Layout → List ℕ → List ℕ → AuditAsked
+audit_asked layout program trace = record { layout = layout; program = program; trace = trace }
+
+-- what `audit` deals with at one moment: the files, and what is left of the program's input
+pub record AuditSide : Type 0 where
+  pub files : Option Told
+  pub input : Option (List ℕ)
+
+abbrev pub side : Option Told → Option (List ℕ) → AuditSide
+side files input = record { files = files; input = input }
+
+abbrev pub side_of : Outside → AuditSide
+side_of outside = side outside.files outside.streams.input
+
+-- the status that tells what an audit found
+abbrev pub status_of : Audit → Status
+status_of (found.Agrees n) = status.Done
+status_of (found.Wrong number kind) = status.BadTrace (fault.Line number kind)
+status_of found.ReadFault = status.ReadFault which.Input
+
+-- and the report
+abbrev pub text_of : Audit → List ℕ
+text_of (found.Agrees n) = trace_of n
+text_of (found.Wrong number kind) = bad_trace (fault.Line number kind)
+text_of found.ReadFault = line (codes "read fault input")
+
+-- over an input that tells what it has left, the lines of retirement in the trace are those of the sequential machine that starts on the hart with that input: a line for each of its first instructions, in their order
+abbrev pub RetiresAsMachine : Plan → Hart → Option (List ℕ) → List ℕ → ℕ → Type 0
+RetiresAsMachine plan hart None text n = Unit {0}
+RetiresAsMachine plan hart (Some rest) text n = RetiresAs (opened plan hart) hart rest text n
+
+-- the text is the trace of a run of n moves of the layout's processor, opened on the hart; the run leaves the input so
+pub record IsTraceOf (plan : Plan) (hart : Hart) (text : List ℕ) (before after : Option (List ℕ)) (n : ℕ) :
+    Type 0 where
+  pub last : Moment
+  pub is : IsTrace (opened plan hart) before text n last
+  pub input : Becomes before after last.rest
+  pub retires : RetiresAsMachine plan hart before text n
+
+-- what is answered of a text, by the status: it is the trace of a run; or it is none, which is seen in this line; or the input failed the call that it tells; or memory for the processor was refused
+abbrev pub AnswersText : Plan → Hart → List ℕ → (before after : Option (List ℕ)) → Status → List ℕ → Type 0
+AnswersText plan hart text before after status.Done report =
+    (n : ℕ) × IsTraceOf plan hart text before after n × (report ≡ trace_of n)
+AnswersText plan hart text before after (status.BadTrace (fault.Line number kind)) report =
+    GoesWrong (opened plan hart) before text number kind × (report ≡ bad_trace (fault.Line number kind))
+AnswersText plan hart text before after (status.ReadFault which.Input) report =
+    StopsAtCall (opened plan hart) before text × (report ≡ line (codes "read fault input"))
+AnswersText plan hart text before after status.NoMemory report =
+    (after ≡ before) × (report ≡ line (codes "no memory"))
+AnswersText plan hart text before after _ report = ⊥
+
+-- the answer for the trace of a run of n moves, unless the input fails or memory is refused
+abbrev pub IsAccepted : ℕ → Status → List ℕ → Type 0
+IsAccepted n status.Done report = report ≡ trace_of n
+IsAccepted n (status.BadTrace why) report = ⊥
+IsAccepted n _ report = Unit {0}
+
+-- over an input that tells what it has left, each trace of a run is answered so
+abbrev pub AcceptsRuns : Plan → Hart → List ℕ → Option (List ℕ) → Status → List ℕ → Type 0
+AcceptsRuns plan hart text None answer report = Unit {0}
+AcceptsRuns plan hart text (Some rest) answer report =
+    (n : ℕ) (last : Moment) → IsTrace (opened plan hart) (Some rest) text n last → IsAccepted n answer report
+
+-- what comes of a layout, a hart and a text
+pub record ComesOfTrace (plan : Plan) (hart : Hart) (text : List ℕ) (before after : Option (List ℕ))
+    (answer : Status) (report : List ℕ) : Type 0 where
+  pub answers : AnswersText plan hart text before after answer report
+  pub accepts : AcceptsRuns plan hart text before answer report
+
+-- layout, program and trace were read, in this order
+pub record ReadsTrace (asked : AuditAsked) (before after : Option Told) (plan : Plan) (hart : Hart)
+    (text : List ℕ) : Type 0 where
+  pub between : Option Told
+  pub loaded : IsLoaded asked.layout asked.program before between plan hart
+  pub traced : IsTraceAt asked.trace between after text
+
+-- and this came of them
+pub record AuditsTrace (asked : AuditAsked) (before after : AuditSide) (answer : Status) (report : List ℕ) :
+    Type 0 where
+  pub plan : Plan
+  pub hart : Hart
+  pub text : List ℕ
+  pub reads : ReadsTrace asked before.files after.files plan hart text
+  pub comes : ComesOfTrace plan hart text before.input after.input answer report
+
+-- there are a layout and a program, and no trace
+pub record StopsAtTrace (asked : AuditAsked) (before after : Option Told) (answer : Status)
+    (report : List ℕ) : Type 0 where
+  pub plan : Plan
+  pub hart : Hart
+  pub between : Option Told
+  pub loaded : IsLoaded asked.layout asked.program before between plan hart
+  pub lacks : LacksTrace asked.trace between after answer report
+
+-- one of them is not there, and the input was left alone
+pub record RefusesAudit (asked : AuditAsked) (before after : AuditSide) (answer : Status) (report : List ℕ) :
+    Type 0 where
+  pub lacks : LacksLoaded asked.layout asked.program before.files after.files answer report
+      ⊎ StopsAtTrace asked before.files after.files answer report
+  pub input : after.input ≡ before.input
+
+-- the answer of `audit` and its report
+abbrev pub AnswersAudit : AuditAsked → AuditSide → AuditSide → Status → List ℕ → Type 0
+AnswersAudit asked before after answer report =
+    AuditsTrace asked before after answer report ⊎ RefusesAudit asked before after answer report

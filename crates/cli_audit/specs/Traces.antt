@@ -1,0 +1,34 @@
+-- The trace that a file holds, and why there is none.
+use Rattle.std.specs.Prelude.{◌≡◌, ◌<◌, ◌≤◌, ◌+◌, ◌⊎◌, ℕ, List, length, codes, Option}
+use Rattle.cf_io.specs.Reads.{Told}
+use Rattle.cli_files.specs.Files.{IsFrontOf, IsUnreadable, LacksMemory}
+use Rattle.cli_files.specs.declared.status.Status.{Status}
+use Rattle.cli_files.specs.declared.status.Status.TheVariants as status
+use Rattle.cli_files.specs.declared.status.TraceFault.TheVariants as fault
+use Rattle.cli_files.specs.declared.status.Which.TheVariants as which
+use Rattle.cli_audit.specs.Reports.{bad_trace}
+
+-- the greatest length of a trace
+abbrev pub most_trace : ℕ
+most_trace = 16777216
+
+-- the file's first bytes, one more than a trace may have, are not too many, and are this text
+pub record IsTraceAt (name : List ℕ) (before after : Option Told) (text : List ℕ) : Type 0 where
+  pub front : IsFrontOf (most_trace + 1) before after name text
+  pub fits : length text ≤ most_trace
+
+-- they are too many
+pub record IsTooLong (name : List ℕ) (before after : Option Told) (answer : Status)
+    (report : List ℕ) : Type 0 where
+  pub text : List ℕ
+  pub front : IsFrontOf (most_trace + 1) before after name text
+  pub long : most_trace < length text
+  pub status_is : answer ≡ status.BadTrace fault.TooLong
+  pub reports : report ≡ bad_trace fault.TooLong
+
+-- why the file of this name gives no trace, the status that says so, and the report
+abbrev pub LacksTrace : List ℕ → Option Told → Option Told → Status → List ℕ → Type 0
+LacksTrace name before after answer report =
+    IsTooLong name before after answer report
+    ⊎ (IsUnreadable which.Trace (codes "read fault trace") name before after answer report
+    ⊎ LacksMemory before after answer report)

@@ -1,0 +1,87 @@
+//! The command `audit`.
+#![tactic(auto, using(cli_files::proofs::Opened::opened_cores))]
+
+ghost use Rattle.std.specs.Prelude.{◌≡◌, ◌≤◌, length, Ok};
+ghost use Rattle.cf_io.specs.Causes.{HasCause};
+ghost use Rattle.cf_words.specs.Views.{layout_of};
+ghost use Rattle.cli_files.specs.Causes.{files_answered, input_answered, output_answered};
+ghost use Rattle.cli_audit.specs.Audit.{audit_asked, side, AnswersAudit, ComesOfTrace, status_of as status_for, text_of};
+
+use crate::reports::{bad_trace, trace_of};
+use crate::traces::trace_at;
+use cf_audit::{Audit, audit};
+use cf_core::Core;
+use cf_io::{Files, Source};
+use cf_words::LayoutWord;
+use cli_files::{Answer, Loaded, Status, TraceFault, Which, line, load, no_memory};
+use std::alloc::Global;
+
+/// The answer that tells what an audit found.
+fn answer_of(found: Audit) -> Answer
+    ensures status { result.status ≡ status_for found }
+    ensures closing { result.closing ≡ text_of found }
+{
+    match found {
+        Audit::Agrees(moves) => Answer {
+            status: Status::Done,
+            closing: trace_of(moves),
+        },
+        Audit::Wrong { line, kind } => {
+            let fault = TraceFault::Line { line, kind };
+            Answer {
+                status: Status::BadTrace(fault),
+                closing: bad_trace(fault),
+            }
+        }
+        Audit::ReadFault => Answer {
+            status: Status::ReadFault(Which::Input),
+            closing: line(b"read fault input"),
+        },
+    }
+}
+
+/// Opens the processor of the layout on the machine, and audits a text as a trace of it.
+fn audit_loaded<S: Source>(alloc: Global, loaded: Loaded, text: &[u8], input: &mut S) -> Answer
+    requires count { loaded.machine.retired ≡ 0 }
+    requires size { length text.now ≤ 16777216 }
+    ensures comes { ComesOfTrace loaded.layout loaded.machine text.now (S.left input.old) (S.left input.new)
+        result.status result.closing }
+    ensures files { files_answered result.status ≡ Ok tt }
+    ensures input { HasCause (S.faults input.old) (S.faults input.new) (input_answered result.status) }
+    ensures output { output_answered result.status ≡ Ok tt }
+{
+    match Core::new(alloc, loaded.layout, loaded.machine) {
+        Ok(mut core) => answer_of(audit(&mut core, text, input)),
+        Err(_) => no_memory(),
+    }
+}
+
+/// Carries out `audit`: reads the layout, the program and the trace, in this order, makes the moves that the trace tells, and
+/// compares all that `run` shows of them with it, byte by byte. `Done` comes exactly where the trace is the text of a run
+/// from the program's start, of so many moves as the answer says; so the lines of retired instructions in it are those of
+/// the sequential machine, whoever made the trace. `BadTrace` tells the first line in which it is none, and why. What the
+/// program writes goes nowhere.
+pub fn audit_trace<F: Files, S: Source>(
+    alloc: Global,
+    layout: LayoutWord<'_>,
+    program: &str,
+    trace: &str,
+    files: &mut F,
+    input: &mut S,
+) -> Answer
+    ensures answers { AnswersAudit (audit_asked (layout_of layout.entry) program.now trace.now)
+        (side (F.told files.old) (S.left input.old)) (side (F.told files.new) (S.left input.new))
+        result.status result.closing }
+    ensures files { HasCause (F.faults files.old) (F.faults files.new) (files_answered result.status) }
+    ensures input { HasCause (S.faults input.old) (S.faults input.new) (input_answered result.status) }
+    ensures output { output_answered result.status ≡ Ok tt }
+{
+    let loaded = match load(alloc, layout, program, files) {
+        Ok(loaded) => loaded,
+        Err(answer) => return answer,
+    };
+    match trace_at(alloc, trace, files) {
+        Ok(text) => audit_loaded(alloc, loaded, text.as_slice(), input),
+        Err(answer) => answer,
+    }
+}

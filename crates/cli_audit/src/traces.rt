@@ -1,0 +1,35 @@
+//! The traces that words of the command line name.
+
+ghost use Rattle.std.specs.Prelude.{IfOk, IfErr, vec_items};
+ghost use Rattle.cf_io.specs.Causes.{HasCause};
+ghost use Rattle.cli_files.specs.Causes.{files_read};
+ghost use Rattle.cli_audit.specs.Traces.{IsTraceAt, LacksTrace};
+
+use crate::reports::bad_trace;
+use cf_io::{Files, FilesErr};
+use cli_files::{Answer, Status, TraceFault, Which, line, no_memory};
+use std::alloc::Global;
+
+/// The greatest length of a trace, in bytes.
+const MOST_BYTES: u64 = 16_777_216;
+
+/// The text of the trace in the file of this name, or the answer where there is none.
+pub fn trace_at<F: Files>(alloc: Global, name: &str, files: &mut F) -> Result<Vec<u8>, Answer>
+    ensures ok { IfOk result (λ text. IsTraceAt name.now (F.told files.old) (F.told files.new) (vec_items text)) }
+    ensures refused { IfErr result (λ answer. LacksTrace name.now
+        (F.told files.old) (F.told files.new) answer.status answer.closing) }
+    ensures faults { HasCause (F.faults files.old) (F.faults files.new) (files_read result) }
+{
+    match files.read(alloc, name, MOST_BYTES + 1) {
+        Ok(text) if text.len() as u64 > MOST_BYTES => Err(Answer {
+            status: Status::BadTrace(TraceFault::TooLong),
+            closing: bad_trace(TraceFault::TooLong),
+        }),
+        Ok(text) => Ok(text),
+        Err(FilesErr::Failed) => Err(Answer {
+            status: Status::ReadFault(Which::Trace),
+            closing: line(b"read fault trace"),
+        }),
+        Err(FilesErr::NoMemory) => Err(no_memory()),
+    }
+}

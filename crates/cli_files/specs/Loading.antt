@@ -1,0 +1,30 @@
+-- The layout and the program that a command works on, read one behind the other.
+use Rattle.std.specs.Prelude.{◌⊎◌, ℕ, List, Option}
+use Rattle.cf_io.specs.Reads.{Told}
+use Rattle.rv_machine.specs.Hart.{Hart}
+use Rattle.cf_layout.specs.Layout.{Plan}
+use Rattle.cf_words.specs.Words.{Layout}
+use Rattle.cli_files.specs.Layouts.{IsLayoutAt, LacksLayout}
+use Rattle.cli_files.specs.Programs.{IsProgramAt, LacksProgram}
+use Rattle.cli_files.specs.declared.status.Status.{Status}
+
+-- the word names this layout, and behind it was read the program that begins on this hart
+pub record IsLoaded (layout : Layout) (name : List ℕ) (before after : Option Told) (plan : Plan)
+    (hart : Hart) : Type 0 where
+  pub between : Option Told
+  pub laid : IsLayoutAt layout before between plan
+  pub program : IsProgramAt name between after hart
+
+-- there is a layout, and no program
+pub record StopsAtProgram (layout : Layout) (name : List ℕ) (before after : Option Told) (answer : Status)
+    (report : List ℕ) : Type 0 where
+  pub plan : Plan
+  pub between : Option Told
+  pub laid : IsLayoutAt layout before between plan
+  pub lacks : LacksProgram name between after answer report
+
+-- the first of the two that is not there, the status that says why, and the report
+abbrev pub LacksLoaded : Layout → List ℕ → Option Told → Option Told → Status → List ℕ → Type 0
+LacksLoaded layout program before after answer report =
+    LacksLayout layout before after answer report
+    ⊎ StopsAtProgram layout program before after answer report
