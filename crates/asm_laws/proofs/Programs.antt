@@ -9,7 +9,7 @@ use Rattle.rv_asm.specs.declared.refusal.AsmKind.{AsmKind}
 use Rattle.rv_asm.specs.declared.refusal.AsmKind.TheVariants.{LabelTwice, TooLarge}
 use Rattle.rv_asm.specs.declared.refusal.AsmErr.{AsmErr}
 use Rattle.rv_asm.specs.Answers.{and_then}
-use Rattle.rv_asm.specs.Lines.{source_lines}
+use Rattle.rv_text.specs.Lines.{text_lines}
 use Rattle.rv_asm.specs.Scanning.{said, label_in, statement_in}
 use Rattle.rv_asm.specs.Items.{Item}
 use Rattle.rv_asm.specs.Labels.{Named, value_of}
@@ -146,9 +146,9 @@ program-either : (b : Bool) (e : AsmErr) (lines : List (List ℕ)) (object : Obj
 program-either true e lines object is = absurd is
 program-either false e lines object is = program-by (sections_of lines) lines object refl is
 
-pub assembled-program : (source : List ℕ) (object : Object) → Objects object (assembled source) → IsProgram (source_lines source) object
+pub assembled-program : (source : List ℕ) (object : Object) → Objects object (assembled source) → IsProgram (text_lines source) object
 unfolding assembled
 assembled-program source object is =
-    program-either (nat_lt 1048576 (length source)) (record { line = 0; kind = TooLarge (length source) }) (source_lines source) object is
+    program-either (nat_lt 1048576 (length source)) (record { line = 0; kind = TooLarge (length source) }) (text_lines source) object is
 
 pub ruleset programs = (assembled-program)

@@ -3,7 +3,7 @@
 ghost use Rattle.std.specs.Prelude.{ℕ, List};
 ghost use Rattle.rv_asm.specs.declared.object.Object.{Object as Assembled};
 ghost use Rattle.rv_asm.specs.Assembling.{assembled};
-ghost use Rattle.rv_asm.specs.Lines.{source_lines};
+ghost use Rattle.rv_text.specs.Lines.{text_lines};
 ghost use Rattle.rv_asm.specs.Objects.{Objects};
 ghost use Rattle.asm_laws.specs.Programs.{IsProgram};
 
@@ -11,5 +11,5 @@ ghost use Rattle.asm_laws.specs.Programs.{IsProgram};
 /// lines above end, and what it places stands at that address.
 #[tactic(auto, using(crate::proofs::Programs::programs))]
 pub fn objects_are_programs()
-    ensures { (source : List ℕ) (object : Assembled) → Objects object (assembled source) → IsProgram (source_lines source) object }
+    ensures { (source : List ℕ) (object : Assembled) → Objects object (assembled source) → IsProgram (text_lines source) object }
 {}

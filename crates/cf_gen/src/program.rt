@@ -115,7 +115,7 @@ fn closing(number: u32) -> Page
 
 /// Puts the text of a program of so many statements, at most 30,000, which are drawn from their number. After `Failed`
 /// a front of the text was written, and the sink's count of faults rose.
-#[tactic(auto, using(crate::proofs::Owing::owes), unfolding(crate::specs::Program::program_text))]
+#[tactic(auto, using(cf_io::proofs::Owing::owes), unfolding(crate::specs::Program::program_text))]
 pub fn generate<K: Sink>(number: u32, out: &mut K) -> Result<(), Failed>
     requires some { 1 ≤ number }
     requires limit { number ≤ 30000 }

@@ -2,3 +2,4 @@ pub mod FailingNumbers
 pub mod FaultCounts
 pub mod PutLoop
 pub mod TakeLoop
+pub mod Owing

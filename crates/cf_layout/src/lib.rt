@@ -19,6 +19,7 @@ mod stage_set;
 
 pub use builtin::plain;
 pub use checking::check;
+pub use classes::CLASSES;
 pub use layout::Layout;
 pub use listed::Listed;
 pub use parts::{Parts, Siding};

@@ -1,5 +1,5 @@
 //! The lines of labels.
-#![tactic(auto, unfolding(crate::specs::Lines::label_line), using(crate::proofs::Owing::owing))]
+#![tactic(auto, unfolding(crate::specs::Lines::label_line), using(cf_io::proofs::Owing::owing))]
 
 ghost use Rattle.std.specs.Prelude.{◌≡◌, OnOk, OnErr, option_map};
 ghost use Rattle.cf_io.specs.Causes.{HasCause};
@@ -31,7 +31,7 @@ fn put_label<K: Sink>(symbol: &Symbol, pc: u32, out: &mut K) -> Result<(), Faile
 }
 
 /// Puts the lines of the labels of an ELF file at an address.
-#[tactic(auto, using(crate::proofs::Owing::owes))]
+#[tactic(auto, using(cf_io::proofs::Owing::owes))]
 fn put_symbols<K: Sink>(elf: &Elf, pc: u32, out: &mut K) -> Result<(), Failed>
     ensures ok { OnOk result (Writes (K.written out.old) (K.written out.new) (label_lines (symbols_of elf.now) pc)) }
     ensures err { OnErr result (WritesFront (K.written out.old) (K.written out.new) (label_lines (symbols_of elf.now) pc)) }

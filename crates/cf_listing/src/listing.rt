@@ -1,5 +1,5 @@
 //! The listing of a program.
-#![tactic(auto, using(crate::proofs::Owing::owing), unfolding(crate::specs::Listing::segment_lines, crate::specs::Listing::elf_listing, crate::specs::Listing::flat_listing))]
+#![tactic(auto, using(cf_io::proofs::Owing::owing), unfolding(crate::specs::Listing::segment_lines, crate::specs::Listing::elf_listing, crate::specs::Listing::flat_listing))]
 
 ghost use Rattle.std.specs.Prelude.{◌≡◌, OnOk, OnErr};
 ghost use Rattle.cf_io.specs.Causes.{HasCause};
@@ -31,7 +31,7 @@ fn put_segment<K: Sink>(elf: &Elf, segment: &Segment, out: &mut K) -> Result<(),
 
 /// Puts the listing of an ELF file: of each executable segment the words at addresses that 4 divides,
 /// each on a line behind those of the labels there. After `Failed` a front of it was written.
-#[tactic(auto, using(crate::proofs::Owing::owes), unfolding(crate::specs::Listing::elf_listing))]
+#[tactic(auto, using(cf_io::proofs::Owing::owes), unfolding(crate::specs::Listing::elf_listing))]
 pub fn put_elf_listing<K: Sink>(elf: &Elf, out: &mut K) -> Result<(), Failed>
     ensures ok { OnOk result (Writes (K.written out.old) (K.written out.new) (elf_listing elf.now)) }
     ensures err { OnErr result (WritesFront (K.written out.old) (K.written out.new) (elf_listing elf.now)) }

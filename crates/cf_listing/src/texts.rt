@@ -1,5 +1,5 @@
 //! Texts that are put one behind the other.
-#![tactic(auto, using(crate::proofs::Owing::owing))]
+#![tactic(auto, using(cf_io::proofs::Owing::owing))]
 
 ghost use Rattle.std.specs.Prelude.{◌++◌, OnOk, OnErr};
 ghost use Rattle.cf_io.specs.Causes.{HasCause};

@@ -1,5 +1,5 @@
 //! The lines of words.
-#![tactic(auto, using(crate::proofs::Owing::owing))]
+#![tactic(auto, using(cf_io::proofs::Owing::owing))]
 
 ghost use Rattle.std.specs.Prelude.{◌≡◌, ◌+◌, ◌-◌, ◌%◌, ◌^◌, ◌≤◌, ◌++◌, None, OnOk, OnErr, IfSome, codes, drop, length, option_map};
 ghost use Rattle.cf_io.specs.Causes.{HasCause};
@@ -93,7 +93,7 @@ fn first_word(bytes: &[u8]) -> Option<(u32, &[u8])>
 }
 
 /// Puts the lines of words from an address on that 4 divides.
-#[tactic(auto, using(crate::proofs::Owing::owes, crate::proofs::Walked::words))]
+#[tactic(auto, using(cf_io::proofs::Owing::owes, crate::proofs::Walked::words))]
 fn put_aligned<K: Sink>(
     elf: Option<&Elf>,
     start: u32,
@@ -118,7 +118,7 @@ fn put_aligned<K: Sink>(
 }
 
 /// Puts the lines of bytes from an address on.
-#[tactic(auto, using(crate::proofs::Owing::owing, crate::proofs::Walked::walked))]
+#[tactic(auto, using(cf_io::proofs::Owing::owing, crate::proofs::Walked::walked))]
 pub fn put_words<K: Sink>(
     elf: Option<&Elf>,
     start: u32,

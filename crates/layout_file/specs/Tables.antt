@@ -1,4 +1,4 @@
--- The tables of a layout file: which keys each may have and has to have, and of which types the values are (TOML v1.0.0).
+-- The tables of a layout file: which keys each may have and has to have, and of which types the values are. What TOML is, is what the crate `toml` reads: TOML 1.1.
 use Rattle.std.specs.Prelude.{ℕ, suc, nat_le, List, [], ◌∷◌, codes, Bool, true, false, ◌||◌, ◌&&◌, if◌then◌else◌, Option, Some, None, is_some, option_map}
 use Rattle.std.specs.Option.{option_or}
 use Rattle.toml.specs.Data.{Data, Items, no_items, item, Members, no_members, member, get_member, as_integer, as_str, as_bool, as_array, as_table}

@@ -2,23 +2,9 @@
 
 ghost use Rattle.std.specs.Prelude.{◌≡◌, IfSome};
 ghost use Rattle.layout_file.specs.Names.{class_name, class_of};
-ghost use Rattle.cf_layout.specs.Layout.{computed_classes};
 ghost use Rattle.cf_layout.specs.Acceptable.{IsComputed};
 
 use rv_inst::Class;
-
-/// The classes that units or sidings compute, in class order.
-pub(crate) const CLASSES: [Class; 9] = [
-    Class::Add,
-    Class::Logic,
-    Class::Shift,
-    Class::Compare,
-    Class::Branch,
-    Class::Jump,
-    Class::Memory,
-    Class::Mul,
-    Class::Div,
-];
 
 /// The word that a file has for the class.
 pub fn class_name(class: Class) -> &'static str

@@ -15,11 +15,11 @@ ghost use Rattle.cf_layout.specs.Refusal.{refusal};
 ghost use Rattle.toml.specs.Data.{get_member, no_members};
 ghost use Rattle.toml.specs.View.{view, table_view, items_view};
 
-use crate::classes::{CLASSES, class_name, class_of};
+use crate::classes::{class_name, class_of};
 use crate::form::Form;
 use crate::tables::{check_form, value_at};
 use crate::{FileErr, Name};
-use cf_layout::{Layout, Listed, Parts, Siding, check};
+use cf_layout::{CLASSES, Layout, Listed, Parts, Siding, check};
 use rv_inst::Class;
 use std::alloc::{AllocError, Global};
 use toml::{Table, Value};

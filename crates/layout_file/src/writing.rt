@@ -8,8 +8,8 @@ ghost use Rattle.layout_file.specs.Text.{pair_line, rest_text, array_text, quote
 ghost use Rattle.cf_layout.specs.Layout.{computed_classes, siding_at, stages_of};
 ghost use Rattle.cf_layout.specs.Accepted.{IsAccepted};
 
-use crate::classes::{CLASSES, class_name};
-use cf_layout::Layout;
+use crate::classes::class_name;
+use cf_layout::{CLASSES, Layout};
 use itoa::Buffer;
 use rv_inst::Class;
 use std::alloc::{AllocError, Global};

@@ -15,7 +15,7 @@ use Rattle.rv_asm.specs.declared.place.Place.{Place}
 use Rattle.rv_asm.specs.declared.draft.Draft.{Draft}
 use Rattle.rv_asm.specs.declared.object.Object.{Object}
 use Rattle.rv_asm.specs.Answers.{and_then}
-use Rattle.rv_asm.specs.Lines.{is_line_feed, without_return, lines_from, lines_of_pieces, source_lines}
+use Rattle.rv_text.specs.Lines.{is_line_feed, without_return, lines_from, lines_of_pieces, text_lines}
 use Rattle.rv_asm.specs.Scanning.{is_name_start, is_name_byte, begins_name, name_length, comment_at, said, has_label, label_in, statement_in}
 use Rattle.rv_asm.specs.declared.scanning.Quote.TheVariants.{Outside}
 use Rattle.rv_asm.specs.Items.{Item, Nothing, Section, Export, Single, Double, Near, Distant, Numbers, Chars, Zeros}
@@ -64,8 +64,8 @@ pieces-shorter : (pieces : List (List ℕ)) → bytes_of (lines_of_pieces pieces
 pieces-shorter [] = omega arith
 pieces-shorter (piece ∷ pieces) = lines-shorter piece pieces
 
-source-shorter : (source : List ℕ) → bytes_of (source_lines source) ≤ length source
-unfolding source_lines
+source-shorter : (source : List ℕ) → bytes_of (text_lines source) ≤ length source
+unfolding text_lines
 source-shorter source = omega (arith, pieces-shorter (slice_split is_line_feed source), split-shorter is_line_feed source)
 
 said-shorter : (line : List ℕ) → length (said line) ≤ length line
@@ -246,14 +246,14 @@ small-object sections object n sized few within is = record {
   name_bytes = omega (arith, ap (λ (l : List Named). length (joined_names l)) is.labels, few.names, within);
 }
 
-small-by : (source : List ℕ) (object : Object) (answer : Result Sections AsmErr) → length source ≤ 1048576 → sections_of (source_lines source) ≡ answer → Objects object answer → IsSmall object
+small-by : (source : List ℕ) (object : Object) (answer : Result Sections AsmErr) → length source ≤ 1048576 → sections_of (text_lines source) ≡ answer → Objects object answer → IsSmall object
 small-by source object (Ok sections) h e is =
-    let lines = source_lines source in
+    let lines = text_lines source in
     small-object sections object (bytes_of lines) (sections-sized lines sections e) (looked-few lines sections e) (omega (arith, source-shorter source, h)) is
 small-by source object (Err kind) h e is = absurd is
 
 -- an object of a source is small
 pub small-result : (source : List ℕ) (answer : Result Object AsmErr) → length source ≤ 1048576
-    → IfOk answer (λ object. Objects object (sections_of (source_lines source))) → IfOk answer (λ object. IsSmall object)
-small-result source (Ok object) h is = small-by source object (sections_of (source_lines source)) h refl is
+    → IfOk answer (λ object. Objects object (sections_of (text_lines source))) → IfOk answer (λ object. IsSmall object)
+small-result source (Ok object) h is = small-by source object (sections_of (text_lines source)) h refl is
 small-result source (Err e) h is = tt

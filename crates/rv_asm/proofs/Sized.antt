@@ -25,7 +25,7 @@ use Rattle.rv_asm.specs.Pieces.{Piece, Word, Bytes, label_value, near_instr, ope
 use Rattle.rv_asm.specs.Spelling.{SpellsPiece, Spells}
 use Rattle.rv_asm.specs.Sized.{piece_size, pieces_size, AreSized, IsSized}
 use Rattle.rv_asm.specs.Reading.{statement_read}
-use Rattle.rv_asm.specs.Lines.{source_lines}
+use Rattle.rv_text.specs.Lines.{text_lines}
 use Rattle.rv_asm.specs.Assembling.{Sections, placed, filled, at_line, are_ascii, draft_from, sections_from, empty, sections_of, assembled}
 use Rattle.rv_asm.proofs.Passing.{Passes, passes, passes_line}
 
@@ -227,6 +227,6 @@ either-sized false e answer h = h
 -- the sizes and the bytes of a source agree
 pub assembled-sized : (source : List ℕ) → IsSized (assembled source)
 unfolding assembled
-assembled-sized source = either-sized (nat_lt 1048576 (length source)) _ (sections_of (source_lines source)) (sized-by (sections_of (source_lines source)) (sections-sized (source_lines source)))
+assembled-sized source = either-sized (nat_lt 1048576 (length source)) _ (sections_of (text_lines source)) (sized-by (sections_of (text_lines source)) (sections-sized (text_lines source)))
 
 pub ruleset sized = (assembled-sized)

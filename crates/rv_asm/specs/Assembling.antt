@@ -7,7 +7,7 @@ use Rattle.rv_asm.specs.declared.refusal.AsmErr.{AsmErr}
 use Rattle.rv_asm.specs.declared.place.Place.{Place}
 use Rattle.rv_asm.specs.declared.draft.Draft.{Draft}
 use Rattle.rv_asm.specs.Answers.{and_then}
-use Rattle.rv_asm.specs.Lines.{source_lines}
+use Rattle.rv_text.specs.Lines.{text_lines}
 use Rattle.rv_asm.specs.Scanning.{said, label_in, statement_in}
 use Rattle.rv_asm.specs.Items.{Item, Export}
 use Rattle.rv_asm.specs.Places.{start, address_of, place_after, item_at}
@@ -99,4 +99,4 @@ sections_of lines =
 unfoldable pub assembled : List ℕ → Result Sections AsmErr
 assembled source =
     if nat_lt 1048576 (length source) then Err (record { line = 0; kind = TooLarge (length source) })
-    else sections_of (source_lines source)
+    else sections_of (text_lines source)

@@ -1,4 +1,3 @@
-pub mod Lines
 pub mod Scanning
 pub mod Strings
 pub mod Answers

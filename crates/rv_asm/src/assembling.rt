@@ -1,7 +1,7 @@
 //! A source is assembled.
 
 ghost use Rattle.std.specs.Prelude.{◌≡◌, ◌≤◌, length, IfOk, IfErr};
-ghost use Rattle.rv_asm.specs.Lines.{source_lines};
+ghost use Rattle.rv_text.specs.Lines.{text_lines};
 ghost use Rattle.rv_asm.specs.Labels.{entry_of};
 ghost use Rattle.rv_asm.specs.Assembling.{is_ascii, are_ascii, sections_of, assembled};
 ghost use Rattle.rv_asm.specs.Objects.{Objects, Refuses};
@@ -9,11 +9,11 @@ ghost use Rattle.rv_asm.specs.Small.{IsSmall};
 
 use crate::draft::first_look;
 use crate::label::Labels;
-use crate::lines::cut_line;
 use crate::object::{Bytes, Object};
 use crate::place::MOST;
 use crate::refusal::{AsmErr, AsmKind};
 use crate::sections::second_look;
+use rv_text::cut_line;
 use std::alloc::Global;
 
 #[tactic(auto, unfolding(crate::specs::Assembling::is_ascii))]
@@ -26,7 +26,7 @@ fn is_ascii(line: &[u8]) -> bool
 /// `NotAscii` of the first line that has a byte above 127.
 fn check_ascii(source: &[u8]) -> Result<(), AsmErr>
     requires { length source.now ≤ 1048576 }
-    ensures { result ≡ are_ascii 0 (source_lines source.now) }
+    ensures { result ≡ are_ascii 0 (text_lines source.now) }
 {
     let mut above = 0;
     let mut rest = source;
@@ -53,8 +53,8 @@ fn entry(labels: &Labels) -> u32
 
 fn assemble_lines(alloc: Global, source: &[u8]) -> Result<Object, AsmErr>
     requires { length source.now ≤ 1048576 }
-    ensures ok { IfOk result (λ object. Objects object (sections_of (source_lines source.now))) }
-    ensures err { IfErr result (λ e. Refuses e (sections_of (source_lines source.now))) }
+    ensures ok { IfOk result (λ object. Objects object (sections_of (text_lines source.now))) }
+    ensures err { IfErr result (λ e. Refuses e (sections_of (text_lines source.now))) }
 {
     check_ascii(source)?;
     let draft = first_look(alloc, source)?;

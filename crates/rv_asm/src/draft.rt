@@ -1,7 +1,7 @@
 //! The first look at the lines: where each stands, and the labels.
 
 ghost use Rattle.std.specs.Prelude.{◌≡◌, ◌≤◌, ◌⊎◌, [], length, Ok, Err, IfOk, IfErr, OnOk};
-ghost use Rattle.rv_asm.specs.Lines.{source_lines};
+ghost use Rattle.rv_text.specs.Lines.{text_lines};
 ghost use Rattle.rv_asm.specs.Scanning.{label_in};
 ghost use Rattle.rv_asm.specs.Places.{IsPlace, start, fits_at, item_at};
 ghost use Rattle.rv_asm.specs.Assembling.{with_label, drafted, draft_from};
@@ -10,11 +10,11 @@ ghost use Rattle.rv_asm.specs.Seen.{seen, Reads, IsSound};
 
 use crate::item::Item;
 use crate::label::Labels;
-use crate::lines::cut_line;
 use crate::place::Place;
 use crate::reading::read_statement;
 use crate::refusal::{AsmErr, AsmKind};
 use crate::scanning::{label_in, said, statement_in};
+use rv_text::cut_line;
 use std::alloc::Global;
 
 /// What is known above a line: where it stands, and the labels so far.
@@ -78,8 +78,8 @@ impl Draft {
 /// What is known behind all lines of a source.
 pub fn first_look(alloc: Global, source: &[u8]) -> Result<Draft, AsmErr>
     requires { length source.now ≤ 1048576 }
-    ensures ok { IfOk result (λ draft. draft_from 0 (record { place = start; labels = [] }) (source_lines source.now) ≡ Ok draft) }
-    ensures err { IfErr result (λ e. (e.kind ≡ AsmKind.NoMemory) ⊎ (draft_from 0 (record { place = start; labels = [] }) (source_lines source.now) ≡ Err e)) }
+    ensures ok { IfOk result (λ draft. draft_from 0 (record { place = start; labels = [] }) (text_lines source.now) ≡ Ok draft) }
+    ensures err { IfErr result (λ e. (e.kind ≡ AsmKind.NoMemory) ⊎ (draft_from 0 (record { place = start; labels = [] }) (text_lines source.now) ≡ Err e)) }
 {
     let mut draft = Draft {
         place: Place::start(),

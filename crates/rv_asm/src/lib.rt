@@ -6,7 +6,6 @@ mod draft;
 mod item;
 mod label;
 pub mod laws;
-mod lines;
 mod object;
 mod operands;
 mod operations;

@@ -6,10 +6,9 @@ ghost use Rattle.rv_text.specs.Pieces.{pieces};
 ghost use Rattle.rv_text.specs.Fields.{number_in};
 ghost use Rattle.rv_asm.specs.Operands.{count_is, operands_of, number_of_width, names_label, operands_left, left_length, is_placeable, are_placeable};
 
-use crate::lines::cut_at;
 use crate::operations::Width;
 use crate::scanning::begins_name;
-use rv_text::{TextErr, count_operands, find_byte, read_number, trim};
+use rv_text::{TextErr, count_operands, cut_at, find_byte, read_number, trim};
 
 /// `WrongCount` where another number of operands stands in a text.
 #[tactic(auto, unfolding(crate::specs::Operands::count_is))]

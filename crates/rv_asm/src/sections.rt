@@ -1,7 +1,7 @@
 //! The second look at the lines: the bytes of the sections.
 
 ghost use Rattle.std.specs.Prelude.{◌≡◌, ◌≤◌, ◌⊎◌, ◌++◌, length, Ok, Err, IfOk, IfErr, OnOk, if◌then◌else◌};
-ghost use Rattle.rv_asm.specs.Lines.{source_lines};
+ghost use Rattle.rv_text.specs.Lines.{text_lines};
 ghost use Rattle.rv_asm.specs.Places.{IsPlace};
 ghost use Rattle.rv_asm.specs.Assembling.{marked, empty, sections_from};
 ghost use Rattle.rv_asm.specs.Spelling.{IsRefusal};
@@ -11,11 +11,11 @@ ghost use Rattle.rv_asm.specs.Seen.{seen};
 use crate::draft::item_at;
 use crate::item::Item;
 use crate::label::Labels;
-use crate::lines::cut_line;
 use crate::pieces::item_bytes;
 use crate::place::Place;
 use crate::refusal::{AsmErr, AsmKind};
 use crate::scanning::{said, statement_in};
+use rv_text::cut_line;
 use std::alloc::{AllocError, Global};
 
 /// What stands in the sections above a line.
@@ -71,8 +71,8 @@ impl Output {
 /// The sections of a source with these labels.
 pub fn second_look(alloc: Global, source: &[u8], labels: Labels) -> Result<Output, AsmErr>
     requires { length source.now ≤ 1048576 }
-    ensures ok { IfOk result (λ out. Outputs out (sections_from 0 (empty labels) (source_lines source.now))) }
-    ensures err { IfErr result (λ e. (e.kind ≡ AsmKind.NoMemory) ⊎ (sections_from 0 (empty labels) (source_lines source.now) ≡ Err e)) }
+    ensures ok { IfOk result (λ out. Outputs out (sections_from 0 (empty labels) (text_lines source.now))) }
+    ensures err { IfErr result (λ e. (e.kind ≡ AsmKind.NoMemory) ⊎ (sections_from 0 (empty labels) (text_lines source.now) ≡ Err e)) }
 {
     let mut out = Output {
         place: Place::start(),

@@ -1,10 +1,14 @@
 //! The sequential machine: RV32I or RV32IM, one instruction at a time, and its environment calls.
 #![tactic(auto)]
 
+mod calling;
 mod decode_cache;
+mod executing;
+mod instruction_sets;
 mod machine;
 mod outcome;
 mod serving;
+mod stepping;
 
 pub use machine::{Machine, MachineParts};
 pub use outcome::{Retired, Served, Stepped};

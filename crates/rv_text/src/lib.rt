@@ -16,7 +16,7 @@ mod text_line;
 mod writing;
 
 pub use fields::{number_in, register_in};
-pub use lines::cut_line;
+pub use lines::{cut_at, cut_line};
 pub use mnemonic::Mnemonic;
 pub use numbers::{numeral, read_number};
 pub use pieces::{count_operands, find_byte, operand, split_name, trim};

@@ -17,7 +17,7 @@ fn without_return(line: &[u8]) -> &[u8]
 }
 
 /// What stands before the byte at an index, and what behind it.
-fn cut_at(text: &[u8], index: usize) -> (&[u8], &[u8])
+pub fn cut_at(text: &[u8], index: usize) -> (&[u8], &[u8])
     requires { index < length text.now }
     ensures before { result.0.now ≡ take index text.now }
     ensures behind { result.1.now ≡ drop (index + 1) text.now }

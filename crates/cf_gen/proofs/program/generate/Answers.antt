@@ -4,7 +4,7 @@ use Rattle.std.proofs.lemmas.Result.{on_err_weaker}
 use Rattle.cf_gen.specs.Draws.{state_after}
 use Rattle.cf_gen.specs.Program.{drawn_statement, numbered_statement, closing_text, program_text}
 use Rattle.cf_gen.proofs.Steps.{lines-before, lines-none, after-statement}
-use Rattle.cf_gen.proofs.Owing.{Owes, owes-next, owes-front, err-owes}
+use Rattle.cf_io.proofs.Owing.{Owes, owes-next, owes-front, err-owes}
 use Rattle.cf_gen.proofs.program.generate.Goals as goal
 use Rattle.cf_gen.proofs.program.generate.Goals.{else-loop-i-test, then-loop-i-test+in_ok-put_all-2+else-i-number}
 

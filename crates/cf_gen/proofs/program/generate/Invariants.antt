@@ -2,7 +2,7 @@ use Rattle.std.proofs.Common.{◌≡◌, ◌+◌, ◌-◌, ◌*◌, ◌++◌}
 use Rattle.std.specs.List.{flat_map, range_with_len}
 use Rattle.cf_gen.specs.Draws.{state_after}
 use Rattle.cf_gen.specs.Program.{numbered_statement, closing_text, program_text}
-use Rattle.cf_gen.proofs.Owing.{Owes}
+use Rattle.cf_io.proofs.Owing.{Owes}
 use Rattle.cf_gen.proofs.program.generate.Given as goal
 
 -- the statements from this one on and what follows them are still owed, and no fault was counted

@@ -1,7 +1,7 @@
 use Rattle.std.proofs.Common.{◌≡◌, List, ap}
 use Rattle.elf_view.specs.Symbols.{NamedSymbol}
 use Rattle.cf_listing.specs.Lines.{label_lines}
-use Rattle.cf_listing.proofs.Owing.{err-owes}
+use Rattle.cf_io.proofs.Owing.{err-owes}
 use Rattle.cf_listing.proofs.labels.put_symbols.Goals as goal
 
 pub returns-in_err-put_label-clause-err : goal.returns-in_err-put_label-clause-err

@@ -3,7 +3,7 @@ use Rattle.std.specs.List.{flat_map}
 use Rattle.elf_view.specs.Left.{symbols_left}
 use Rattle.elf_view.specs.Symbols.{symbols_of}
 use Rattle.cf_listing.specs.Lines.{label_lines}
-use Rattle.cf_listing.proofs.Owing.{Owes}
+use Rattle.cf_io.proofs.Owing.{Owes}
 use Rattle.cf_listing.proofs.labels.put_symbols.Given as goal
 
 abbrev pub invariant-loop-symbol : goal.invariant-loop-symbol

@@ -3,7 +3,7 @@ use Rattle.std.specs.List.{flat_map}
 use Rattle.elf_view.specs.Segments.{LoadSegment}
 use Rattle.elf_view.specs.Symbols.{symbols_of}
 use Rattle.cf_listing.specs.Listing.{segment_lines}
-use Rattle.cf_listing.proofs.Owing.{err-owes}
+use Rattle.cf_io.proofs.Owing.{err-owes}
 use Rattle.cf_listing.proofs.listing.put_elf_listing.Goals as goal
 
 pub returns-in_err-put_segment-clause-err : goal.returns-in_err-put_segment-clause-err

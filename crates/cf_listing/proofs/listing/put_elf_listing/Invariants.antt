@@ -3,7 +3,7 @@ use Rattle.std.specs.List.{flat_map}
 use Rattle.elf_view.specs.Left.{segments_left}
 use Rattle.elf_view.specs.Symbols.{symbols_of}
 use Rattle.cf_listing.specs.Listing.{segment_lines, elf_listing}
-use Rattle.cf_listing.proofs.Owing.{Owes}
+use Rattle.cf_io.proofs.Owing.{Owes}
 use Rattle.cf_listing.proofs.listing.put_elf_listing.Given as goal
 
 abbrev pub invariant-loop-segment : goal.invariant-loop-segment

@@ -1,4 +1,4 @@
-use Rattle.cf_listing.proofs.Owing.{err-again}
+use Rattle.cf_io.proofs.Owing.{err-again}
 use Rattle.cf_listing.proofs.texts.put_two.Goals as goal
 
 pub returns-clause-err : goal.returns-clause-err

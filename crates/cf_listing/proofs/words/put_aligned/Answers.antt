@@ -1,6 +1,6 @@
 use Rattle.std.proofs.Common.{refl, rules, ◌∙◌}
 use Rattle.cf_listing.specs.Lines.{IsFirstWord}
-use Rattle.cf_listing.proofs.Owing.{owes-next, err-owes}
+use Rattle.cf_io.proofs.Owing.{owes-next, err-owes}
 use Rattle.cf_listing.proofs.Walked.{word-next, next-aligned}
 use Rattle.cf_listing.proofs.words.put_aligned.Goals as goal
 

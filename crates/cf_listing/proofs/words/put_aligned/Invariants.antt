@@ -2,7 +2,7 @@ use Rattle.std.proofs.Common.{◌≡◌, ◌<◌, ◌^◌, ◌%◌, length}
 use Rattle.std.specs.Prelude.{option_map}
 use Rattle.cf_listing.specs.Lines.{lines_from}
 use Rattle.cf_listing.specs.Listing.{symbols_in}
-use Rattle.cf_listing.proofs.Owing.{Owes}
+use Rattle.cf_io.proofs.Owing.{Owes}
 use Rattle.cf_listing.proofs.words.put_aligned.Given as goal
 
 abbrev pub invariant-loop-word : goal.invariant-loop-word

@@ -1,6 +1,6 @@
 use Rattle.std.proofs.Common.{◌≡◌, ◌∙◌, sym, ap, length, rules}
 use Rattle.rv_asm.specs.Assembling.{are_ascii}
-use Rattle.rv_asm.proofs.Splits.{no_lines}
+use Rattle.rv_text.proofs.LineCuts.{no_lines}
 use Rattle.rv_asm.proofs.assembling.check_ascii.Goals as goal
 
 pub returns : goal.returns

@@ -1,6 +1,6 @@
 use Rattle.std.proofs.Common.{◌≡◌, ◌∙◌, sym, ap, length, rules}
 use Rattle.rv_asm.specs.Assembling.{draft_from}
-use Rattle.rv_asm.proofs.Splits.{no_lines}
+use Rattle.rv_text.proofs.LineCuts.{no_lines}
 use Rattle.rv_asm.proofs.draft.first_look.Goals as goal
 
 pub returns-clause-ok : goal.returns-clause-ok

@@ -1,28 +1,29 @@
 -- Texts that are put one after the other, of a whole text that is owed.
-use Rattle.std.proofs.Common.{◌≡◌, ℕ, ◌+◌, List, [], ◌++◌, length, take, Option, Some, None, refl, ap, sym, ◌∙◌, subst, append-nil, append_assoc, arith}
+use Rattle.std.proofs.Common.{◌≡◌, ℕ, ◌+◌, ◌≤◌, List, [], ◌++◌, length, take, Option, Some, None, refl, ap, sym, ◌∙◌, subst, append-nil, append_assoc, arith}
 use Rattle.std.specs.Prelude.{Result, Ok, Err, OnErr}
+use Rattle.std.proofs.lemmas.Result.{on_err_weaker}
 use Rattle.std.proofs.lemmas.List.{length-append, take-append-le}
 use Rattle.std.proofs.Math.Seq.{take-append-add}
 use Rattle.cf_io.specs.Puts.{Writes, WritesFront}
 
 -- nothing was put
-writes-nothing : (told : Option (List ℕ)) → Writes told told []
+pub writes-nothing : (told : Option (List ℕ)) → Writes told told []
 writes-nothing None = tt
 writes-nothing (Some told) = ap Some (sym (append-nil told))
 
 -- one text and then another
-writes-again : (a b c : Option (List ℕ)) (x y : List ℕ) → Writes a b x → Writes b c y → Writes a c (x ++ y)
+pub writes-again : (a b c : Option (List ℕ)) (x y : List ℕ) → Writes a b x → Writes b c y → Writes a c (x ++ y)
 writes-again None b c x y h k = tt
 writes-again (Some told) b c x y h k =
     subst (λ (o : Option (List ℕ)). Writes o c y) h k ∙ ap Some (append_assoc told x y)
 
 -- a front of the first text is one of both
-front-first : (a b : Option (List ℕ)) (x y : List ℕ) → WritesFront a b x → WritesFront a b (x ++ y)
+pub front-first : (a b : Option (List ℕ)) (x y : List ℕ) → WritesFront a b x → WritesFront a b (x ++ y)
 front-first a b x y (n, short, k) =
     (n, omega (arith, length-append x y), subst (λ (z : List ℕ). Writes a b z) (sym (take-append-le n x y short)) k)
 
 -- one text, and then a front of another
-front-again : (a b c : Option (List ℕ)) (x y : List ℕ) → Writes a b x → WritesFront b c y → WritesFront a c (x ++ y)
+pub front-again : (a b c : Option (List ℕ)) (x y : List ℕ) → Writes a b x → WritesFront b c y → WritesFront a c (x ++ y)
 front-again a b c x y h (n, short, k) =
     let both : Writes a c (x ++ take n y) = writes-again a b c x (take n y) h k in
     (length x + n, omega (arith, length-append x y), subst (λ (z : List ℕ). Writes a c z) (sym (take-append-add x y n)) both)
@@ -55,6 +56,11 @@ pub owes-none : (a b : Option (List ℕ)) (rest whole : List ℕ) → Owes a b r
 owes-none a b rest whole o e =
     subst (λ (l : List ℕ). Writes a b l) (sym (append-nil o.done) ∙ ap (λ (l : List ℕ). o.done ++ l) (sym e) ∙ o.parts) o.told
 
+-- one text, and then an answer that is a failure with a front of another
+pub err-again : {E : Type 0} (a b c : Option (List ℕ)) (x y : List ℕ) (r : Result (Unit {0}) E)
+    → Writes a b x → OnErr r (WritesFront b c y) → OnErr r (WritesFront a c (x ++ y))
+err-again a b c x y r h k = on_err_weaker r (front-again a b c x y h) k
+
 -- the same of an answer that is a failure
 on-any : {E : Type 0} (P : Type 0) (s : Result (Unit {0}) E) → P → OnErr s P
 on-any P (Ok u) h = tt
@@ -65,5 +71,7 @@ pub err-owes : {E : Type 0} (a b c : Option (List ℕ)) (rest next behind whole 
 err-owes a b c rest next behind whole r s e fails o parts h =
     let front : WritesFront b c next = subst (λ q. OnErr q (WritesFront b c next)) fails h in
     on-any (WritesFront a c whole) s (owes-front a b c rest next behind whole o parts front)
+
+pub ruleset owing = (writes-nothing, writes-again, front-first, front-again)
 
 pub ruleset owes = (owes-all, owes-next, owes-front, owes-none)
