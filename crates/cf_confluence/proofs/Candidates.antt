@@ -16,7 +16,7 @@ use Rattle.cf_semantics.specs.Bars.{bar, row_bar, slide_bar}
 use Rattle.cf_semantics.specs.Candidates.{all_moves, at_stages, candidates, counted_from, held_back, other_moves, slides_from}
 use Rattle.cf_semantics.specs.Weight.{is_issue}
 use Rattle.cf_semantics.specs.Drained.{IsStuck}
-use Rattle.cf_refinement.proofs.Kept.{bar_row}
+use Rattle.cf_refinement.proofs.moves.Rows.{bar_row}
 
 -- it stands in the list
 pub record Has {A : Type 0} (xs : List A) (x : A) : Type 0 where

@@ -16,19 +16,19 @@ use Rattle.cf_semantics.specs.Determined.{Drains, EndAlike, EndsAs, KeepsRegiste
 use Rattle.cf_semantics.specs.Sites.{AreIndependent, IsLocal}
 use Rattle.cf_semantics.specs.Stutters.{Stutters}
 use Rattle.cf_refinement.specs.Invariant.{HoldsAfter, HoldsAt, Sound}
-use Rattle.cf_refinement.proofs.Accepted.{accepted_suits}
-use Rattle.cf_refinement.proofs.Runs.{holds_after}
-use Rattle.cf_refinement.proofs.Stutters.{stutters}
-use Rattle.cf_confluence.proofs.Apart.{all_retired, first_move, run_keeps}
-use Rattle.cf_confluence.proofs.Bound.{bounded_drain, bounded_run, costs, sound_at}
+use Rattle.cf_refinement.proofs.layouts.Accepted.{accepted_suits}
+use Rattle.cf_refinement.proofs.claims.Runs.{holds_after}
+use Rattle.cf_refinement.proofs.claims.Stutters.{stutters}
+use Rattle.cf_confluence.proofs.drains.Apart.{all_retired, first_move, run_keeps}
+use Rattle.cf_confluence.proofs.weight.Bound.{bounded_drain, bounded_run, costs, sound_at}
 use Rattle.cf_semantics.specs.Candidates.{candidates, held_back}
 use Rattle.cf_confluence.proofs.Candidates.{HasShape, has_some, held_stuck as candidates_held, some_pick as candidates_there}
-use Rattle.cf_confluence.proofs.Confluent.{agree, halted_alike, kept_true}
-use Rattle.cf_confluence.proofs.Determined.{ends_as}
-use Rattle.cf_confluence.proofs.Independent.{bar_after, same_moment, turned_round}
-use Rattle.cf_confluence.proofs.Rested.{after_gained, drained_is, rested}
-use Rattle.cf_confluence.proofs.Sites.{local}
-use Rattle.cf_confluence.proofs.Tidy.{IsTidy, tidy_opened, tidy_run}
+use Rattle.cf_confluence.proofs.drains.Confluent.{agree, halted_alike, kept_true}
+use Rattle.cf_confluence.proofs.drains.Determined.{ends_as}
+use Rattle.cf_confluence.proofs.sites.Independent.{bar_after, same_moment, turned_round}
+use Rattle.cf_confluence.proofs.drains.Rested.{after_gained, drained_is, rested}
+use Rattle.cf_confluence.proofs.sites.Sites.{local}
+use Rattle.cf_confluence.proofs.drains.Tidy.{IsTidy, tidy_opened, tidy_run}
 
 reached_holds : (plan : Plan) (x : Machine) (m : Moment) → IsAccepted plan → length x.hart.regs ≡ 32 → IsReached plan x m → HoldsAfter plan x m
 reached_holds plan x m acc wide r = subst (HoldsAfter plan x) (sym r.is) (holds_after plan x r.moves (accepted_suits plan acc) wide r.allowed)

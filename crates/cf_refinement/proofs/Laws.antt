@@ -27,8 +27,8 @@ use Rattle.cf_semantics.specs.Passengers.{finish, finished, fresh, fresh_end, fr
 use Rattle.cf_semantics.specs.Soundness.{Holds}
 use Rattle.cf_semantics.specs.Steps.{onward, served, stepped_as}
 use Rattle.cf_refinement.specs.Suited.{is_plain}
-use Rattle.cf_refinement.proofs.Fetches.{fetched_alike}
-use Rattle.cf_refinement.proofs.Steps.{bad_step, fetched_is, l1, step_executes, step_is, step_keeps, straight_next, straight_trap, word_is}
+use Rattle.cf_refinement.proofs.instructions.Fetches.{fetched_alike}
+use Rattle.cf_refinement.proofs.instructions.Steps.{bad_step, fetched_is, l1, step_executes, step_is, step_keeps, straight_next, straight_trap, word_is}
 
 -- a destination with its value, written
 written_is : (o : Option Binding) (d : Option ℕ) (v : ℕ) (regs : List ℕ) → reg_in o ≡ d → written regs (with_value v o) ≡ value_written regs d v

@@ -11,11 +11,11 @@ use Rattle.cf_semantics.specs.Refines.{IsPrefix, Refines}
 use Rattle.cf_semantics.specs.Runs.{IsRun, run, start}
 use Rattle.cf_semantics.specs.SoundAfter.{IsSoundAfter}
 use Rattle.cf_refinement.specs.Invariant.{HoldsAfter}
-use Rattle.cf_refinement.proofs.Accepted.{accepted_suits}
-use Rattle.cf_refinement.proofs.Heeds as heeds
-use Rattle.cf_refinement.proofs.Refines as refines
-use Rattle.cf_refinement.proofs.Runs as runs
-use Rattle.cf_refinement.proofs.Soundness as soundness
+use Rattle.cf_refinement.proofs.layouts.Accepted.{accepted_suits}
+use Rattle.cf_refinement.proofs.claims.Heeds as heeds
+use Rattle.cf_refinement.proofs.claims.Refines as refines
+use Rattle.cf_refinement.proofs.claims.Runs as runs
+use Rattle.cf_refinement.proofs.claims.Soundness as soundness
 
 -- the invariant holds after every run
 pub holds_after : (plan : Plan) (x0 : Machine) (moves : List Move) → IsAccepted plan → length x0.hart.regs ≡ 32 → IsRun plan (start plan x0) moves → HoldsAfter plan x0 (run plan (start plan x0) moves)

@@ -24,7 +24,8 @@ has_served p = not p.dead && is_serial (kind p) && p.done && not (is_some p.endi
 abbrev pub flies : Passenger → Bool
 flies p = is_memory (kind p) && p.launched && not p.recovered
 
--- it is live and has passed the port: its call was served, or its load or store is recovered, or answered at the end of the siding
+-- it is live and has passed the port: its call was served, or its load or store is recovered, or answered at the end of the siding. Right in reached states alone,
+-- and with the answer there of the highest passenger whose load or store is in the siding: there that operation is its own, and what was recovered was answered
 abbrev pub has_ported : Passenger → Option ℕ → Bool
 has_ported p answer = has_served p || (not p.dead && is_memory (kind p) && (p.recovered || (p.launched && is_some answer)))
 

@@ -1,4 +1,6 @@
--- The four laws of single instructions: the step of the sequential machine is what the moves make of a passenger. The theory rests on them and on a few small facts, as that registers are below 32. Whoever adds an instruction proves these for it.
+-- The four laws of single instructions: the step of the sequential machine is what the moves make of a passenger. They are for a reader: the theory rests on the same
+-- content without a passenger, and on some facts that do not follow from it, all in `cf_refinement/proofs/instructions/Steps.antt`; docs/SOUNDNESS.md lists them. Who adds an instruction
+-- to a class proves its case of `step_is` there, and where it is concerned of these facts.
 use Rattle.std.specs.Prelude.{◌≡◌, ◌≢◌, ℕ, List, ◌++◌, Option, Some, None, Bool, true, ◌||◌, not, slice_index}
 use Rattle.mem_regions.specs.Memory.{Memory}
 use Rattle.mem_regions.specs.Access.{bounds_of}

@@ -1,4 +1,5 @@
--- The table of moves, second half: what each allowed move does. What a row does not name stays.
+-- The table of moves, second half: what each allowed move does. What a row does not name stays. Of a move that is barred nothing is claimed: where a cell,
+-- a passenger or a packet is missing the state is left as it is.
 use Rattle.std.specs.Prelude.{ℕ, ◌+◌, ◌-◌, List, [], ◌∷◌, ◌++◌, Option, Some, None, Bool, true, false, if◌then◌else◌, slice_get, slice_index, slice_set}
 use Rattle.mem_regions.specs.Access.{bounds_of}
 use Rattle.rv_machine.specs.Call.{Called}
@@ -82,11 +83,11 @@ fallen s i c d = with_cell (with_cell s i (without_packet c)) (i - 1) (record d 
 abbrev pub cell_met : Cell → Passenger → Packet → Cell
 cell_met c p k = let m = meeting p k in record { passenger = Some m.passenger; packet = m.packet; met = is_some m.packet }
 
--- Send: what the passenger owes stands beside it, met
+-- Send: what the passenger owes stands beside it, met; the move is allowed only where no packet is there
 abbrev pub sent : Passenger → Cell
 sent p = record { passenger = Some (record p { owes = None }); packet = p.owes; met = true }
 
--- the operation of a passenger
+-- the operation of a passenger; Launch is allowed only where both its sources have values
 abbrev pub operation : Passenger → Op
 operation p = record { pc = p.pc; instr = instruction p; a = value_in p.src1; b = value_in p.src2; answer = None }
 
@@ -112,16 +113,16 @@ accessed plan s op =
       mem = mem_after op.instr op.a op.b s.mem;
     }
 
--- a passenger takes its operation back: a live one finishes
+-- a passenger takes its operation back: a live one finishes. Right in reached states alone: there what it launched has its source values, and is not done
 abbrev pub back_in : Passenger → Option ℕ → Passenger
 back_in p answer = if p.dead then record p { recovered = true } else finish (record p { recovered = true }) answer
 
--- Recover: the operation at the end of the siding is taken out
+-- Recover: the operation at the end of the siding is taken out. Right in reached states alone, where it is the passenger's own (`exit_op_bar`)
 abbrev pub recovered : Plan → State → ℕ → Cell → Passenger → State
 recovered plan s i c p = on (siding_of plan (kind p)) s (λ k. on (last_op (siding_at s k)) s (λ op.
     with_siding (with_cell s i (with_passenger c (back_in p op.answer))) k (set_last (siding_at s k) None)))
 
--- the registers with a destination's value
+-- the registers with a destination's value. Right in reached states alone: there a live passenger that is done and does not end the program has it
 abbrev pub written : List ℕ → Option Binding → List ℕ
 written regs None = regs
 written regs (Some b) = slice_set regs b.reg (value_in (Some b))
@@ -171,7 +172,7 @@ moved plan s Leave = on_passenger s plan.stages (left s plan.stages)
 moved plan s Exit = on_cell s 1 (exited plan s)
 moved plan s Serve = s
 
--- a passenger that was answered: all that was fetched behind it must be fetched anew
+-- a passenger that was answered: all that was fetched behind it must be fetched anew. Right in reached states alone: there one that is not done owes nothing that would be lost
 abbrev pub answered : Passenger → ℕ → Passenger
 answered p v = record p { done = true; dst = with_value v p.dst; next = Some (word_after p.pc); owes = Some (Turn (word_after p.pc)) }
 

@@ -65,11 +65,12 @@ abbrev pub value_packet : ℕ → Option Binding → Option Packet
 value_packet v None = None
 value_packet v (Some b) = Some (Value b.reg v)
 
--- it traps: it will halt what is below it
+-- it traps: it will halt what is below it. Right in reached states alone: there one that is not done owes nothing that would be lost
 abbrev pub trapped : Passenger → End → Passenger
 trapped p e = record p { done = true; ending = Some e; owes = Some Halt }
 
--- it is executed, with the value v, and the program goes on at n: what it owes is a turn where the guess was another, else its value
+-- it is executed, with the value v, and the program goes on at n: what it owes is a turn where the guess was another, else its value. Right in reached states
+-- alone: there one that is not done owes nothing, and its destination has no value, so that nothing is lost
 abbrev pub finished : Passenger → ℕ → ℕ → Passenger
 finished p n v = record p {
   done = true;
@@ -78,7 +79,7 @@ finished p n v = record p {
   owes = if is_place (guessed p.guess (instruction p) p.pc) n then value_packet v p.dst else Some (Turn n);
 }
 
--- it finishes: by what its unit computes, or with the answer of memory where there is one
+-- it finishes: by what its unit computes, or with the answer of memory where there is one. A source without a value counts as 0 here; Execute and Launch wait until there is none
 unfoldable pub finish : Passenger → Option ℕ → Passenger
 finish p answer =
     let a = value_in p.src1 in

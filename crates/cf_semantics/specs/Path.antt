@@ -14,7 +14,7 @@ use Rattle.cf_semantics.specs.State.{State}
 use Rattle.cf_semantics.specs.Column.{Item, Up, Down}
 use Rattle.cf_semantics.specs.Passengers.{goto}
 
--- what is known on the way down: the machine behind the sure passengers so far; whether a barrier was passed; where the program goes behind the last of them, if anywhere; whether that one is executed without ending the program, or there is none yet; whether it traps; and for which registers a value is on its way to those further down
+-- what is known on the way down: the machine behind the sure passengers so far; whether a barrier was passed; where the program goes behind the last of them, if anywhere; whether that one is executed without ending the program, or there is none yet; whether it traps; and for which registers a sure passenger further down may wait
 pub record Walk : Type 0 where
   pub machine : Machine
   pub barred : Bool
@@ -41,7 +41,8 @@ abbrev pub has_reg : Option Binding → ℕ → Bool
 has_reg None r = false
 has_reg (Some b) r = b.reg == r
 
--- a value of r has still to come from the passenger: it is not executed yet, or owes, or ends the program
+-- a sure passenger below may wait for r, which is the destination of this one: it is not executed yet, or owes the value; or it owes a turn or a halt, or ends the program,
+-- and then none below it is sure
 abbrev pub brings : Passenger → ℕ → Bool
 brings p r = has_reg p.dst r && (not p.done || is_some p.owes || is_some p.ending)
 

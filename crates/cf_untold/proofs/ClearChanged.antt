@@ -7,22 +7,24 @@ use Rattle.cf_bind.specs.declared.moves.Move.TheVariants.{Access, Climb, Execute
 use Rattle.cf_bind.specs.declared.passenger.End.{End}
 use Rattle.cf_bind.specs.declared.passenger.Passenger.{Passenger}
 use Rattle.cf_layout.specs.Layout.{Plan}
-use Rattle.cf_refinement.proofs.Accesses.{access_ready, next-access}
-use Rattle.cf_refinement.proofs.Back.{back}
-use Rattle.cf_refinement.proofs.Change.{here}
-use Rattle.cf_refinement.proofs.Column.{climb_is, climb_was, column-at, column-pair, fall_is, fall_was, pair, place}
-use Rattle.cf_refinement.proofs.Execute.{finish_done}
-use Rattle.cf_refinement.proofs.Executed.{execute_ready, next-execute}
-use Rattle.cf_refinement.proofs.Fall.{fall_ready, next-fall, no_fall}
-use Rattle.cf_refinement.proofs.Kept.{bar_row, climb_ready, items_met, meet_ready, next-climb, next-meet}
-use Rattle.cf_refinement.proofs.Launch.{sent_out}
-use Rattle.cf_refinement.proofs.Launched.{Launches, launch_ready, launched_out, launched_trap, next-launch}
-use Rattle.cf_refinement.proofs.PathMeet.{met_items}
-use Rattle.cf_refinement.proofs.Recover.{next-recover, recover_ready}
-use Rattle.cf_refinement.proofs.Recovered.{in_dead, in_live}
-use Rattle.cf_refinement.proofs.Serve.{Serves, next-serve, quit, serve_ready}
-use Rattle.cf_refinement.proofs.Slide.{next-slide, slide_ready}
-use Rattle.cf_refinement.proofs.Spot.{spot}
+use Rattle.cf_refinement.proofs.moves.Access.{access_ready, next-access}
+use Rattle.cf_refinement.proofs.walks.Returning.{back}
+use Rattle.cf_refinement.proofs.column.Change.{here}
+use Rattle.cf_refinement.proofs.column.Column.{climb_is, climb_was, column-at, column-pair, fall_is, fall_was, pair, place}
+use Rattle.cf_refinement.proofs.walks.Finishing.{finish_done}
+use Rattle.cf_refinement.proofs.moves.Execute.{execute_ready, next-execute}
+use Rattle.cf_refinement.proofs.moves.Fall.{fall_ready, next-fall, no_fall}
+use Rattle.cf_refinement.proofs.moves.Climb.{climb_ready, next-climb}
+use Rattle.cf_refinement.proofs.moves.Meet.{items_met, meet_ready, next-meet}
+use Rattle.cf_refinement.proofs.moves.Rows.{bar_row}
+use Rattle.cf_refinement.proofs.walks.Launching.{sent_out}
+use Rattle.cf_refinement.proofs.moves.Launch.{Launches, launch_ready, launched_out, launched_trap, next-launch}
+use Rattle.cf_refinement.proofs.walks.PathMeet.{met_items}
+use Rattle.cf_refinement.proofs.moves.Recovering.{next-recover, recover_ready}
+use Rattle.cf_refinement.proofs.moves.Recover.{in_dead, in_live}
+use Rattle.cf_refinement.proofs.moves.Serve.{Serves, next-serve, quit, serve_ready}
+use Rattle.cf_refinement.proofs.moves.Slide.{next-slide, slide_ready}
+use Rattle.cf_refinement.proofs.column.Spot.{spot}
 use Rattle.cf_refinement.specs.Invariant.{Sound}
 use Rattle.cf_semantics.specs.Bars.{bar, row_bar}
 use Rattle.cf_semantics.specs.Column.{Down, Item, Up, column, column_from, packet_in, passenger_in}

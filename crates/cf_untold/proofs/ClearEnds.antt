@@ -10,13 +10,13 @@ use Rattle.cf_bind.specs.declared.packet.Packet.TheVariants.{Halt, Turn, Value}
 use Rattle.cf_bind.specs.declared.passenger.Guess.{Guess}
 use Rattle.cf_bind.specs.declared.passenger.Passenger.{Passenger}
 use Rattle.cf_layout.specs.Layout.{Plan}
-use Rattle.cf_refinement.proofs.Column.{rider_first, rider_gone, top_cell}
-use Rattle.cf_refinement.proofs.Emit.{alone, emit_ready, next-emit}
-use Rattle.cf_refinement.proofs.Exit.{exit_items, exit_ready, next-exit}
-use Rattle.cf_refinement.proofs.Fold.{fit_append, fit_back, fit_front, walk-append}
-use Rattle.cf_refinement.proofs.Issue.{issue_ready, next-issue}
-use Rattle.cf_refinement.proofs.Kept.{bar_row}
-use Rattle.cf_refinement.proofs.Leave.{leave_ready, next-leave}
+use Rattle.cf_refinement.proofs.column.Column.{rider_first, rider_gone, top_cell}
+use Rattle.cf_refinement.proofs.moves.Emit.{alone, emit_ready, next-emit}
+use Rattle.cf_refinement.proofs.moves.Exit.{exit_items, exit_ready, next-exit}
+use Rattle.cf_refinement.proofs.column.Fold.{fit_append, fit_back, fit_front, walk-append}
+use Rattle.cf_refinement.proofs.moves.Issue.{issue_ready, next-issue}
+use Rattle.cf_refinement.proofs.moves.Rows.{bar_row}
+use Rattle.cf_refinement.proofs.moves.Leave.{leave_ready, next-leave}
 use Rattle.cf_refinement.specs.Invariant.{Sound}
 use Rattle.cf_refinement.specs.Suited.{Suits}
 use Rattle.cf_semantics.specs.Bars.{bar}

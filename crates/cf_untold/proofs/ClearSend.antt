@@ -7,11 +7,11 @@ use Rattle.cf_bind.specs.declared.packet.Packet.{Packet}
 use Rattle.cf_bind.specs.declared.packet.Packet.TheVariants.{Halt, Turn, Value}
 use Rattle.cf_bind.specs.declared.passenger.Passenger.{Passenger}
 use Rattle.cf_layout.specs.Layout.{Plan}
-use Rattle.cf_refinement.proofs.Change.{here}
-use Rattle.cf_refinement.proofs.Column.{column-at, place}
-use Rattle.cf_refinement.proofs.Fold.{fit_append, fit_back, fit_front, walk-append}
-use Rattle.cf_refinement.proofs.Kept.{bar_row}
-use Rattle.cf_refinement.proofs.Send.{alone, next-send, send_ready}
+use Rattle.cf_refinement.proofs.column.Change.{here}
+use Rattle.cf_refinement.proofs.column.Column.{column-at, place}
+use Rattle.cf_refinement.proofs.column.Fold.{fit_append, fit_back, fit_front, walk-append}
+use Rattle.cf_refinement.proofs.moves.Rows.{bar_row}
+use Rattle.cf_refinement.proofs.moves.Send.{alone, next-send, send_ready}
 use Rattle.cf_refinement.specs.Invariant.{Sound}
 use Rattle.cf_refinement.specs.Lone as lone
 use Rattle.cf_refinement.specs.Suited.{Suits}

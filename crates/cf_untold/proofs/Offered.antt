@@ -15,9 +15,9 @@ use Rattle.cf_semantics.specs.Options.{is_some}
 use Rattle.cf_semantics.specs.State.{Moment, State}
 use Rattle.cf_semantics.specs.Weight.{is_issue}
 use Rattle.cf_refinement.specs.Invariant.{HoldsAt, Sound}
-use Rattle.cf_refinement.proofs.Accepted.{accepted_suits}
+use Rattle.cf_refinement.proofs.layouts.Accepted.{accepted_suits}
 use Rattle.cf_confluence.proofs.Candidates.{HasShape, has_some, held_stuck, kept_passes, some_pick}
-use Rattle.cf_confluence.proofs.Rested.{Rested, rested}
+use Rattle.cf_confluence.proofs.drains.Rested.{Rested, rested}
 use Rattle.cf_untold.specs.Anew.{finding}
 use Rattle.cf_untold.specs.Invariant.{HoldsAnew}
 

@@ -20,10 +20,10 @@ use Rattle.cf_semantics.specs.Runs.{opened, run, start}
 use Rattle.cf_semantics.specs.State.{Moment}
 use Rattle.cf_semantics.specs.Weight.{counts, is_issue, issues, moves_per_issue}
 use Rattle.cf_refinement.specs.Suited.{Suits}
-use Rattle.cf_refinement.proofs.Accepted.{accepted_suits}
-use Rattle.cf_refinement.proofs.Runs.{going, opened_retired}
-use Rattle.cf_confluence.proofs.Rested.{drained_is, rested}
-use Rattle.cf_confluence.proofs.Retiring.{retires_so}
+use Rattle.cf_refinement.proofs.layouts.Accepted.{accepted_suits}
+use Rattle.cf_refinement.proofs.claims.Runs.{going, opened_retired}
+use Rattle.cf_confluence.proofs.drains.Rested.{drained_is, rested}
+use Rattle.cf_confluence.proofs.drains.Retiring.{retires_so}
 use Rattle.cf_untold.specs.Anew.{LeadsTo, finding}
 use Rattle.cf_untold.specs.Invariant.{HoldsAnew}
 use Rattle.cf_untold.specs.Paced.{PacesTo}

@@ -26,10 +26,10 @@ use Rattle.cf_refinement.specs.Invariant.{Sound}
 use Rattle.cf_refinement.specs.Port as dock
 use Rattle.cf_refinement.specs.Stands.{Blank}
 use Rattle.cf_refinement.specs.Sure as sure
-use Rattle.cf_refinement.proofs.Kept.{bar_row}
-use Rattle.cf_refinement.proofs.Quiet.{Unchanged}
-use Rattle.cf_refinement.proofs.Serve.{Idle, Scene, Serves, scene, serve_ready}
-use Rattle.cf_refinement.proofs.Steps.{sure_keeps}
+use Rattle.cf_refinement.proofs.moves.Rows.{bar_row}
+use Rattle.cf_refinement.proofs.walks.Quiet.{Unchanged}
+use Rattle.cf_refinement.proofs.moves.Serve.{Idle, Scene, Serves, scene, serve_ready}
+use Rattle.cf_refinement.proofs.instructions.Steps.{sure_keeps}
 use Rattle.cf_untold.specs.Clear as clear
 use Rattle.cf_untold.specs.Clear.{IsClear, none_awaited}
 

@@ -7,7 +7,7 @@ use Rattle.cf_semantics.specs.Lines.{Line}
 use Rattle.cf_semantics.specs.Refines.{gained}
 use Rattle.cf_semantics.specs.State.{Moment}
 use Rattle.cf_refinement.specs.Invariant.{HoldsAfter}
-use Rattle.cf_confluence.proofs.Tidy.{IsTidy}
+use Rattle.cf_confluence.proofs.drains.Tidy.{IsTidy}
 use Rattle.cf_untold.specs.Anew.{GoesTo, finding}
 use Rattle.cf_untold.specs.Clear.{IsClear}
 

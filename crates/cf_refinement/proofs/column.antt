@@ -1,0 +1,8 @@
+-- The column and the sidings as lists, and how a change in the middle carries over to a walk.
+pub mod Column
+pub mod Fold
+pub mod Change
+pub mod Sorted
+pub mod Spot
+pub mod Sidings
+pub mod Flown

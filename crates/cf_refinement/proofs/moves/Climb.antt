@@ -1,0 +1,93 @@
+-- Climb keeps the invariant.
+use Rattle.std.proofs.Common.{◌≡◌, ℕ, suc, ◌+◌, ◌<◌, List, [], ◌∷◌, ◌++◌, Option, Some, None, true, false, refl, ap, ◌∙◌, arith, length, length-append, add-one, append_assoc}
+use Rattle.cf_bind.specs.declared.cell.Cell.{Cell}
+use Rattle.cf_bind.specs.declared.moves.Bar.TheVariants.{NoSuchSite}
+use Rattle.cf_bind.specs.declared.moves.Move.TheVariants.{Climb}
+use Rattle.cf_bind.specs.declared.passenger.Passenger.{Passenger}
+use Rattle.cf_layout.specs.Layout.{Plan}
+use Rattle.cf_refinement.proofs.column.Change.{changed}
+use Rattle.cf_refinement.proofs.column.Column.{climb_is, climb_was, column-pair, pair}
+use Rattle.cf_refinement.proofs.column.Fold.{Replaces}
+use Rattle.cf_refinement.proofs.walks.Stands.{climb_stands}
+use Rattle.cf_refinement.specs.Invariant.{Sound}
+use Rattle.cf_semantics.specs.Bars.{bar, climb_bar, is_full, row_bar, stops_at}
+use Rattle.cf_semantics.specs.Column.{Item, Up, column, column_from, packet_in}
+use Rattle.cf_semantics.specs.Layouts.{isa_of}
+use Rattle.cf_semantics.specs.Moves.{climbed, moved, without_passenger}
+use Rattle.cf_semantics.specs.Options.{is_some, on}
+use Rattle.cf_semantics.specs.State.{State, cell_at, put_cell}
+use Rattle.rv_inst.specs.declared.isa.Isa.{Isa}
+use Rattle.rv_machine.specs.Machine.{Machine}
+use Rattle.cf_refinement.specs.Port as dock
+use Rattle.cf_refinement.proofs.walks.Lone as lones
+use Rattle.cf_refinement.proofs.walks.Path as paths
+use Rattle.cf_refinement.proofs.walks.Port as ports
+use Rattle.cf_refinement.specs.Sure as sure
+use Rattle.cf_semantics.specs.Path as trail
+use Rattle.cf_refinement.proofs.moves.Rows.{bar_row, put_size}
+
+pub record Climbs (l : Plan) (s : State) (i : ℕ) : Type 0 where
+  pub low : Cell
+  pub high : Cell
+  pub who : Passenger
+  pub at_low : cell_at s.cells i ≡ Some low
+  pub at_high : cell_at s.cells (suc i) ≡ Some high
+  pub sits : low.passenger ≡ Some who
+  pub empty : high.passenger ≡ None
+  pub clear : is_full low ≡ false
+  pub nothing : is_some who.owes ≡ false
+  pub passes : stops_at l who i ≡ false
+
+pub climb_ready : (l : Plan) (s : State) (i : ℕ) → row_bar l s (Climb i) ≡ None → Climbs l s i
+climb_ready l s i e = go (cell_at s.cells i) (cell_at s.cells (suc i)) refl refl (rw add-one at e)
+  where
+    inner : (c d : Cell) (o : Option Passenger) → cell_at s.cells i ≡ Some c → cell_at s.cells (suc i) ≡ Some d → c.passenger ≡ o → climb_bar l c i (Some d) ≡ None → Climbs l s i
+    inner c d None f g h e = absurd (grind arith)
+    inner c d (Some p) f g h e = record { low = c; high = d; who = p; at_low = f; at_high = g; sits = h; empty = grind arith; clear = grind arith; nothing = grind arith; passes = grind arith }
+
+    go : (a b : Option Cell) → cell_at s.cells i ≡ a → cell_at s.cells (suc i) ≡ b → on (cell_at s.cells i) (Some NoSuchSite) (λ c. climb_bar l c i (cell_at s.cells (suc i))) ≡ None → Climbs l s i
+    go None b f g e = absurd (grind arith)
+    go (Some c) None f g e = absurd (grind arith)
+    go (Some c) (Some d) f g e = inner c d c.passenger f g refl (rw (f, g) at e)
+
+pub next-climb : (l : Plan) (s : State) (i : ℕ) (c d : Cell) → cell_at s.cells i ≡ Some c → cell_at s.cells (suc i) ≡ Some d → moved l s (Climb i) ≡ climbed s i c d
+unfolding moved
+next-climb l s i c d e f = let g : cell_at s.cells (i + 1) ≡ Some d = rw add-one f in rw (e, g)
+
+path_label : (isa : Isa) (i j : ℕ) (p : Passenger) (w : trail.Walk) → Replaces trail.Walk (sure.Fits isa) (trail.past isa) paths.Follows (Up i p ∷ []) (Up j p ∷ []) w
+unfolding sure.Fits trail.past
+path_label isa i j p w = record { fit = λ h. h; follows = λ h. record { barred = λ b. b; machine = λ _. refl; goto = λ _. refl; settled = λ _ e. e; trapped = λ _ e. e; coming = λ _ r c. c } }
+
+port_label : (isa : Isa) (i j : ℕ) (p : Passenger) (w : dock.Dock) → (w.path.barred ≡ true → w.risky ≡ true) → Replaces dock.Dock (dock.Fits isa) (dock.past isa) ports.Follows (Up i p ∷ []) (Up j p ∷ []) w
+unfolding dock.Fits dock.past trail.past
+port_label isa i j p w s = record { fit = λ h. h; follows = λ h. record { path = record { barred = λ b. b; machine = λ _. refl; goto = λ _. refl; settled = λ _ e. e; trapped = λ _ e. e; coming = λ _ r c. c }; safe = λ b. safe b; risky = λ b. b; mem = refl; code = refl; rest = refl; out = refl; answer = refl } }
+  where
+    safe : (dock.past isa (Up i p) w).path.barred ≡ true → (dock.past isa (Up i p) w).risky ≡ true
+    safe b = grind (arith, s)
+
+-- the two forms of a piece of the column
+regroup : (a r m k b : List Item) → a ++ ((r ++ (m ++ k)) ++ b) ≡ (a ++ r) ++ (m ++ (k ++ b))
+regroup a r m k b = rw (append_assoc r (m ++ k) b, append_assoc m k b, append_assoc a r (m ++ (k ++ b)))
+
+pub climb_kept : {rest out : List ℕ} (l : Plan) (s : State) (x : Machine) (i : ℕ) → bar l s (Climb i) ≡ None → Sound l s rest out x → Sound l (moved l s (Climb i)) rest out x
+climb_kept {rest} {out} l s x i e h =
+    let r = climb_ready l s i (bar_row l s (Climb i) e) in
+    let p = pair s.cells i r.low r.high r.at_low r.at_high in
+    let c : Cell = without_passenger r.low in
+    let d : Cell = record r.high { passenger = r.low.passenger; met = false } in
+    let up = column_from (suc (suc i)) p.above in
+    let under = column_from 1 p.below in
+    let rs = packet_in (suc i) r.high.packet in
+    let ks = packet_in i r.low.packet in
+    let was : column s ≡ (up ++ rs) ++ (Up i r.who ∷ [] ++ (ks ++ under)) =
+    ap (column_from 1) p.split ∙ column-pair i p.below p.above r.low r.high p.number ∙ ap (λ (m : List Item). up ++ (m ++ under)) (climb_was i (suc i) r.low r.high r.who r.sits r.empty r.clear) ∙ regroup up rs (Up i r.who ∷ []) ks under in
+    let is : column_from 1 (put_cell (put_cell s.cells i c) (suc i) d) ≡ (up ++ rs) ++ (Up (suc i) r.who ∷ [] ++ (ks ++ under)) =
+    ap (column_from 1) (p.set c d) ∙ column-pair i p.below p.above c d p.number ∙ ap (λ (m : List Item). up ++ (m ++ under)) (climb_is i (suc i) r.low r.high r.who r.sits r.empty r.clear) ∙ regroup up rs (Up (suc i) r.who ∷ []) ks under in
+    let room : i < l.stages = omega (arith, h.size, p.number, ap length p.split ∙ length-append p.below (r.low ∷ r.high ∷ p.above)) in
+    rw (next-climb l s i r.low r.high r.at_low r.at_high, add-one) (changed l s x (put_cell (put_cell s.cells i c) (suc i) d) (up ++ rs) (Up i r.who ∷ []) (Up (suc i) r.who ∷ []) (ks ++ under) was is (put_size (put_cell s.cells i c) (suc i) d ∙ put_size s.cells i c) (λ o. record {
+      path = path_label (isa_of l) i (suc i) r.who _;
+      lone = lones.climb_lone l i (suc i) r.who _ r.nothing;
+      stands = (climb_stands l i r.who room r.passes o.stands.0, tt);
+      port = port_label (isa_of l) i (suc i) r.who _ o.safe;
+      operations = λ k. refl;
+    }) h)

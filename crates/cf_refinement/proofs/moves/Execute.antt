@@ -1,0 +1,113 @@
+-- Execute keeps the invariant.
+use Rattle.std.proofs.Common.{◌≡◌, ℕ, suc, List, [], ◌∷◌, ◌++◌, Option, Some, None, Bool, true, false, refl, ap, ◌∙◌, arith, append_assoc, append-nil}
+use Rattle.cf_bind.specs.declared.cell.Cell.{Cell}
+use Rattle.cf_bind.specs.declared.moves.Bar.TheVariants.{NoSuchSite}
+use Rattle.cf_bind.specs.declared.moves.Move.TheVariants.{Execute}
+use Rattle.cf_bind.specs.declared.passenger.Passenger.{Passenger}
+use Rattle.cf_layout.specs.Layout.{Plan, unit_at}
+use Rattle.cf_refinement.proofs.column.Change.{changed}
+use Rattle.cf_refinement.proofs.column.Column.{column-at, place}
+use Rattle.cf_refinement.proofs.walks.Finishing.{execute_finishes, finish_is_out, finish_lone, finish_port, finish_risks, finish_shuts, finish_stands}
+use Rattle.cf_refinement.proofs.moves.Rows.{bar_row, put_size}
+use Rattle.cf_refinement.proofs.walks.PathFinish.{Finishes, finish_fits, finish_walk}
+use Rattle.cf_refinement.specs.Invariant.{Sound}
+use Rattle.cf_refinement.specs.Stands.{Stands}
+use Rattle.cf_refinement.specs.Suited.{Suits, is_plain}
+use Rattle.cf_semantics.specs.Bars.{bar, execute_bar, row_bar}
+use Rattle.cf_semantics.specs.Column.{Item, Up, column, column_from, in_order, packet_in}
+use Rattle.cf_semantics.specs.Instructions.{is_control, step_at}
+use Rattle.cf_semantics.specs.Layouts.{isa_of}
+use Rattle.cf_semantics.specs.Moves.{moved, with_passenger}
+use Rattle.cf_semantics.specs.Options.{on}
+use Rattle.cf_semantics.specs.Passengers.{finish, goto_undone, guessed, instruction, kind, missing}
+use Rattle.cf_semantics.specs.State.{State, cell_at, put_cell, with_cell}
+use Rattle.rv_inst.specs.declared.classes.Class.{Class}
+use Rattle.rv_inst.specs.declared.isa.Isa.{Isa}
+use Rattle.rv_machine.specs.Machine.{Machine}
+use Rattle.cf_refinement.specs.Lone as lone
+use Rattle.cf_refinement.specs.Sure as sure
+use Rattle.cf_semantics.specs.Path as trail
+
+pub record Runs (l : Plan) (s : State) (i : ℕ) : Type 0 where
+  pub here : Cell
+  pub who : Passenger
+  pub at_here : cell_at s.cells i ≡ Some here
+  pub sits : here.passenger ≡ Some who
+  pub live : who.dead ≡ false
+  pub undone : who.done ≡ false
+  pub unit : unit_at l (kind who) i ≡ true
+  pub has1 : missing who.src1 ≡ None
+  pub has2 : missing who.src2 ≡ None
+
+pub execute_ready : (l : Plan) (s : State) (i : ℕ) → row_bar l s (Execute i) ≡ None → Runs l s i
+execute_ready l s i e = go (cell_at s.cells i) refl e
+  where
+    inner : (c : Cell) (o : Option Passenger) → cell_at s.cells i ≡ Some c → c.passenger ≡ o → execute_bar l c i ≡ None → Runs l s i
+    inner c None f h e = absurd (grind arith)
+    inner c (Some p) f h e = record { here = c; who = p; at_here = f; sits = h; live = grind arith; undone = grind arith; unit = grind arith; has1 = grind arith; has2 = grind arith }
+
+    go : (a : Option Cell) → cell_at s.cells i ≡ a → on a (Some NoSuchSite) (λ c. execute_bar l c i) ≡ None → Runs l s i
+    go None f e = absurd (cc)
+    go (Some c) f e = inner c c.passenger f refl e
+
+pub next-execute : (l : Plan) (s : State) (i : ℕ) (c : Cell) (p : Passenger) → cell_at s.cells i ≡ Some c → c.passenger ≡ Some p → moved l s (Execute i) ≡ with_cell s i (with_passenger c (finish p None))
+unfolding moved
+next-execute l s i c p e f = rw (e, f)
+
+pub goes_straight : (p : Passenger) → is_plain (kind p) ≡ true → goto_undone (kind p) p ≡ guessed p.guess (instruction p) p.pc
+goes_straight p e = go (kind p) e
+  where
+    go : (c : Class) → is_plain c ≡ true → goto_undone c p ≡ guessed p.guess (instruction p) p.pc
+    go c e = grind arith
+
+-- a stage with a passenger, from the top: what is above it and what is below it
+above_in : Bool → List Item → List Item
+above_in true ks = []
+above_in false ks = ks
+
+below_in : Bool → List Item → List Item
+below_in true ks = ks
+below_in false ks = []
+
+split_items : (m : Bool) (i : ℕ) (p : Passenger) (ks a b : List Item) → a ++ (in_order m (Up i p ∷ []) ks ++ b) ≡ (a ++ above_in m ks) ++ ((Up i p ∷ []) ++ (below_in m ks ++ b))
+unfolding above_in below_in
+split_items true i p ks a b = rw (append-nil a)
+split_items false i p ks a b = rw (append_assoc ks (Up i p ∷ []) b, append_assoc a ks (Up i p ∷ b))
+
+pub sure_finishes : (isa : Isa) (p : Passenger) (w : trail.Walk) → p.done ≡ false → missing p.src1 ≡ None → missing p.src2 ≡ None → is_plain (kind p) ≡ true → sure.SureAt isa p w → Finishes p w.machine (step_at isa w.machine p.pc) None
+unfolding sure.SureAt
+sure_finishes isa p w d m1 m2 c h = execute_finishes isa p w.machine w.goto d m1 m2 c h.0
+
+-- a class with a unit has no siding, so that it is not launched
+pub ashore : (l : Plan) → Suits l → (i : ℕ) (p : Passenger) → unit_at l (kind p) i ≡ true → p.dead ≡ false → p.done ≡ false → Stands l i p → p.launched ≡ false
+ashore l acc i p u d n h = go p.launched p.recovered refl refl
+  where
+    go : (a b : Bool) → p.launched ≡ a → p.recovered ≡ b → p.launched ≡ false
+    go false b e f = e
+    go true true e f = absurd (let z = h.back_done f d in cc)
+    go true false e f = absurd (let z = rw (acc.unsided (kind p) i u) at (h.out e f) in z)
+
+pub execute_kept : {rest out : List ℕ} (l : Plan) (s : State) (x : Machine) (i : ℕ) → Suits l → bar l s (Execute i) ≡ None → Sound l s rest out x → Sound l (moved l s (Execute i)) rest out x
+execute_kept {rest} {out} l s x i acc e h =
+    let r = execute_ready l s i (bar_row l s (Execute i) e) in
+    let p = place s.cells i r.here r.at_here in
+    let q = r.who in
+    let d : Cell = with_passenger r.here (finish q None) in
+    let up = column_from (suc i) p.above in
+    let under = column_from 1 p.below in
+    let ks = packet_in i r.here.packet in
+    let m = r.here.met in
+    let c = acc.plain (kind q) i r.unit in
+    let low : is_control (kind q) ≡ true → lone.is_high l i ≡ false = λ a. acc.control_low (kind q) i a r.unit in
+    let was : column s ≡ (up ++ above_in m ks) ++ ((Up i q ∷ []) ++ (below_in m ks ++ under)) =
+    ap (column_from 1) p.split ∙ column-at i p.below p.above r.here p.number ∙ rw r.sits (split_items m i q ks up under) in
+    let is : column_from 1 (put_cell s.cells i d) ≡ (up ++ above_in m ks) ++ ((Up i (finish q None) ∷ []) ++ (below_in m ks ++ under)) =
+    ap (column_from 1) (p.set d) ∙ column-at i p.below p.above d p.number ∙ split_items m i (finish q None) ks up under in
+    let walks = λ (w : trail.Walk). finish_walk (isa_of l) i q w None r.undone (goes_straight q c) in
+    rw (next-execute l s i r.here q r.at_here r.sits) (changed l s x (put_cell s.cells i d) (up ++ above_in m ks) (Up i q ∷ []) (Up i (finish q None) ∷ []) (below_in m ks ++ under) was is (put_size s.cells i d) (λ k. record {
+      path = record { fit = finish_fits (isa_of l) i q _ None k.wide r.live r.undone (sure_finishes (isa_of l) q _ r.undone r.has1 r.has2 c); follows = walks _ };
+      lone = finish_lone l i q _ (finish_shuts l i q c low k.stands.0.guess);
+      stands = (finish_stands l i q r.live r.undone c (ashore l acc i q r.unit r.live r.undone k.stands.0) k.stands.0, tt);
+      port = finish_port (isa_of l) i q _ c k.safe (finish_risks q r.live r.undone c (k.stands.0.unended r.undone) k.stands.0.guess) (walks _) (rw k.same k.path_fit);
+      operations = λ n. finish_is_out l n i q;
+    }) h)

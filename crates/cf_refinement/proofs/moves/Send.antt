@@ -1,0 +1,85 @@
+-- Send keeps the invariant.
+use Rattle.std.proofs.Common.{◌≡◌, ℕ, suc, List, [], ◌∷◌, ◌++◌, Option, Some, None, Bool, true, false, refl, ap, ◌∙◌, arith, append-nil}
+use Rattle.cf_bind.specs.declared.cell.Cell.{Cell}
+use Rattle.cf_bind.specs.declared.moves.Bar.TheVariants.{NoSuchSite}
+use Rattle.cf_bind.specs.declared.moves.Move.TheVariants.{Send}
+use Rattle.cf_bind.specs.declared.packet.Packet.{Packet}
+use Rattle.cf_bind.specs.declared.passenger.Passenger.{Passenger}
+use Rattle.cf_layout.specs.Layout.{Plan}
+use Rattle.cf_refinement.proofs.column.Change.{changed}
+use Rattle.cf_refinement.proofs.column.Column.{column-at, place}
+use Rattle.cf_refinement.proofs.column.Fold.{Replaces}
+use Rattle.cf_refinement.proofs.moves.Rows.{bar_row, put_size}
+use Rattle.cf_refinement.proofs.walks.Stands.{send_stands}
+use Rattle.cf_refinement.specs.Invariant.{Sound}
+use Rattle.cf_semantics.specs.Bars.{bar, row_bar, send_bar}
+use Rattle.cf_semantics.specs.Column.{Down, Item, Up, column, column_from, in_order}
+use Rattle.cf_semantics.specs.Layouts.{isa_of}
+use Rattle.cf_semantics.specs.Moves.{moved}
+use Rattle.cf_semantics.specs.Options.{is_some, on}
+use Rattle.cf_semantics.specs.State.{State, cell_at, put_cell, with_cell}
+use Rattle.cf_semantics.specs.Walks.{Everywhere}
+use Rattle.rv_inst.specs.declared.isa.Isa.{Isa}
+use Rattle.rv_machine.specs.Machine.{Machine}
+use Rattle.cf_refinement.specs.Port as dock
+use Rattle.cf_refinement.proofs.walks.Lone as lones
+use Rattle.cf_refinement.proofs.walks.Path as paths
+use Rattle.cf_refinement.proofs.walks.PortMoves as portmoves
+use Rattle.cf_refinement.proofs.walks.Port as ports
+use Rattle.cf_refinement.specs.Sure as sure
+use Rattle.cf_semantics.specs.Path as trail
+
+pub record Sends (s : State) (i : ℕ) : Type 0 where
+  pub here : Cell
+  pub who : Passenger
+  pub what : Packet
+  pub at_here : cell_at s.cells i ≡ Some here
+  pub sits : here.passenger ≡ Some who
+  pub owes : who.owes ≡ Some what
+  pub free : here.packet ≡ None
+
+pub send_ready : (l : Plan) (s : State) (i : ℕ) → row_bar l s (Send i) ≡ None → Sends s i
+send_ready l s i e = go (cell_at s.cells i) refl e
+  where
+    inner : (c : Cell) (o : Option Passenger) → cell_at s.cells i ≡ Some c → c.passenger ≡ o → send_bar c ≡ None → Sends s i
+    inner c None f h e = absurd (grind arith)
+    inner c (Some p) f h e = let o : (k : Packet) × (p.owes ≡ Some k) = owed p.owes (grind arith) in record { here = c; who = p; what = o.0; at_here = f; sits = h; owes = o.1; free = grind arith }
+      where
+        owed : (a : Option Packet) → is_some a ≡ true → (k : Packet) × (a ≡ Some k)
+        owed None e = absurd (cc)
+        owed (Some k) e = (k, refl)
+
+    go : (a : Option Cell) → cell_at s.cells i ≡ a → on a (Some NoSuchSite) send_bar ≡ None → Sends s i
+    go None f e = absurd (cc)
+    go (Some c) f e = inner c c.passenger f refl e
+
+pub next-send : (l : Plan) (s : State) (i : ℕ) (c : Cell) (p : Passenger) (k : Packet) → cell_at s.cells i ≡ Some c → c.passenger ≡ Some p → p.owes ≡ Some k → moved l s (Send i) ≡ with_cell s i (record { passenger = Some (record p { owes = None }); packet = Some k; met = true })
+unfolding moved
+next-send l s i c p k e f g = rw (e, f, g)
+
+pub alone : (m : Bool) (xs : List Item) → in_order m xs [] ≡ xs
+alone true xs = append-nil xs
+alone false xs = refl
+
+send_port : (isa : Isa) (i : ℕ) (p : Passenger) (k : Packet) (w : dock.Dock) → p.owes ≡ Some k → (w.path.barred ≡ true → w.risky ≡ true) → Everywhere (sure.Fits isa) (trail.past isa) (Up i p ∷ []) w.path → Replaces dock.Dock (dock.Fits isa) (dock.past isa) ports.Follows (Up i p ∷ []) (Up i (record p { owes = None }) ∷ Down i k ∷ []) w
+send_port isa i p k w e s f = record { fit = portmoves.send_fits isa i p k w e; follows = portmoves.send_walk isa i p k w e s (paths.send_walk isa i p k w.path e f) }
+
+pub send_kept : {rest out : List ℕ} (l : Plan) (s : State) (x : Machine) (i : ℕ) → bar l s (Send i) ≡ None → Sound l s rest out x → Sound l (moved l s (Send i)) rest out x
+send_kept {rest} {out} l s x i e h =
+    let r = send_ready l s i (bar_row l s (Send i) e) in
+    let p = place s.cells i r.here r.at_here in
+    let q : Passenger = record r.who { owes = None } in
+    let d : Cell = record { passenger = Some q; packet = Some r.what; met = true } in
+    let up = column_from (suc i) p.above in
+    let under = column_from 1 p.below in
+    let was : column s ≡ up ++ ((Up i r.who ∷ []) ++ under) =
+    ap (column_from 1) p.split ∙ column-at i p.below p.above r.here p.number ∙ rw (r.sits, r.free, alone r.here.met (Up i r.who ∷ [])) in
+    let is : column_from 1 (put_cell s.cells i d) ≡ up ++ ((Up i q ∷ Down i r.what ∷ []) ++ under) =
+    ap (column_from 1) (p.set d) ∙ column-at i p.below p.above d p.number in
+    rw (next-send l s i r.here r.who r.what r.at_here r.sits r.owes) (changed l s x (put_cell s.cells i d) up (Up i r.who ∷ []) (Up i q ∷ Down i r.what ∷ []) under was is (put_size s.cells i d) (λ k. record {
+      path = record { fit = paths.send_fits (isa_of l) i r.who r.what _ r.owes; follows = paths.send_walk (isa_of l) i r.who r.what _ r.owes };
+      lone = lones.send_lone l i r.who r.what _ r.owes k.stands.0;
+      stands = (send_stands l i r.who k.stands.0, tt);
+      port = send_port (isa_of l) i r.who r.what _ r.owes k.safe (rw k.same k.path_fit);
+      operations = λ n. refl;
+    }) h)

@@ -1,0 +1,23 @@
+-- The walks of the path, of the port and of what nothing may follow: what each change leaves of them.
+pub mod Path
+pub mod PathMeet
+pub mod PathFinish
+pub mod PathServe
+pub mod Lone
+pub mod Port
+pub mod PortMoves
+pub mod Stands
+pub mod Order
+pub mod Quiet
+pub mod Loose
+pub mod Program
+pub mod Bounds
+pub mod Cache
+pub mod Goes
+pub mod Fresh
+pub mod Finishing
+pub mod Launching
+pub mod Answering
+pub mod Accessing
+pub mod Returning
+pub mod Loading

@@ -1,0 +1,42 @@
+-- What nothing may follow: the walk, and each move's change.
+use Rattle.std.proofs.Common.{◌≡◌, ℕ, [], ◌∷◌, Some, None, Bool, true, false, arith, suc}
+use Rattle.cf_bind.specs.Meeting.{meeting}
+use Rattle.cf_bind.specs.declared.packet.Packet.{Packet}
+use Rattle.cf_bind.specs.declared.passenger.Passenger.{Passenger}
+use Rattle.cf_layout.specs.Layout.{Plan}
+use Rattle.cf_refinement.proofs.column.Fold.{Is_walk, Replaces}
+use Rattle.cf_refinement.proofs.walks.PathMeet.{met_items}
+use Rattle.cf_refinement.specs.Lone.{Fits, past}
+use Rattle.cf_refinement.specs.Stands.{Stands}
+use Rattle.cf_semantics.specs.Column.{Down, Item, Up}
+use Rattle.cf_semantics.specs.Options.{is_some}
+
+pub record Follows (b v : Bool) : Type 0 where
+  pub shut : v ≡ true → b ≡ true
+
+item_follows : (i : Item) (w v : Bool) → Follows w v → Fits i w → Fits i v
+unfolding Fits
+item_follows i w v f h = grind arith
+
+past_follows : (l : Plan) (i : Item) (w v : Bool) → Follows w v → Fits i w → Follows (past l i w) (past l i v)
+unfolding past
+past_follows l i w v f h = grind arith
+
+pub lone_walk : (l : Plan) → Is_walk Bool Fits (past l) Follows
+lone_walk l = record { stays = item_follows; goes_on = past_follows l }
+
+pub climb_lone : (l : Plan) (i j : ℕ) (p : Passenger) (w : Bool) → is_some p.owes ≡ false → Replaces Bool Fits (past l) Follows (Up i p ∷ []) (Up j p ∷ []) w
+unfolding Fits past
+climb_lone l i j p w e = record { fit = λ h. grind arith; follows = λ h. grind arith }
+
+pub fall_lone : (l : Plan) (i : ℕ) (k : Packet) (w : Bool) → Replaces Bool Fits (past l) Follows (Down (suc i) k ∷ []) (Down i k ∷ []) w
+unfolding Fits past
+fall_lone l i k w = record { fit = λ h. grind arith; follows = λ h. grind arith }
+
+pub send_lone : (l : Plan) (i : ℕ) (p : Passenger) (k : Packet) (w : Bool) → p.owes ≡ Some k → Stands l i p → Replaces Bool Fits (past l) Follows (Up i p ∷ []) (Up i (record p { owes = None }) ∷ Down i k ∷ []) w
+unfolding Fits past
+send_lone l i p k w e s = record { fit = λ h. grind arith; follows = λ h. grind arith }
+
+pub meet_lone : (l : Plan) (i : ℕ) (p : Passenger) (k : Packet) (w : Bool) → Stands l i p → Replaces Bool Fits (past l) Follows (Down i k ∷ Up i p ∷ []) (met_items i (meeting p k).passenger (meeting p k).packet) w
+unfolding Fits past meeting
+meet_lone l i p k w s = record { fit = λ h. grind arith; follows = λ h. grind arith }
