@@ -17,7 +17,7 @@ use Rattle.cf_stages.specs.Changes.{is_full_at, passenger_at}
 use Rattle.cf_passengers.specs.Waiting.{first_unknown}
 use Rattle.cf_core.specs.Marks.{is_free, mark_at, no_mark}
 use Rattle.cf_core.specs.Masks.{owes_at, stops_there}
-use Rattle.cf_core.specs.Riders.{has_sources, is_out, is_undone}
+use Rattle.cf_core.specs.Riders.{has_sources, is_idle, is_out, is_undone}
 
 -- the stage of a passenger is there
 pub here-by : (o : Option Cell) (p : Passenger) → on o None (λ c. c.passenger) ≡ Some p → (c : Cell) × (o ≡ Some c) × (c.passenger ≡ Some p)
@@ -147,6 +147,44 @@ mark-none plan s i e =
     let recover = none_row o (λ c. recover_bar plan s c i) (λ c none. rw none refl) e in
     λ x. record { owes = owes x; stops = stops x; execute = execute x; launch = launch x; recover = recover x }
 
+-- and of one that neither a unit nor a siding has to do with
+idle_parts : (dead done launched recovered : Bool) → (not (not dead && not done) && not (launched && not recovered)) ≡ true → ((not dead && not done) ≡ false) × ((launched && not recovered) ≡ false)
+idle_parts false false launched recovered e = absurd (cc)
+idle_parts true done true false e = absurd (cc)
+idle_parts false true true false e = absurd (cc)
+idle_parts true done false recovered e = (refl, refl)
+idle_parts false true false recovered e = (refl, refl)
+idle_parts true done true true e = (refl, refl)
+idle_parts false true true true e = (refl, refl)
+
+no_unit : (dead done unit : Bool) (rest : Option Bar) → (not dead && not done) ≡ false → false ≡ not (is_some (first dead Dead (first done AlreadyDone (first (not unit) NoUnit rest))))
+no_unit true done unit rest e = refl
+no_unit false true unit rest e = refl
+no_unit false false unit rest e = absurd (cc)
+
+no_entry : (dead done launched site full : Bool) (rest : Option Bar) → (not dead && not done) ≡ false → false ≡ not (is_some (first dead Dead (first (done || launched) AlreadyDone (first (not site) NoUnit (first full NotMet rest)))))
+no_entry true done launched site full rest e = refl
+no_entry false true launched site full rest e = refl
+no_entry false false launched site full rest e = absurd (cc)
+
+no_exit : (site launched recovered : Bool) (rest : Option Bar) → (launched && not recovered) ≡ false → false ≡ not (is_some (first (not site) NoUnit (first (not launched || recovered) AlreadyDone rest)))
+no_exit site launched recovered rest e = rw (recover_row site launched recovered rest, e) refl
+
+no_stop : (out back undone launched site : Bool) → out ≡ false → undone ≡ false → false ≡ ((out && back) || (undone && not launched && site))
+no_stop out back undone launched site e f = rw (e, f) refl
+
+pub mark-idle : (plan : Plan) (s : State) (i : ℕ) (p : Passenger) → passenger_at s.cells i ≡ Some p → is_idle p ≡ true → record no_mark { owes = is_some p.owes } ≡ mark_at plan s i
+unfolding mark_at
+mark-idle plan s i p e idle =
+    let h = here-by (cell_at s.cells i) p e in
+    let parts = idle_parts p.dead p.done p.launched p.recovered idle in
+    let owes = owes-here s i p e in
+    let stops : false ≡ stops_there plan s i = rw (h.1, h.2) (no_stop (is_out p) (recovers plan (kind p) i) (is_undone p) p.launched _ parts.1 parts.0) in
+    let execute : false ≡ is_free plan s (Execute i) = rw (h.1, h.2) (no_unit p.dead p.done (unit_at plan (kind p) i) (source_bar p None) parts.0) in
+    let launch : false ≡ is_free plan s (Launch i) = rw (h.1, h.2) (no_entry p.dead p.done p.launched (launches plan (kind p) i) (is_memory (kind p) && is_full (record h.0 { passenger = Some p })) (source_bar p (entry_bar plan s p)) parts.0) in
+    let recover : false ≡ is_free plan s (Recover i) = rw (h.1, h.2) (no_exit (recovers plan (kind p) i) p.launched p.recovered (exit_op_bar plan s p) parts.1) in
+    λ x. record { owes = (sym owes) x; stops = stops x; execute = execute x; launch = launch x; recover = recover x }
+
 pub ruleset execute_free = (execute-free)
 
 pub ruleset launch_free = (launch-free)
@@ -162,3 +200,5 @@ pub ruleset mark_none = (mark-none)
 pub ruleset owed = (owes-here)
 
 pub ruleset units = (owes-here, launch-none, recover-none)
+
+pub ruleset idle = (mark-idle)

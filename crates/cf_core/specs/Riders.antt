@@ -12,6 +12,10 @@ is_undone p = not p.dead && not p.done
 abbrev pub is_out : Passenger → Bool
 is_out p = p.launched && not p.recovered
 
+-- no unit and no siding has anything left to do with it
+abbrev pub is_idle : Passenger → Bool
+is_idle p = not (is_undone p) && not (is_out p)
+
 -- it has the values of its sources
 abbrev pub has_sources : Passenger → Bool
 has_sources p = not (is_some (first_unknown p))

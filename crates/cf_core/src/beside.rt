@@ -74,7 +74,7 @@ impl Processor {
     }
 
     /// What bars the instruction of the stage from launching its operation.
-    #[inline(always)]
+    #[inline(never)]
     pub(crate) fn launch_bar(&self, i: u32) -> Option<Bar>
         requires { IsProcessor self.now.plan self.now.state }
         ensures { result ≡ row_bar self.now.plan self.now.state (mv.Launch i) }
@@ -103,7 +103,7 @@ impl Processor {
 
     /// The instruction of the stage launches its operation. A load or a store that memory does not permit
     /// traps instead.
-    #[inline(always)]
+    #[inline(never)]
     #[tactic(auto, using(crate::proofs::Entering::entering), unfolding(cf_semantics::specs::Moves::moved))]
     pub(crate) fn launch(&mut self, i: u32)
         requires facts { IsProcessor self.old.plan self.old.state }
@@ -143,7 +143,7 @@ impl Processor {
     }
 
     /// The operation in the cell of a siding moves to the next one.
-    #[inline(always)]
+    #[inline(never)]
     #[tactic(auto, unfolding(cf_sidings::specs::Sidings::moved_on, cf_semantics::specs::Moves::moved))]
     pub(crate) fn slide(&mut self, k: u32, c: u32)
         requires { row_bar self.old.plan self.old.state (mv.Slide k c) ≡ None }
@@ -166,7 +166,7 @@ impl Processor {
     }
 
     /// The load or store at the end of Memory's siding is made and answered.
-    #[inline(always)]
+    #[inline(never)]
     #[tactic(auto, using(crate::proofs::Ported::ported), unfolding(cf_sidings::specs::Sidings::after_access, cf_sidings::specs::Sidings::mem_after_access, cf_semantics::specs::Moves::moved))]
     pub(crate) fn access(&mut self)
         requires facts { IsProcessor self.old.plan self.old.state }
@@ -195,7 +195,7 @@ impl Processor {
     }
 
     /// What bars the instruction of the stage from taking its operation out of the siding.
-    #[inline(always)]
+    #[inline(never)]
     pub(crate) fn recover_bar(&self, i: u32) -> Option<Bar>
         requires { IsProcessor self.now.plan self.now.state }
         ensures { result ≡ row_bar self.now.plan self.now.state (mv.Recover i) }
@@ -217,7 +217,7 @@ impl Processor {
     }
 
     /// The instruction of the stage takes its operation out of the siding. A live one finishes.
-    #[inline(always)]
+    #[inline(never)]
     #[tactic(auto, using(crate::proofs::Returning::returning), unfolding(cf_semantics::specs::Moves::moved))]
     pub(crate) fn recover(&mut self, i: u32)
         requires facts { IsProcessor self.old.plan self.old.state }

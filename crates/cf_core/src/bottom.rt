@@ -48,7 +48,7 @@ impl Processor {
     }
 
     /// What bars an instruction from being issued with the guess.
-    #[inline(always)]
+    #[inline(never)]
     pub(crate) fn issue_bar(&self, guess: Guess) -> Option<Bar>
         requires { IsProcessor self.now.plan self.now.state }
         ensures { result ≡ row_bar self.now.plan self.now.state (mv.Issue guess) }
@@ -101,7 +101,7 @@ impl Processor {
     }
 
     /// A new instruction enters the lowest stage, and fetch goes on by the guess.
-    #[inline(always)]
+    #[inline(never)]
     #[tactic(auto, unfolding(cf_semantics::specs::Moves::moved))]
     pub(crate) fn issue(&mut self, guess: Guess)
         requires { row_bar self.old.plan self.old.state (mv.Issue guess) ≡ None }
@@ -153,7 +153,7 @@ impl Processor {
     }
 
     /// The result of the lowest stage leaves.
-    #[inline(always)]
+    #[inline(never)]
     #[tactic(auto, unfolding(cf_semantics::specs::Moves::moved))]
     pub(crate) fn exit(&mut self)
         requires facts { IsProcessor self.old.plan self.old.state }

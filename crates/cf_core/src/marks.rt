@@ -1,11 +1,15 @@
 //! What is kept of each stage from one move to the next.
 
-ghost use Rattle.std.specs.Prelude.{◌≡◌, ◌<◌, ◌≤◌};
+ghost use Rattle.std.specs.Prelude.{◌≡◌, ◌<◌, ◌≤◌, Some, true};
+ghost use Rattle.cf_stages.specs.Changes.{passenger_at};
 ghost use Rattle.cf_core.specs.Marks.{Within, mark_at, marked, no_mark, remarked as remarked_by};
 ghost use Rattle.cf_core.specs.Processors.{IsProcessor};
+ghost use Rattle.cf_core.specs.Riders.{is_idle};
 
 use crate::processor::Processor;
+use crate::riding::is_idle;
 use crate::touching::Touched;
+use cf_bind::Passenger;
 use cf_stages::with_bit;
 
 /// What holds of one stage.
@@ -85,18 +89,34 @@ impl Marks {
 }
 
 impl Processor {
-    /// What holds of the stage.
+    /// What holds of a stage whose instruction needs no unit and has nothing in a siding.
+    #[inline(always)]
+    #[tactic(auto, using(crate::proofs::Rides::idle, crate::proofs::Rides::owed))]
+    fn mark_idle(&self, passenger: &Passenger, i: u32) -> Mark
+        requires here { passenger_at self.now.state.cells i ≡ Some passenger.now }
+        requires idle { is_idle passenger.now ≡ true }
+        ensures { result ≡ mark_at self.now.plan self.now.state i }
+    {
+        Mark {
+            owes: passenger.owes.is_some(),
+            ..Mark::of_none()
+        }
+    }
+
+    /// The words with what holds of the stage now.
     #[inline(always)]
     #[tactic(auto, using(crate::proofs::Rides::mark_none))]
-    pub(crate) fn mark(&self, i: u32) -> Mark
+    fn with_stage(&self, marks: Marks, i: u32) -> Marks
         requires above { 0 < i }
         requires within { i ≤ self.now.plan.stages }
         requires facts { IsProcessor self.now.plan self.now.state }
-        ensures { result ≡ mark_at self.now.plan self.now.state i }
+        ensures { result ≡ marked marks i (mark_at self.now.plan self.now.state i) }
     {
+        let _stages = self.layout.stages();
         match self.stages.passenger(i) {
-            Some(passenger) => self.mark_of(passenger, i),
-            None => Mark::of_none(),
+            Some(passenger) if is_idle(passenger) => marks.with(i, self.mark_idle(passenger, i)),
+            Some(passenger) => marks.with(i, self.mark_of(passenger, i)),
+            None => marks.with(i, Mark::of_none()),
         }
     }
 
@@ -108,12 +128,11 @@ impl Processor {
         requires facts { IsProcessor self.now.plan self.now.state }
         ensures { result ≡ remarked_by self.now.plan self.now.state marks touched }
     {
-        let _stages = self.layout.stages();
-        let marks = marks.with(touched.low, self.mark(touched.low));
+        let marks = self.with_stage(marks, touched.low);
         if touched.low == touched.high {
             marks
         } else {
-            marks.with(touched.high, self.mark(touched.high))
+            self.with_stage(marks, touched.high)
         }
     }
 }

@@ -58,6 +58,7 @@ impl Processor {
     }
 
     /// Makes an allowed move, which is not Serve, and tells what is seen of it.
+    // The moves that are rare are calls, so that the others become a part of the loop of a run.
     #[inline(always)]
     fn make_inside(&mut self, m: Move) -> Event
         requires facts { IsProcessor self.old.plan self.old.state }

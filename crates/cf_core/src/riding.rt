@@ -11,7 +11,7 @@ ghost use Rattle.cf_stages.specs.Changes.{is_full_at, passenger_at};
 ghost use Rattle.cf_core.specs.Marks.{is_free, mark_at};
 ghost use Rattle.cf_core.specs.Masks.{stops_there};
 ghost use Rattle.cf_core.specs.Processors.{IsProcessor};
-ghost use Rattle.cf_core.specs.Riders.{has_sources as knows_sources, is_out as is_beside, is_undone as is_not_done};
+ghost use Rattle.cf_core.specs.Riders.{has_sources as knows_sources, is_idle as idles, is_out as is_beside, is_undone as is_not_done};
 
 use crate::beside::is_memory;
 use crate::marks::Mark;
@@ -34,6 +34,14 @@ pub(crate) fn is_out(passenger: &Passenger) -> bool
     ensures { result ≡ is_beside passenger.now }
 {
     passenger.launched && !passenger.recovered
+}
+
+/// Whether it has been executed or is dead, and has nothing in a siding: no unit waits for it, and no siding.
+#[inline(always)]
+pub(crate) fn is_idle(passenger: &Passenger) -> bool
+    ensures { result ≡ idles passenger.now }
+{
+    !is_undone(passenger) && !is_out(passenger)
 }
 
 /// Whether it has the values of its sources.
@@ -193,7 +201,7 @@ impl Processor {
     }
 
     /// What holds of the stage, in which this instruction stands.
-    #[inline(always)]
+    #[inline(never)]
     pub(crate) fn mark_of(&self, passenger: &Passenger, i: u32) -> Mark
         requires above { 0 < i }
         requires within { i ≤ self.now.plan.stages }

@@ -31,7 +31,7 @@ pub(crate) fn is_serial(class: Class) -> bool
 
 impl Processor {
     /// What bars the instruction in the highest stage from asking the environment.
-    #[inline(always)]
+    #[inline(never)]
     pub(crate) fn serve_bar(&self) -> Option<Bar>
         requires { IsProcessor self.now.plan self.now.state }
         ensures { result ≡ row_bar self.now.plan self.now.state mv.Serve }
@@ -49,7 +49,7 @@ impl Processor {
     }
 
     /// The environment answers the instruction in the highest stage, ends the program by it, or fails.
-    #[inline(always)]
+    #[inline(never)]
     #[tactic(auto, using(crate::proofs::Served::serving))]
     pub(crate) fn serve<S: Source, K: Sink>(
         &mut self,

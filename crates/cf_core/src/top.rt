@@ -98,7 +98,7 @@ impl Processor {
     }
 
     /// The instruction of the highest stage leaves, and what is seen of it from outside.
-    #[inline(always)]
+    #[inline(never)]
     #[tactic(auto, unfolding(cf_semantics::specs::Moves::moved))]
     pub(crate) fn leave(&mut self) -> Event
         requires facts { IsProcessor self.old.plan self.old.state }

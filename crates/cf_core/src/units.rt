@@ -43,7 +43,7 @@ impl Processor {
     }
 
     /// A unit of the stage executes its instruction.
-    #[inline(always)]
+    #[inline(never)]
     #[tactic(auto, using(cf_passengers::proofs::Computing::computing), unfolding(cf_semantics::specs::Moves::moved))]
     pub(crate) fn execute(&mut self, i: u32)
         requires facts { IsProcessor self.old.plan self.old.state }
@@ -75,7 +75,7 @@ impl Processor {
     }
 
     /// The instruction of the stage sends what it owes.
-    #[inline(always)]
+    #[inline(never)]
     #[tactic(auto, using(crate::proofs::Sending::sending), unfolding(cf_semantics::specs::Moves::moved))]
     pub(crate) fn send(&mut self, i: u32)
         requires { row_bar self.old.plan self.old.state (mv.Send i) ≡ None }

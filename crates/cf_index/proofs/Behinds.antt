@@ -1,6 +1,6 @@
 -- The first move of a list that stands behind another.
 use Rattle.std.proofs.Common.{◌≡◌, ◌≢◌, ◌∙◌, sym, refl, ap, ℕ, zero, suc, ◌+◌, ◌^◌, ◌<◌, ◌≤◌, List, [], ◌∷◌, ◌++◌, length, map, Bool, true, false, cond, nat_lt, Option, Some, None, arith}
-use Rattle.std.specs.Prelude.{◌&&◌, filter, find, not, slice_get, IfSome}
+use Rattle.std.specs.Prelude.{◌&&◌, filter, find, not, slice_get}
 use Rattle.std.specs.List.{position_or_len}
 use Rattle.std.specs.Int.{trailing_zeros}
 use Rattle.std.proofs.lemmas.Bool.Decides.{nat_tests}
@@ -181,7 +181,7 @@ found_second p [] ys e = refl
 found_second p (x ∷ xs) ys e = second_choice (p x) x (find p xs) (find p (xs ++ ys)) (find p ys) (λ f. found_second p xs ys f) e
 
 -- the allowed moves that do not enter
-others_allowed : Plan → State → List Move
+abbrev pub others_allowed : Plan → State → List Move
 others_allowed plan s = filter (is_allowed plan s) (all_passing plan) ++ (filter (is_allowed plan s) (slides_from 0 plan.sidings) ++ filter (is_allowed plan s) (all_leaving plan))
 
 -- nothing that enters stands behind Emit or a move of a later kind
@@ -192,15 +192,14 @@ step_none p false x xs off rest = rest
 not_emit : (last : Move) → 1 ≤ kind_place last → stands_behind last Emit ≡ false
 not_emit last behind = grind (arith, nat_tests)
 
-entering_none : (last : Move) (q : Move → Bool) → 1 ≤ kind_place last → find (stands_behind last) (filter q all_entering) ≡ None
+pub entering_none : (last : Move) (q : Move → Bool) → 1 ≤ kind_place last → find (stands_behind last) (filter q all_entering) ≡ None
 entering_none last q behind =
     step_none (stands_behind last) (q (Issue Next)) (Issue Next) _ (earlier last (Issue Next) (omega arith)) (
     step_none (stands_behind last) (q (Issue Taken)) (Issue Taken) _ (earlier last (Issue Taken) (omega arith)) (
     step_none (stands_behind last) (q (Issue Wait)) (Issue Wait) _ (earlier last (Issue Wait) (omega arith)) (
     step_none (stands_behind last) (q Emit) Emit [] (not_emit last behind) refl)))
 
-found_candidate : (plan : Plan) (s : State) (last m : Move) → 1 ≤ kind_place last → find (stands_behind last) (others_allowed plan s) ≡ Some m → find (stands_behind last) (candidates plan s) ≡ Some m
-unfolding others_allowed
+pub found_candidate : (plan : Plan) (s : State) (last m : Move) → 1 ≤ kind_place last → find (stands_behind last) (others_allowed plan s) ≡ Some m → find (stands_behind last) (candidates plan s) ≡ Some m
 found_candidate plan s last m behind found =
     let q = is_allowed plan s in
     let parts = all_chosen plan s (filter q all_entering) (filter q (all_passing plan)) (filter q (slides_from 0 plan.sidings)) (filter q (all_leaving plan)) refl refl refl refl in
@@ -222,7 +221,7 @@ found_other p (x ∷ xs) m other e = others_choice p x xs (other_moves xs) m (p 
 found_there : (p : Move → Bool) (xs : List Move) (m : Move) → find p xs ≡ Some m → position_or_len p xs < length xs
 found_there p xs m e = slice_get_within xs (position_or_len p xs) m (sym (find_at p xs) ∙ e)
 
-found_held : (p : Move → Bool) (xs : List Move) (m : Move) → ((mv : Move) → p mv ≡ true → is_issue mv ≡ false) → find p xs ≡ Some m → find p (held_back xs) ≡ Some m
+pub found_held : (p : Move → Bool) (xs : List Move) (m : Move) → ((mv : Move) → p mv ≡ true → is_issue mv ≡ false) → find p xs ≡ Some m → find p (held_back xs) ≡ Some m
 unfolding held_back
 found_held p xs m other e =
     let f = found_other p xs m other e in
@@ -231,7 +230,7 @@ found_held p xs m other e =
     rw some f
 
 -- the first that is found stands at the place of the first behind
-found_behind : (last : Move) (xs : List Move) (m : Move) → find (stands_behind last) xs ≡ Some m → Some m ≡ slice_get xs (first_behind (Some last) xs)
+pub found_behind : (last : Move) (xs : List Move) (m : Move) → find (stands_behind last) xs ≡ Some m → Some m ≡ slice_get xs (first_behind (Some last) xs)
 unfolding first_behind
 found_behind last xs m e =
     let p = stands_behind last in
@@ -240,22 +239,9 @@ found_behind last xs m e =
     let t : nat_lt (position_or_len p xs) (length xs) ≡ true = grind (arith, nat_tests) in
     rw t (sym at)
 
-no_issue : (last mv : Move) → 1 ≤ kind_place last → stands_behind last mv ≡ true → is_issue mv ≡ false
+pub no_issue : (last mv : Move) → 1 ≤ kind_place last → stands_behind last mv ≡ true → is_issue mv ≡ false
 no_issue last (Issue g) behind e = let off = earlier last (Issue g) (omega arith) in absurd (cc)
 no_issue last mv behind e = refl
-
-pub soon_free : (plan : Plan) (s : State) (last : Move) (r : Option Move) → 1 ≤ kind_place last → r ≡ find (stands_behind last) (filter (is_allowed plan s) (all_passing plan) ++ (filter (is_allowed plan s) (slides_from 0 plan.sidings) ++ filter (is_allowed plan s) (all_leaving plan))) →
-    IfSome r (λ next. Some next ≡ slice_get (candidates plan s) (first_behind (Some last) (candidates plan s)))
-unfolding others_allowed
-soon_free plan s last None behind e = tt
-soon_free plan s last (Some m) behind e = found_behind last (candidates plan s) m (found_candidate plan s last m behind (sym e))
-
-pub soon_held : (plan : Plan) (s : State) (last : Move) (r : Option Move) → 1 ≤ kind_place last → r ≡ find (stands_behind last) (filter (is_allowed plan s) (all_passing plan) ++ (filter (is_allowed plan s) (slides_from 0 plan.sidings) ++ filter (is_allowed plan s) (all_leaving plan))) →
-    IfSome r (λ next. Some next ≡ slice_get (held_back (candidates plan s)) (first_behind (Some last) (held_back (candidates plan s))))
-unfolding others_allowed
-soon_held plan s last None behind e = tt
-soon_held plan s last (Some m) behind e =
-    found_behind last (held_back (candidates plan s)) m (found_held (stands_behind last) (candidates plan s) m (λ mv f. no_issue last mv behind f) (found_candidate plan s last m behind (sym e)))
 
 pub no_issue_first : (last : Move) → ((g : Guess) → last ≡ Issue g → ⊥) → 1 ≤ kind_place last
 no_issue_first (Issue g) other = absurd (other g refl)

@@ -32,7 +32,7 @@ others_flag true mv none = rw none refl
 others_flag false mv none = refl
 
 -- nor are those of two parts
-others_parts : (xs ys : List Move) → other_moves xs ≡ xs → other_moves ys ≡ ys → other_moves (xs ++ ys) ≡ xs ++ ys
+pub others_parts : (xs ys : List Move) → other_moves xs ≡ xs → other_moves ys ≡ ys → other_moves (xs ++ ys) ≡ xs ++ ys
 others_parts xs ys p q = filter-append (λ mv. not (is_issue mv)) xs ys ∙ rw (p, q) refl
 
 pub others_passing : (p : Passing) → other_moves (passing_moves p) ≡ passing_moves p

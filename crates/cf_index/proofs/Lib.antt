@@ -18,3 +18,4 @@ pub mod Behinds
 pub mod There
 pub mod Independence
 pub mod Leavings
+pub mod Firsts

@@ -1,10 +1,9 @@
 -- A move that can be made uses stages and cells of sidings that the layout has.
-use Rattle.std.proofs.Common.{◌≡◌, ℕ, zero, suc, ◌+◌, ◌-◌, ◌<◌, ◌≤◌, Bool, true, false, List, [], ◌∷◌, length, map, Option, Some, None, refl, sym, ap, subst, ◌∙◌, arith, add-one}
+use Rattle.std.proofs.Common.{◌≡◌, ℕ, zero, suc, ◌+◌, ◌-◌, ◌<◌, ◌≤◌, Bool, true, false, List, [], ◌∷◌, length, map, Option, Some, None, refl, arith}
 use Rattle.std.specs.Prelude.{slice_get, unwrap_or, filter, ◌==◌, not, if◌then◌else◌}
 use Rattle.std.specs.List.{AllByRecursion}
-use Rattle.std.proofs.lemmas.Bool.Decides.{nat_tests}
 use Rattle.std.proofs.lemmas.Option.{slice_get_within}
-use Rattle.cf_layout.specs.Accepted.{IsAccepted, IsSiding}
+use Rattle.cf_layout.specs.Accepted.{IsAccepted}
 use Rattle.cf_layout.specs.Layout.{Plan, SidingPlan, no_siding, launch_stage, recover_stage, cells_of}
 use Rattle.cf_bind.specs.declared.cell.Cell.{Cell}
 use Rattle.cf_bind.specs.declared.cell.Op.{Op}
@@ -16,10 +15,10 @@ use Rattle.cf_semantics.specs.Bars.{bar, row_bar, last_op, access_bar, slide_bar
 use Rattle.cf_semantics.specs.Candidates.{counted_from}
 use Rattle.cf_semantics.specs.Layouts.{port}
 use Rattle.cf_semantics.specs.Options.{on, is_some}
-use Rattle.cf_semantics.specs.Sites.{Site, SidingCell}
+use Rattle.cf_semantics.specs.Sites.{Site}
 use Rattle.cf_semantics.specs.State.{State, cell_at, siding_at}
-use Rattle.cf_refinement.proofs.Kept.{bar_row}
-use Rattle.cf_index.specs.Sites.{AreThere, IsPlace, sidings_where, way_in, way_out, ways_in, ways_out}
+use Rattle.cf_refinement.proofs.moves.Rows.{bar_row}
+use Rattle.cf_index.specs.Sites.{AreThere, IsPlace, way_in, way_out, ways_in, ways_out}
 use Rattle.cf_index.proofs.SiteWords.{siding_within}
 use Rattle.cf_core.specs.Processors.{IsProcessor}
 use Rattle.cf_index.specs.Alone.{HasSidings}

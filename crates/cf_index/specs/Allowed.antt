@@ -1,5 +1,5 @@
 -- Which moves are allowed, by the parts of the list of all moves.
-use Rattle.std.specs.Prelude.{◌≡◌, ℕ, ◌+◌, List, [], ◌∷◌, ◌++◌, Bool, ◌&&◌, not, nat_lt}
+use Rattle.std.specs.Prelude.{◌≡◌, ℕ, ◌+◌, List, [], ◌∷◌, ◌++◌, Bool, ◌&&◌, not, nat_lt, filter, if◌then◌else◌}
 use Rattle.cf_layout.specs.Layout.{Plan}
 use Rattle.cf_layout.specs.Words.{has_bit}
 use Rattle.cf_bind.specs.declared.passenger.Guess.TheVariants as guess
@@ -8,7 +8,7 @@ use Rattle.cf_bind.specs.declared.moves.Move.TheVariants.{Issue, Emit, Climb, Fa
 use Rattle.cf_semantics.specs.Options.{is_some}
 use Rattle.cf_semantics.specs.State.{State}
 use Rattle.cf_semantics.specs.Bars.{bar}
-use Rattle.cf_semantics.specs.Candidates.{at_stages}
+use Rattle.cf_semantics.specs.Candidates.{at_stages, held_back, slides_from}
 
 -- nothing bars the move
 abbrev pub is_allowed : Plan → State → Move → Bool
@@ -29,3 +29,11 @@ all_passing plan =
 
 abbrev pub all_leaving : Plan → List Move
 all_leaving plan = Access ∷ (at_stages plan Recover ++ Leave ∷ Exit ∷ Serve ∷ [])
+
+-- the allowed moves but for each Issue
+abbrev pub allowed_others : Plan → State → List Move
+allowed_others plan s = filter (is_allowed plan s) (Emit ∷ []) ++ (filter (is_allowed plan s) (all_passing plan) ++ (filter (is_allowed plan s) (slides_from 0 plan.sidings) ++ filter (is_allowed plan s) (all_leaving plan)))
+
+-- the moves with each Issue held back, or all of them
+abbrev pub withheld : Bool → List Move → List Move
+withheld held moves = if held then held_back moves else moves

@@ -1,10 +1,11 @@
-//! The first candidate behind a move, where one stands behind it and does not enter.
+//! The first candidate behind a move, found without a look at all of them.
 
-ghost use Rattle.std.specs.Prelude.{◌≡◌, ◌≢◌, ◌++◌, IfSome, Some, filter, find, slice_get};
+ghost use Rattle.std.specs.Prelude.{◌≡◌, ◌≢◌, ◌++◌, false, IfSome, Some, filter, find, slice_get};
 ghost use Rattle.cf_bind.specs.declared.moves.Move.TheVariants as mv;
-ghost use Rattle.cf_semantics.specs.Candidates.{candidates, held_back, slides_from};
+ghost use Rattle.cf_semantics.specs.Candidates.{candidates, slides_from};
 ghost use Rattle.cf_core.specs.Masks.{masks_of};
-ghost use Rattle.cf_index.specs.Allowed.{all_leaving, all_passing, is_allowed};
+ghost use Rattle.cf_semantics.specs.Weight.{is_issue};
+ghost use Rattle.cf_index.specs.Allowed.{all_leaving, all_passing, allowed_others, is_allowed, withheld};
 ghost use Rattle.cf_index.specs.Listed.{at_word, flagged, leaving_moves, passing_moves, slides_of};
 ghost use Rattle.cf_index.specs.Order.{first_behind, kind_place, stands_behind};
 
@@ -14,7 +15,7 @@ use crate::fill::{leaving, passing, slides};
 use crate::leaving::Leaving;
 use crate::passing::Passing;
 use crate::words::past;
-use cf_bind::Move;
+use cf_bind::{Guess, Move};
 use cf_core::{Core, Masks};
 
 impl Passing {
@@ -88,6 +89,15 @@ impl Passing {
             Some(k) => Some(Move::Climb(k + 1)),
             None => self.first_fall(self.fall),
         }
+    }
+
+    /// The first of them.
+    #[inline(never)]
+    #[tactic(auto, unfolding(crate::specs::Listed::passing_moves))]
+    fn first(&self) -> Option<Move>
+        ensures { result ≡ slice_get (passing_moves self.now) 0 }
+    {
+        self.first_climb(self.climb)
     }
 
     /// The first of them that stands behind the move in the order of all moves.
@@ -258,18 +268,71 @@ fn onward(core: &Core, last: Move) -> Option<Move>
     }
 }
 
+/// The first move that is no Issue.
+#[inline(always)]
+#[tactic(auto, using(crate::proofs::Firsts::first_parts))]
+fn first_other(core: &Core) -> Option<Move>
+    ensures { result ≡ slice_get (allowed_others core.now.plan core.now.state) 0 }
+{
+    if core.may_emit() {
+        return Some(Move::Emit);
+    }
+    let masks = core.masks();
+    if let Some(next) = passing(core, &masks).first() {
+        return Some(next);
+    }
+    match first_slide(slides(core)) {
+        Some(next) => Some(next),
+        None => leaving(core, &masks).first(),
+    }
+}
+
+/// The first candidate, where Issue is held back or is not.
+#[inline(always)]
+#[tactic(auto, using(crate::proofs::Firsts::firsts))]
+fn first(core: &Core, held: bool) -> Option<Move>
+    ensures { IfSome result (λ next. Some next ≡ slice_get (withheld held (candidates core.now.plan core.now.state)) 0) }
+{
+    if held {
+        return first_other(core);
+    }
+    let issuable = core.issuable();
+    if issuable.next {
+        Some(Move::Issue(Guess::Next))
+    } else if issuable.taken || issuable.wait {
+        None
+    } else {
+        first_other(core)
+    }
+}
+
+/// The first candidate, where it is no Issue.
+#[inline(always)]
+fn first_unissued(core: &Core, held: bool) -> Option<Move>
+    ensures first { IfSome result (λ next. Some next ≡ slice_get (withheld held (candidates core.now.plan core.now.state)) 0) }
+    ensures other { IfSome result (λ next. is_issue next ≡ false) }
+{
+    match first(core, held) {
+        Some(Move::Issue(_)) => None,
+        next => next,
+    }
+}
+
 impl Candidates {
-    /// The first candidate of a processor behind the move, where one stands there, but behind Issue and Slide: the same
-    /// whether Issue is held back or not. What enters is not looked at, and what leaves only where the pipes have none.
+    /// The first candidate of a processor behind the move, or the first of all where none stands there, with Issue held back or
+    /// not. It is not told behind Slide, nor where it takes a look at all candidates: where an Issue may stand behind another.
     #[inline(always)]
-    pub fn soon(core: &Core, last: Move) -> Option<Move>
-        ensures free { IfSome result (λ next. Some next ≡ slice_get (candidates core.now.plan core.now.state) (first_behind (Some last) (candidates core.now.plan core.now.state))) }
-        ensures held { IfSome result (λ next. Some next ≡ slice_get (held_back (candidates core.now.plan core.now.state)) (first_behind (Some last) (held_back (candidates core.now.plan core.now.state)))) }
+    pub fn soon(core: &Core, last: Move, held: bool) -> Option<Move>
+        ensures { IfSome result (λ next. Some next ≡ slice_get (withheld held (candidates core.now.plan core.now.state))
+            (first_behind (Some last) (withheld held (candidates core.now.plan core.now.state)))) }
     {
         match last {
-            Move::Issue(_) => None,
+            Move::Issue(_) => first_unissued(core, held),
             Move::Slide(_, _) => None,
-            _ => onward(core, last),
+            _ => match onward(core, last) {
+                Some(next) => Some(next),
+                None => first(core, held),
+            },
         }
     }
 }

@@ -50,7 +50,7 @@ impl Policy for Round {
     #[inline(always)]
     fn choose(&mut self, core: &Core, candidates: &mut Candidates, pace: &Pace) -> Move {
         if let Some(last) = self.last {
-            if let Some(next) = Candidates::soon(core, last) {
+            if let Some(next) = Candidates::soon(core, last, pace.held()) {
                 self.last = Some(next);
                 return next;
             }

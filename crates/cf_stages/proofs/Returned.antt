@@ -1,6 +1,6 @@
 -- What stood in a stage is put back, the instruction first.
-use Rattle.std.proofs.Common.{◌≡◌, ◌∙◌, ℕ, zero, suc, ◌<◌, ◌≤◌, List, [], ◌∷◌, Option, Some, None, Bool, true, false, IsTrue, length, refl, sym, ap, arith}
-use Rattle.std.specs.Prelude.{IsSome, ◌&&◌, slice_get, slice_set}
+use Rattle.std.proofs.Common.{◌≡◌, ◌∙◌, ℕ, zero, suc, ◌<◌, ◌≤◌, List, [], ◌∷◌, Option, Some, None, IsTrue, length, refl, arith}
+use Rattle.std.specs.Prelude.{IsSome, ◌&&◌}
 use Rattle.std.proofs.lemmas.List.{set-set}
 use Rattle.cf_bind.specs.declared.cell.Cell.{Cell}
 use Rattle.cf_bind.specs.declared.packet.Packet.{Packet}

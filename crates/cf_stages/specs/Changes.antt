@@ -6,7 +6,8 @@ use Rattle.cf_bind.specs.declared.passenger.Passenger.{Passenger}
 use Rattle.cf_semantics.specs.Options.{on, is_some}
 use Rattle.cf_semantics.specs.State.{cell_at, put_cell}
 use Rattle.cf_semantics.specs.Bars.{is_full}
-use Rattle.cf_semantics.specs.Moves.{without_passenger, without_packet, cell_met}
+use Rattle.cf_bind.specs.Meeting.{meeting}
+use Rattle.cf_semantics.specs.Moves.{with_passenger, without_passenger, without_packet, cell_met}
 
 -- a stage in which nothing stands
 abbrev pub empty_cell : Cell
@@ -71,6 +72,10 @@ fallen cells i =
     on (cell_at cells i) cells (λ c.
     on (cell_at cells (i - 1)) cells (λ d.
     put_cell (put_cell cells i (without_packet c)) (i - 1) (with_new_packet c.packet d)))
+
+-- a stage after its instruction has met a result, which is still as it was
+abbrev pub rider_met : Packet → Cell → Cell
+rider_met k c = on c.passenger c (λ p. with_passenger c (meeting p k).passenger)
 
 -- a stage after its instruction and its result have met
 abbrev pub met_in : Cell → Cell

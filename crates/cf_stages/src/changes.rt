@@ -3,13 +3,31 @@
 ghost use Rattle.std.specs.Prelude.{◌≡◌, ◌<◌, ◌≤◌, IsTrue, IsSome, IsNone, None, Some, false, length};
 ghost use Rattle.cf_bind.specs.Meeting.{meeting};
 ghost use Rattle.cf_semantics.specs.Moves.{without_passenger, without_packet, with_passenger};
-ghost use Rattle.cf_stages.specs.Changes.{changed, is_full_at, met_in, packet_at, passenger_at, with_new_passenger, with_packet};
+ghost use Rattle.cf_semantics.specs.Options.{on};
+ghost use Rattle.cf_stages.specs.Changes.{changed, is_full_at, met_in, packet_at, passenger_at, rider_met, with_new_passenger, with_packet};
 
 use crate::stages::Stages;
 use crate::words::is_there;
 use cf_bind::{Packet, Passenger, meet};
 
 impl Stages {
+    /// Lets the instruction of the stage meet the result, where it stands, and gives what is left of the result.
+    #[inline(always)]
+    #[tactic(auto, using(crate::proofs::Kept::counting, crate::proofs::Kept::reading))]
+    fn meet_passenger(&mut self, i: u32, packet: Packet) -> Option<Packet>
+        requires above { 0 < i }
+        requires within { i ≤ length self.old }
+        requires there { IsSome (passenger_at self.old i) }
+        ensures stages { self.new ≡ changed self.old i (rider_met packet) }
+        ensures left { result ≡ on (passenger_at self.old i) None (λ p. (meeting p packet).packet) }
+        ensures count { length self.new ≡ length self.old }
+    {
+        match &mut self.passengers[i as usize - 1] {
+            Some(passenger) => meet(passenger, packet),
+            None => unreachable!(),
+        }
+    }
+
     /// Lets the instruction and the result of the stage meet. Afterwards they have met, or the result was killed and only
     /// the instruction is left.
     #[inline(always)]
@@ -18,9 +36,8 @@ impl Stages {
         ensures stages { self.new ≡ changed self.old i met_in }
         ensures count { length self.new ≡ length self.old }
     {
-        if let (Some(mut passenger), Some(packet)) = (*self.passenger(i), self.packet(i)) {
-            let left = meet(&mut passenger, packet);
-            self.renew_passenger(i, passenger);
+        if let Some(packet) = self.packet(i) {
+            let left = self.meet_passenger(i, packet);
             self.place_packet(i, left, is_there(&left));
         }
     }

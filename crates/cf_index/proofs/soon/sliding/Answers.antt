@@ -1,4 +1,4 @@
-use Rattle.std.proofs.Common.{◌≢◌, ◌<◌, ◌∙◌, ap, arith}
+use Rattle.std.proofs.Common.{◌<◌, ◌∙◌, ap, arith}
 use Rattle.std.specs.Prelude.{find}
 use Rattle.cf_index.specs.Order.{kind_place, stands_behind}
 use Rattle.cf_index.proofs.Leavings.{late_sliding, slides_behind}

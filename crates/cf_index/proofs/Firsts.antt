@@ -1,0 +1,214 @@
+-- The first of the candidates, with each Issue held back or not.
+use Rattle.std.proofs.Common.{◌≡◌, ◌∙◌, sym, refl, ap, ℕ, zero, suc, ◌<◌, ◌≤◌, List, [], ◌∷◌, ◌++◌, length, map, Bool, true, false, cond, nat_lt, Option, Some, None, arith}
+use Rattle.std.specs.Prelude.{◌-◌, filter, find, not, slice_get, IfSome}
+use Rattle.std.specs.List.{position_or_len}
+use Rattle.std.proofs.lemmas.Bool.Decides.{nat_tests}
+use Rattle.std.proofs.lemmas.List.Elements.{filter-append}
+use Rattle.std.proofs.lemmas.List.Folds.{find_at}
+use Rattle.std.proofs.lemmas.Option.{slice_get_within}
+use Rattle.cf_layout.specs.Layout.{Plan, SidingPlan}
+use Rattle.cf_bind.specs.declared.moves.Move.{Move}
+use Rattle.cf_bind.specs.declared.moves.Move.TheVariants.{Issue, Emit, Climb, Fall, Meet, Execute, Send, Launch, Slide, Access, Recover, Leave, Exit, Serve}
+use Rattle.cf_bind.specs.declared.passenger.Guess.{Guess}
+use Rattle.cf_bind.specs.declared.passenger.Guess.TheVariants.{Next, Taken, Wait}
+use Rattle.cf_semantics.specs.Candidates.{candidates, counted_from, held_back, other_moves, slides_from}
+use Rattle.cf_semantics.specs.State.{State}
+use Rattle.cf_semantics.specs.Weight.{is_issue}
+use Rattle.cf_index.specs.Allowed.{all_entering, all_leaving, all_passing, allowed_others, is_allowed, withheld}
+use Rattle.cf_index.specs.Order.{first_behind, kind_place, stands_behind}
+use Rattle.cf_index.proofs.Behinds.{found_behind, found_candidate, found_held, found_second, entering_none, no_issue}
+use Rattle.cf_index.proofs.Filled.{all_chosen}
+use Rattle.cf_index.proofs.Held.{others_parts}
+use Rattle.cf_index.proofs.Passed.{later}
+
+-- the first of a list in parts
+pub found_part : (xs ys : List Move) (o : Option Move) (m : Move) → o ≡ slice_get xs 0 → o ≡ Some m → Some m ≡ slice_get (xs ++ ys) 0
+found_part [] ys o m e f = absurd (cc)
+found_part (x ∷ xs) ys o m e f = sym f ∙ e
+
+pub next_part : (xs ys : List Move) (o r : Option Move) → o ≡ slice_get xs 0 → o ≡ None → r ≡ slice_get ys 0 → r ≡ slice_get (xs ++ ys) 0
+next_part [] ys o r e f g = g
+next_part (x ∷ xs) ys o r e f g = absurd (cc)
+
+-- the first that is no Issue
+pub emit_first : (plan : Plan) (s : State) → is_allowed plan s Emit ≡ true → Some Emit ≡ slice_get (allowed_others plan s) 0
+emit_first plan s e = rw e refl
+
+pub emit_barred : (plan : Plan) (s : State) (o : Option Move) → is_allowed plan s Emit ≡ false → o ≡ slice_get (filter (is_allowed plan s) (all_passing plan) ++ (filter (is_allowed plan s) (slides_from 0 plan.sidings) ++ filter (is_allowed plan s) (all_leaving plan))) 0 → o ≡ slice_get (allowed_others plan s) 0
+emit_barred plan s o e first = rw e first
+
+-- no Issue is among the others
+chosen_step : (b : Bool) (x : Move) (xs : List Move) → is_issue x ≡ false → other_moves xs ≡ xs → other_moves (cond b (x ∷ xs) xs) ≡ cond b (x ∷ xs) xs
+chosen_step true x xs e rest = rw (e, rest) refl
+chosen_step false x xs e rest = rest
+
+chosen_map : (q : Move → Bool) (f : ℕ → Move) (ks : List ℕ) → ((k : ℕ) → is_issue (f k) ≡ false) → other_moves (filter q (map f ks)) ≡ filter q (map f ks)
+chosen_map q f [] none = refl
+chosen_map q f (k ∷ ks) none = chosen_step (q (f k)) (f k) (filter q (map f ks)) (none k) (chosen_map q f ks none)
+
+chosen_parts : (q : Move → Bool) (xs ys : List Move) → other_moves (filter q xs) ≡ filter q xs → other_moves (filter q ys) ≡ filter q ys → other_moves (filter q (xs ++ ys)) ≡ filter q (xs ++ ys)
+chosen_parts q xs ys e f = rw (filter-append q xs ys) (others_parts (filter q xs) (filter q ys) e f)
+
+chosen_slides : (q : Move → Bool) (k : ℕ) (sidings : List SidingPlan) → other_moves (filter q (slides_from k sidings)) ≡ filter q (slides_from k sidings)
+chosen_slides q k [] = refl
+chosen_slides q k (siding ∷ sidings) = chosen_parts q (map (Slide k) (counted_from 0 (siding.cells - 1))) (slides_from (suc k) sidings) (chosen_map q (Slide k) (counted_from 0 (siding.cells - 1)) (λ c. refl)) (chosen_slides q (suc k) sidings)
+
+chosen_passing : (q : Move → Bool) (plan : Plan) → other_moves (filter q (all_passing plan)) ≡ filter q (all_passing plan)
+chosen_passing q plan =
+    let stages = counted_from 1 plan.stages in
+    chosen_parts q _ _ (chosen_map q Climb stages (λ k. refl)) (
+    chosen_parts q _ _ (chosen_map q Fall stages (λ k. refl)) (
+    chosen_parts q _ _ (chosen_map q Meet stages (λ k. refl)) (
+    chosen_parts q _ _ (chosen_map q Execute stages (λ k. refl)) (
+    chosen_parts q _ _ (chosen_map q Send stages (λ k. refl)) (chosen_map q Launch stages (λ k. refl))))))
+
+chosen_leaving : (q : Move → Bool) (plan : Plan) → other_moves (filter q (all_leaving plan)) ≡ filter q (all_leaving plan)
+chosen_leaving q plan =
+    chosen_step (q Access) Access _ refl (
+    chosen_parts q _ (Leave ∷ Exit ∷ Serve ∷ []) (chosen_map q Recover (counted_from 1 plan.stages) (λ k. refl)) (
+    chosen_step (q Leave) Leave _ refl (chosen_step (q Exit) Exit _ refl (chosen_step (q Serve) Serve [] refl refl))))
+
+-- so the others are the candidates but for each Issue
+rest_of : Plan → State → List Move
+rest_of plan s = filter (is_allowed plan s) (all_passing plan) ++ (filter (is_allowed plan s) (slides_from 0 plan.sidings) ++ filter (is_allowed plan s) (all_leaving plan))
+
+rest_others : (plan : Plan) (s : State) → other_moves (rest_of plan s) ≡ rest_of plan s
+unfolding rest_of
+rest_others plan s =
+    let q = is_allowed plan s in
+    others_parts _ _ (chosen_passing q plan) (others_parts _ _ (chosen_slides q 0 plan.sidings) (chosen_leaving q plan))
+
+entering_others : (n t w e : Bool) (rest : List Move) → other_moves rest ≡ rest →
+    other_moves (cond n (Issue Next ∷ cond t (Issue Taken ∷ cond w (Issue Wait ∷ cond e (Emit ∷ []) []) (cond e (Emit ∷ []) [])) (cond w (Issue Wait ∷ cond e (Emit ∷ []) []) (cond e (Emit ∷ []) []))) (cond t (Issue Taken ∷ cond w (Issue Wait ∷ cond e (Emit ∷ []) []) (cond e (Emit ∷ []) [])) (cond w (Issue Wait ∷ cond e (Emit ∷ []) []) (cond e (Emit ∷ []) []))) ++ rest)
+    ≡ cond e (Emit ∷ []) [] ++ rest
+entering_others n t w e rest is = by n t w e
+  where
+    by : (n t w e : Bool) → other_moves (cond n (Issue Next ∷ cond t (Issue Taken ∷ cond w (Issue Wait ∷ cond e (Emit ∷ []) []) (cond e (Emit ∷ []) [])) (cond w (Issue Wait ∷ cond e (Emit ∷ []) []) (cond e (Emit ∷ []) []))) (cond t (Issue Taken ∷ cond w (Issue Wait ∷ cond e (Emit ∷ []) []) (cond e (Emit ∷ []) [])) (cond w (Issue Wait ∷ cond e (Emit ∷ []) []) (cond e (Emit ∷ []) []))) ++ rest)
+        ≡ cond e (Emit ∷ []) [] ++ rest
+    by true true true true = rw is refl
+    by true true true false = is
+    by true true false true = rw is refl
+    by true true false false = is
+    by true false true true = rw is refl
+    by true false true false = is
+    by true false false true = rw is refl
+    by true false false false = is
+    by false true true true = rw is refl
+    by false true true false = is
+    by false true false true = rw is refl
+    by false true false false = is
+    by false false true true = rw is refl
+    by false false true false = is
+    by false false false true = rw is refl
+    by false false false false = is
+
+in_parts : (plan : Plan) (s : State) → candidates plan s ≡ filter (is_allowed plan s) all_entering ++ rest_of plan s
+unfolding rest_of
+in_parts plan s =
+    let q = is_allowed plan s in
+    sym (all_chosen plan s (filter q all_entering) (filter q (all_passing plan)) (filter q (slides_from 0 plan.sidings)) (filter q (all_leaving plan)) refl refl refl refl)
+
+others_are : (plan : Plan) (s : State) → other_moves (candidates plan s) ≡ allowed_others plan s
+unfolding rest_of
+others_are plan s =
+    let q = is_allowed plan s in
+    ap other_moves (in_parts plan s) ∙ entering_others (q (Issue Next)) (q (Issue Taken)) (q (Issue Wait)) (q Emit) (rest_of plan s) (rest_others plan s)
+
+-- the first of the candidates that are held back
+held_first : (xs : List Move) (m : Move) → Some m ≡ slice_get (other_moves xs) 0 → Some m ≡ slice_get (held_back xs) 0
+unfolding held_back
+held_first xs m e =
+    let w = slice_get_within (other_moves xs) 0 m (sym e) in
+    let some : nat_lt 0 (length (other_moves xs)) ≡ true = grind (arith, nat_tests) in
+    rw some e
+
+pub first_held : (plan : Plan) (s : State) (held : Bool) (o : Option Move) → held ≡ true → o ≡ slice_get (allowed_others plan s) 0 → IfSome o (λ next. Some next ≡ slice_get (withheld held (candidates plan s)) 0)
+first_held plan s held None e first = tt
+first_held plan s held (Some m) e first = rw e (held_first (candidates plan s) m (first ∙ ap (λ (l : List Move). slice_get l 0) (sym (others_are plan s))))
+
+-- and of all of them
+pub first_issue : (plan : Plan) (s : State) (held : Bool) → held ≡ false → is_allowed plan s (Issue Next) ≡ true → Some (Issue Next) ≡ slice_get (withheld held (candidates plan s)) 0
+first_issue plan s held e free = rw (e, in_parts plan s, free) refl
+
+pub first_free : (plan : Plan) (s : State) (held : Bool) (o : Option Move) → held ≡ false → is_allowed plan s (Issue Next) ≡ false → is_allowed plan s (Issue Taken) ≡ false → is_allowed plan s (Issue Wait) ≡ false → o ≡ slice_get (allowed_others plan s) 0 →
+    IfSome o (λ next. Some next ≡ slice_get (withheld held (candidates plan s)) 0)
+unfolding rest_of
+first_free plan s held None e next taken wait first = tt
+first_free plan s held (Some m) e next taken wait first = rw (e, in_parts plan s, next, taken, wait) first
+
+-- Behind a move --
+
+-- the first of all stands behind an Issue, where it is none
+pub behind_issue : (xs : List Move) (last m : Move) → Some m ≡ slice_get xs 0 → stands_behind last m ≡ true → Some m ≡ slice_get xs (first_behind (Some last) xs)
+behind_issue [] last m e behind = absurd (cc)
+behind_issue (x ∷ xs) last m e behind = found_behind last (x ∷ xs) m (let is : x ≡ m = cc in rw (is, behind) refl)
+
+other_kind : (m : Move) → is_issue m ≡ false → 0 < kind_place m
+other_kind (Issue g) e = absurd (cc)
+other_kind Emit e = omega arith
+other_kind (Climb i) e = omega arith
+other_kind (Fall i) e = omega arith
+other_kind (Meet i) e = omega arith
+other_kind (Execute i) e = omega arith
+other_kind (Send i) e = omega arith
+other_kind (Launch i) e = omega arith
+other_kind (Slide k c) e = omega arith
+other_kind Access e = omega arith
+other_kind (Recover i) e = omega arith
+other_kind Leave e = omega arith
+other_kind Exit e = omega arith
+other_kind Serve e = omega arith
+
+pub unissued : (xs : List Move) (g : Guess) (o : Option Move) → IfSome o (λ next. Some next ≡ slice_get xs 0) → IfSome o (λ next. is_issue next ≡ false) → IfSome o (λ next. Some next ≡ slice_get xs (first_behind (Some (Issue g)) xs))
+unissued xs g None first other = tt
+unissued xs g (Some m) first other = behind_issue xs (Issue g) m first (later (Issue g) m (other_kind m other))
+
+-- where none stands behind, it is the first of all
+past_end : {X : Type 0} (xs : List X) (k : ℕ) → slice_get xs k ≡ None → length xs ≤ k
+past_end [] k e = omega arith
+past_end (x ∷ xs) zero e = absurd (cc)
+past_end (x ∷ xs) (suc k) e = let h = past_end xs k e in omega arith
+
+none_behind : (last : Move) (xs : List Move) → find (stands_behind last) xs ≡ None → first_behind (Some last) xs ≡ 0
+unfolding first_behind
+none_behind last xs e =
+    let p = stands_behind last in
+    let far = past_end xs (position_or_len p xs) (sym (find_at p xs) ∙ e) in
+    let t : nat_lt (position_or_len p xs) (length xs) ≡ false = grind (arith, nat_tests) in
+    rw t refl
+
+none_step : (p : Move → Bool) (b c : Bool) (x : Move) (xs rest : List Move) → p x ≡ b → cond b (Some x) (find p xs) ≡ None → (find p xs ≡ None → find p rest ≡ None) → find p (cond c (x ∷ rest) rest) ≡ None
+none_step p true c x xs rest f e more = absurd (cc)
+none_step p false true x xs rest f e more = rw f (more e)
+none_step p false false x xs rest f e more = more e
+
+none_chosen : (p q : Move → Bool) (xs : List Move) → find p xs ≡ None → find p (filter q xs) ≡ None
+none_chosen p q [] e = refl
+none_chosen p q (x ∷ xs) e = none_step p (p x) (q x) x xs (filter q xs) refl e (none_chosen p q xs)
+
+none_withheld : (p : Move → Bool) (held : Bool) (xs : List Move) → find p xs ≡ None → find p (withheld held xs) ≡ None
+unfolding held_back
+none_withheld p false xs e = e
+none_withheld p true xs e = by (nat_lt 0 (length (other_moves xs)))
+  where
+    by : (b : Bool) → find p (cond b (other_moves xs) xs) ≡ None
+    by true = none_chosen p (λ mv. not (is_issue mv)) xs e
+    by false = e
+
+pub wrapped : (plan : Plan) (s : State) (last : Move) (held : Bool) (o r : Option Move) → 1 ≤ kind_place last → o ≡ find (stands_behind last) (filter (is_allowed plan s) (all_passing plan) ++ (filter (is_allowed plan s) (slides_from 0 plan.sidings) ++ filter (is_allowed plan s) (all_leaving plan))) → o ≡ None →
+    IfSome r (λ next. Some next ≡ slice_get (withheld held (candidates plan s)) 0) → IfSome r (λ next. Some next ≡ slice_get (withheld held (candidates plan s)) (first_behind (Some last) (withheld held (candidates plan s))))
+unfolding rest_of
+wrapped plan s last held o r behind e none first =
+    let p = stands_behind last in
+    let nowhere : find p (candidates plan s) ≡ None = ap (find p) (in_parts plan s) ∙ found_second p (filter (is_allowed plan s) all_entering) (rest_of plan s) (entering_none last (is_allowed plan s) behind) ∙ (sym e ∙ none) in
+    let zero_is = none_behind last (withheld held (candidates plan s)) (none_withheld p held (candidates plan s) nowhere) in
+    rw zero_is first
+
+pub found_soon : (plan : Plan) (s : State) (last m : Move) (held : Bool) (o : Option Move) → 1 ≤ kind_place last → o ≡ find (stands_behind last) (filter (is_allowed plan s) (all_passing plan) ++ (filter (is_allowed plan s) (slides_from 0 plan.sidings) ++ filter (is_allowed plan s) (all_leaving plan))) → o ≡ Some m →
+    Some m ≡ slice_get (withheld held (candidates plan s)) (first_behind (Some last) (withheld held (candidates plan s)))
+found_soon plan s last m true o behind e is = found_behind last (held_back (candidates plan s)) m (found_held (stands_behind last) (candidates plan s) m (λ mv f. no_issue last mv behind f) (found_candidate plan s last m behind (sym e ∙ is)))
+found_soon plan s last m false o behind e is = found_behind last (candidates plan s) m (found_candidate plan s last m behind (sym e ∙ is))
+
+pub ruleset first_parts = (emit_first, found_part)
+
+pub ruleset firsts = (first_held, first_issue, first_free)
