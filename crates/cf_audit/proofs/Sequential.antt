@@ -8,7 +8,7 @@ use Rattle.cf_semantics.specs.Lines.{Line, lines}
 use Rattle.cf_semantics.specs.Refines.{Refines, gained}
 use Rattle.cf_semantics.specs.Runs.{opened as opened_on, start as start_on}
 use Rattle.cf_semantics.specs.State.{Moment}
-use Rattle.cf_refinement.proofs.Runs.{opened_retired}
+use Rattle.cf_refinement.proofs.claims.Runs.{opened_retired}
 use Rattle.cf_refinement.proofs.Theorems.{run_refines}
 use Rattle.cf_core.specs.Processors.{Processor, opened}
 use Rattle.cf_run.specs.declared.show.Show.TheVariants as show

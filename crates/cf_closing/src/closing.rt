@@ -1,11 +1,11 @@
 //! The report that closes a run.
-#![tactic(auto, unfolding(crate::specs::Closing::closing, crate::specs::Closing::whole_closing))]
+#![tactic(auto, unfolding(crate::specs::Closing::closing, crate::specs::Closing::head_text, crate::specs::Closing::whole_closing))]
 
 ghost use Rattle.std.specs.Prelude.{◌≡◌, ◌++◌, codes};
 ghost use Rattle.cf_texts.specs.Texts.{counted_line};
 ghost use Rattle.cf_report.specs.Putting.{PutsText};
 ghost use Rattle.cf_closing.specs.Lines.{first_line};
-ghost use Rattle.cf_closing.specs.Closing.{whole_closing, closing};
+ghost use Rattle.cf_closing.specs.Closing.{head_text, rest_text, whole_closing, closing, closing_in_rounds};
 
 use crate::first_line::push_first_line;
 use cf_core::Core;
@@ -25,18 +25,37 @@ fn head_page(limit: u64, moves: u64, answer: Scripted, retired: u64) -> Page
 }
 
 fn put_head<R: Sink>(
+    core: &Core,
     limit: u64,
-    moves: u64,
     answer: Scripted,
-    retired: u64,
+    tally: &Tally,
     report: &mut R,
 ) -> Result<(), Failed>
     ensures { PutsText (R.written report.old) (R.written report.new)
         (R.faults report.old) (R.faults report.new)
-        (first_line limit moves answer ++ counted_line (codes "retired ") retired) result }
+        (head_text limit answer core.now.state tally.now) result }
 {
-    let page = head_page(limit, moves, answer, retired);
+    let page = head_page(limit, tally.moves, answer, core.retired());
     put_all(report, page.bytes())
+}
+
+fn put_rounds<R: Sink>(rounds: u64, report: &mut R) -> Result<(), Failed>
+    ensures { PutsText (R.written report.old) (R.written report.new)
+        (R.faults report.old) (R.faults report.new) (counted_line (codes "rounds ") rounds) result }
+{
+    let mut page = Page::new();
+    page.push_counted(b"rounds ", rounds);
+    put_all(report, page.bytes())
+}
+
+fn put_rest<R: Sink>(core: &Core, tally: &Tally, report: &mut R) -> Result<(), Failed>
+    ensures { PutsText (R.written report.old) (R.written report.new)
+        (R.faults report.old) (R.faults report.new)
+        (rest_text core.now.plan core.now.state tally.now) result }
+{
+    put_tally(tally, report)?;
+    put_registers(core.regs(), report)?;
+    put_picture(core, report)
 }
 
 fn put_whole<R: Sink>(
@@ -50,10 +69,8 @@ fn put_whole<R: Sink>(
         (R.faults report.old) (R.faults report.new)
         (whole_closing limit answer core.now.plan core.now.state tally.now) result }
 {
-    put_head(limit, tally.moves, answer, core.retired(), report)?;
-    put_tally(tally, report)?;
-    put_registers(core.regs(), report)?;
-    put_picture(core, report)
+    put_head(core, limit, answer, tally, report)?;
+    put_rest(core, tally, report)
 }
 
 /// Puts the report that closes a run under this limit, which finished with this answer and left the processor and the
@@ -76,4 +93,23 @@ pub fn put_closing<R: Sink>(
     } else {
         put_whole(core, limit, answer, tally, report)
     }
+}
+
+/// Puts the report that closes a run in so many rounds: that of any run, with their number behind that of the retired
+/// instructions. After `Failed` a front of it was put.
+pub fn put_closing_in_rounds<R: Sink>(
+    core: &Core,
+    limit: u64,
+    answer: Scripted,
+    rounds: u64,
+    tally: &Tally,
+    report: &mut R,
+) -> Result<(), Failed>
+    ensures { PutsText (R.written report.old) (R.written report.new)
+        (R.faults report.old) (R.faults report.new)
+        (closing_in_rounds limit answer rounds core.now.plan core.now.state tally.now) result }
+{
+    put_head(core, limit, answer, tally, report)?;
+    put_rounds(rounds, report)?;
+    put_rest(core, tally, report)
 }

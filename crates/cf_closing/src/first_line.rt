@@ -46,7 +46,7 @@ pub fn push_bar(page: &mut Page, bar: Bar)
 
 /// Why a line of a script tells no move.
 #[tactic(auto, unfolding(crate::specs::Lines::script_text))]
-fn push_script(page: &mut Page, kind: ScriptKind)
+pub fn push_script(page: &mut Page, kind: ScriptKind)
     requires { length page.old + 20 ≤ 640 }
     ensures text { page.new ≡ page.old ++ script_text kind }
     ensures size { length page.new ≤ length page.old + 20 }
@@ -118,6 +118,16 @@ fn push_ran(page: &mut Page, limit: u64, answer: Ran)
         Ran::WriteFault => page.push_line(b"write fault output"),
         Ran::ReportFault => {}
     }
+}
+
+/// The line that tells how a run finished, whatever its schedule: the first of its report. There is none where the report failed.
+pub fn run_line(limit: u64, answer: Ran) -> Page
+    ensures line { result ≡ line_of_run limit answer }
+    ensures size { length result ≤ 80 }
+{
+    let mut page = Page::new();
+    push_ran(&mut page, limit, answer);
+    page
 }
 
 /// The first line of a closing report: how the run of a script finished under a limit, with so many moves made.

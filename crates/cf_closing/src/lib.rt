@@ -7,8 +7,8 @@ mod first_line;
 mod moves;
 mod parts;
 
-pub use closing::put_closing;
-pub use first_line::push_bar;
+pub use closing::{put_closing, put_closing_in_rounds};
+pub use first_line::{push_bar, push_script, run_line};
 pub use moves::put_moves;
 
 #[cfg(test)]

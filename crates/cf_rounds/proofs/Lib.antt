@@ -4,5 +4,6 @@ pub mod Orders
 pub mod Few
 pub mod InOrder
 pub mod Making
+pub mod Level
 pub mod Pacing
 pub mod Rounding

@@ -15,7 +15,7 @@ use Rattle.cf_semantics.specs.Holding.{paced}
 use Rattle.cf_semantics.specs.Moves.{next}
 use Rattle.cf_semantics.specs.Sites.{Stage}
 use Rattle.cf_semantics.specs.State.{State, Moment}
-use Rattle.cf_refinement.proofs.Runs.{access_counts, climb_counts, emit_counts, execute_counts, exit_counts, fall_counts, issue_counts, launch_counts, meet_counts, recover_counts, send_counts, serve_counts, slide_counts}
+use Rattle.cf_refinement.proofs.claims.Runs.{Counts, access_counts, climb_counts, emit_counts, execute_counts, exit_counts, fall_counts, issue_counts, launch_counts, meet_counts, recover_counts, send_counts, serve_counts, slide_counts}
 use Rattle.cf_core.specs.Processors.{IsProcessor}
 use Rattle.cf_core.specs.Stepping.{Makes}
 use Rattle.cf_index.specs.Alone.{HasSidings, stands_alone}
@@ -94,40 +94,40 @@ abbrev pub leaves : List Move → ℕ
 leaves [] = 0
 leaves (mv ∷ moves) = if is_leave mv then suc (leaves moves) else leaves moves
 
--- only Leave raises the count of retired instructions, and by one
-kept_count : (plan : Plan) (m : Moment) (mv : Move) → is_leave mv ≡ false → (next plan m mv).state.retired ≡ m.state.retired
+-- only Leave raises the count of retired instructions, and by one, or ends the program
+pub kept_counts : (plan : Plan) (m : Moment) (mv : Move) → is_leave mv ≡ false → Counts m.state (next plan m mv).state
 unfolding next
-kept_count plan m (Issue g) e = (issue_counts plan m.state g).retired
-kept_count plan m Emit e = (emit_counts plan m.state).retired
-kept_count plan m (Climb i) e = (climb_counts plan m.state i).retired
-kept_count plan m (Fall i) e = (fall_counts plan m.state i).retired
-kept_count plan m (Meet i) e = (meet_counts plan m.state i).retired
-kept_count plan m (Execute i) e = (execute_counts plan m.state i).retired
-kept_count plan m (Send i) e = (send_counts plan m.state i).retired
-kept_count plan m (Launch i) e = (launch_counts plan m.state i).retired
-kept_count plan m (Slide k c) e = (slide_counts plan m.state k c).retired
-kept_count plan m Access e = (access_counts plan m.state).retired
-kept_count plan m (Recover i) e = (recover_counts plan m.state i).retired
-kept_count plan m Leave e = absurd (cc)
-kept_count plan m Exit e = (exit_counts plan m.state).retired
-kept_count plan m Serve e = (serve_counts plan m).retired
+kept_counts plan m (Issue g) e = issue_counts plan m.state g
+kept_counts plan m Emit e = emit_counts plan m.state
+kept_counts plan m (Climb i) e = climb_counts plan m.state i
+kept_counts plan m (Fall i) e = fall_counts plan m.state i
+kept_counts plan m (Meet i) e = meet_counts plan m.state i
+kept_counts plan m (Execute i) e = execute_counts plan m.state i
+kept_counts plan m (Send i) e = send_counts plan m.state i
+kept_counts plan m (Launch i) e = launch_counts plan m.state i
+kept_counts plan m (Slide k c) e = slide_counts plan m.state k c
+kept_counts plan m Access e = access_counts plan m.state
+kept_counts plan m (Recover i) e = recover_counts plan m.state i
+kept_counts plan m Leave e = absurd (cc)
+kept_counts plan m Exit e = exit_counts plan m.state
+kept_counts plan m Serve e = serve_counts plan m
 
 pub falls : (plan : Plan) (m : Moment) (mv : Move) (rest : List Move) → (next plan m mv).state.retired + leaves rest ≤ m.state.retired + leaves (mv ∷ rest)
 falls plan m mv rest = by (is_leave mv) refl
   where
     by : (b : Bool) → is_leave mv ≡ b → (next plan m mv).state.retired + leaves rest ≤ m.state.retired + (if b then suc (leaves rest) else leaves rest)
     by true e = omega (arith, next-retired plan m mv)
-    by false e = omega (arith, kept_count plan m mv e)
+    by false e = omega (arith, (kept_counts plan m mv e).retired)
 
 -- two that leave share the highest stage
-leave_there : (plan : Plan) → uses_place plan Leave (Stage plan.stages) ≡ true
+pub leave_there : (plan : Plan) → uses_place plan Leave (Stage plan.stages) ≡ true
 unfolding uses_place
 leave_there plan = grind (arith, nat_tests)
 
-both_leave : (plan : Plan) → shares plan Leave Leave ≡ true
+pub both_leave : (plan : Plan) → shares plan Leave Leave ≡ true
 both_leave plan = shared_at plan Leave Leave (Stage plan.stages) (leave_there plan) (leave_there plan)
 
-leave_one : (mv : Move) → is_leave mv ≡ true → mv ≡ Leave
+pub leave_one : (mv : Move) → is_leave mv ≡ true → mv ≡ Leave
 leave_one Leave e = refl
 leave_one (Issue g) e = absurd (cc)
 leave_one Emit e = absurd (cc)

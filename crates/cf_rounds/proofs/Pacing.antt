@@ -19,7 +19,7 @@ use Rattle.cf_semantics.specs.Sites.{Stage}
 use Rattle.cf_semantics.specs.State.{State, Moment}
 use Rattle.cf_semantics.specs.Weight.{is_issue}
 use Rattle.cf_confluence.proofs.Candidates.{HasShape}
-use Rattle.cf_refinement.proofs.Accepted.{accepted_suits}
+use Rattle.cf_refinement.proofs.layouts.Accepted.{accepted_suits}
 use Rattle.cf_untold.specs.Invariant.{HoldsAnew}
 use Rattle.cf_untold.specs.Paced.{PacesTo}
 use Rattle.cf_untold.proofs.Offered.{anew_shape, offered_held}

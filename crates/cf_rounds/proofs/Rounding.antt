@@ -17,21 +17,24 @@ use Rattle.cf_untold.proofs.Theorems.{anew_started}
 use Rattle.cf_core.specs.Processors.{Processor, IsProcessor}
 use Rattle.cf_core.specs.Stepping.{Makes}
 use Rattle.cf_report.specs.declared.tally.Tally.{Tally}
+use Rattle.cf_index.specs.Alone.{HasSidings}
 use Rattle.cf_index.proofs.There.{has_sidings}
 use Rattle.cf_sched.specs.Paces.{Count, HasCounted}
 use Rattle.cf_run.specs.declared.answer.Ran.{Ran as Answer}
 use Rattle.cf_run.specs.declared.answer.Ran.TheVariants as ran
 use Rattle.cf_run.specs.declared.answer.Scripted.TheVariants.{Ran}
 use Rattle.cf_run.specs.declared.show.Show.TheVariants as show
+use Rattle.cf_run.specs.Ending.{EndsAlike, EndsAsMachine, EndsSequentially}
 use Rattle.cf_run.specs.Going.{moment_of, Leads}
 use Rattle.cf_run.specs.Headline.{Gets, RunsSequentially, StopsAt}
 use Rattle.cf_run.specs.Made.{Made, moves_of}
 use Rattle.cf_run.specs.Moving.{Place, Does}
 use Rattle.cf_run.specs.Policies.{IsOpened, most_moves}
-use Rattle.cf_run.specs.Reaching.{GoesOn, Reaches, no_tally}
+use Rattle.cf_run.specs.Reaching.{GoesOn, IsOver, Reaches, no_tally}
 use Rattle.cf_run.proofs.Arrived.{begins}
 use Rattle.cf_run.proofs.Bounds.{bound_grows, bound_small, machine_of, opened_wide, paced-bounded, paced-offered}
-use Rattle.cf_run.proofs.Headline.{comes_sequentially}
+use Rattle.cf_run.proofs.Ending.{Over, ends-level, same_place}
+use Rattle.cf_run.proofs.Headline.{comes_sequentially, opened_here, opened_regs}
 use Rattle.cf_run.proofs.Runs.{reached-none, none-trace, reached-more, reached-trace}
 use Rattle.cf_run.proofs.Stopping.{ComesTo, comes_here, comes_over, comes_unread, comes_unwritten}
 use Rattle.cf_rounds.specs.declared.answer.Clocked.{Clocked}
@@ -43,6 +46,7 @@ use Rattle.cf_rounds.specs.Firing.{FiresAll, Fires, MakesAll, paced_by}
 use Rattle.cf_rounds.specs.Rounds.{AreCandidates, IsRound, round_of}
 use Rattle.cf_rounds.specs.Running.{InRounds, FailsThere, RunsRounds, StopsRounds, all_of, ran_of, state_behind}
 use Rattle.cf_rounds.specs.Turns.{IsOffered, Turns}
+use Rattle.cf_rounds.proofs.Level.{round-level}
 use Rattle.cf_rounds.proofs.Making.{leaves, falls, left_first}
 use Rattle.cf_rounds.proofs.Pacing.{rounds_paced}
 
@@ -112,10 +116,11 @@ pub record Comes (limit : ℕ) (start now : Place) (pace : Count) (number : ℕ)
   pub count : number ≡ length rounds
   pub few : number ≤ now.tally.moves
   pub within : now.core.state.retired ≤ limit
+  pub over : Over start.core.plan limit now.core.state
 
-pub comes-first : (limit : ℕ) (start : Place) (pace : Count) (number : ℕ) → start.tally ≡ no_tally → HasCounted start.core.plan.stages 0 pace → number ≡ 0 → start.core.state.retired ≤ limit → Comes limit start start pace number
+pub comes-first : (limit : ℕ) (start : Place) (pace : Count) (number : ℕ) → start.tally ≡ no_tally → HasCounted start.core.plan.stages 0 pace → number ≡ 0 → start.core.state.retired ≤ limit → Over start.core.plan limit start.core.state → Comes limit start start pace number
 unfolding InRounds
-comes-first limit start pace number none paced zero_rounds within = record {
+comes-first limit start pace number none paced zero_rounds within over = record {
   reached = reached-none (limit + 1) show.Report start none;
   rounds = [];
   are = none-trace (limit + 1) show.Report start none;
@@ -125,6 +130,7 @@ comes-first limit start pace number none paced zero_rounds within = record {
   count = zero_rounds;
   few = omega (arith, zero_rounds);
   within = within;
+  over = over;
 }
 
 -- the layout stays
@@ -152,6 +158,7 @@ moves_length (made ∷ trace) = ap suc (moves_length trace)
 pub comes-more : (limit : ℕ) (start now new : Place) (pace later : Count) (number : ℕ) (moves round : List Move) (fired : Fired) → Comes limit start now pace number → GoesOn limit now.core.state → IsOffered now pace moves round → FiresAll round now new pace later fired → Comes limit start new later (number + 1)
 comes-more limit start now new pace later number moves round fired c goes o f =
     let plan : Plan = start.core.plan in
+    let same : now.core.plan ≡ plan = same_plan limit start now pace number c in
     let few : leaves round ≤ 1 = (left_first now.core.plan now.core.state round o.sidings o.is_round).1 in
     let low : now.core.state.retired + leaves (moves_of f.trace) ≤ limit = omega (arith, goes.below, ap leaves f.moves, few) in
     let r : Reached limit start new c.reached.trace f.trace = reach_all limit start now new f.trace c.reached f.makes low in
@@ -167,6 +174,10 @@ comes-more limit start now new pace later number moves round fired c goes o f =
       count = omega (arith, c.count, length-append c.rounds (f.trace ∷ []));
       few = omega (arith, c.few, count_all f.trace now new f.makes, o.some, ap length f.moves, moves_length f.trace);
       within = r.within;
+      over = round-level plan limit f.trace now new same
+          (subst (λ (l : Plan). HasSidings l now.core.state) same o.sidings)
+          (subst (λ (l : Plan). IsRound l now.core.state (moves_of f.trace)) same (subst (IsRound now.core.plan now.core.state) (sym f.moves) o.is_round))
+          f.makes goes.below;
     }
 
 -- the rounds so far are a run under the hold rule
@@ -316,3 +327,19 @@ end-bounded limit start now new pace later number answer accepted wide o c t = o
     same Limit t = ap (λ (p : Place). p.tally.moves) t.1
     same ReadFault t = ap (λ (a : Tally). a.moves) t.does.0.tally
     same WriteFault t = ap (λ (a : Tally). a.moves) t.does.0.tally
+
+-- and ends as that machine does
+pub rounds-end : (limit : ℕ) (start now new : Place) (pace later : Count) (number : ℕ) (answer : Clocked) → IsAccepted start.core.plan → length start.core.state.regs ≡ 32 → Comes limit start now pace number → Turns limit now new pace later (Some answer) → EndsSequentially limit start new (Ran (ran_of answer))
+unfolding EndsSequentially Turns
+rounds-end limit start now new pace later number answer accepted wide c turns plan hart opens = by answer turns
+  where
+    ends : (end : Answer) → new ≡ now → IsOver limit now.core.state end → EndsAsMachine limit hart start new end
+    ends end same over = same_place limit hart start now new end same
+        (ends-level (limit + 1) limit show.Report start now hart end accepted (ap length (sym (opened_regs start.core plan hart opens)) ∙ wide) (opened_here start.core plan hart opens) c.reached c.over over)
+
+    by : (answer : Clocked) → Turns limit now new pace later (Some answer) → EndsAlike limit hart start new (Ran (ran_of answer))
+    by (Exit status) t = ends (ran.Exit status) t.1 t.0
+    by (Trap cause pc detail) t = ends (ran.Trap cause pc detail) t.1 t.0
+    by Limit t = ends ran.Limit t.1 t.0
+    by ReadFault t = tt
+    by WriteFault t = tt

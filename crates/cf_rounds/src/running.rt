@@ -6,10 +6,12 @@ ghost use Rattle.cf_io.specs.Causes.{HasCause};
 ghost use Rattle.rv_machine.specs.Streams.{streams_of};
 ghost use Rattle.cf_semantics.specs.Holding.{offered};
 ghost use Rattle.cf_sched.specs.Paces.{HasCounted};
+ghost use Rattle.cf_run.specs.declared.answer.Scripted.TheVariants as scripted;
+ghost use Rattle.cf_run.specs.Ending.{EndsSequentially};
 ghost use Rattle.cf_run.specs.Moving.{place_of};
 ghost use Rattle.cf_run.specs.Policies.{IsOpened, most_moves};
 ghost use Rattle.cf_run.specs.Reaching.{no_tally};
-ghost use Rattle.cf_rounds.specs.Running.{RunsRight};
+ghost use Rattle.cf_rounds.specs.Running.{RunsRight, ran_of};
 ghost use Rattle.cf_rounds.specs.Turns.{Turns, input_turned, output_turned};
 
 use crate::answer::{Clocked, Fired};
@@ -79,7 +81,7 @@ fn advance<S: Source, K: Sink>(
 /// counted, nor its move. The count of the faults of that one rose.
 ///
 /// Where the processor was opened on a machine, the run is one of that machine, over an input that tells what it has left and
-/// over one that does not. It has at most 4 N K (limit + 1) moves.
+/// over one that does not, and ends as that machine does under the same limit. It has at most 4 N K (limit + 1) moves.
 pub fn run_rounds<S: Source, K: Sink>(
     core: &mut Core,
     candidates: &mut Candidates,
@@ -98,6 +100,10 @@ pub fn run_rounds<S: Source, K: Sink>(
         (place_of core.old (streams_of (S.left input.old) (K.written output.old)) None tally.old)
         (place_of core.new (streams_of (S.left input.new) (K.written output.new)) None tally.new)
         rounds.new result }
+    ensures ends { EndsSequentially limit
+        (place_of core.old (streams_of (S.left input.old) (K.written output.old)) None tally.old)
+        (place_of core.new (streams_of (S.left input.new) (K.written output.new)) None tally.new)
+        (scripted.Ran (ran_of result)) }
     ensures bounded { tally.new.moves ≤ most_moves core.old.plan limit }
     ensures input { HasCause (S.faults input.old) (S.faults input.new) (input_turned (Some result)) }
     ensures output { HasCause (K.faults output.old) (K.faults output.new) (output_turned (Some result)) }

@@ -13,7 +13,10 @@ use Rattle.cf_bind.specs.declared.moves.Move.{Move}
 use Rattle.cf_bind.specs.declared.passenger.End.{End}
 use Rattle.cf_bind.specs.declared.passenger.End.TheVariants as ending
 use Rattle.cf_semantics.specs.Ahead.{served_count}
+use Rattle.cf_semantics.specs.declared.event.Event.{Event}
+use Rattle.cf_semantics.specs.Bars.{bar}
 use Rattle.cf_semantics.specs.Determined.{IsSame}
+use Rattle.cf_semantics.specs.Events.{IsEvent}
 use Rattle.cf_semantics.specs.Instructions.{Stops, step_at, step_here, stepped}
 use Rattle.cf_semantics.specs.Layouts.{isa_of}
 use Rattle.cf_semantics.specs.Lines.{Line, lines}
@@ -21,9 +24,9 @@ use Rattle.cf_semantics.specs.Moves.{next}
 use Rattle.cf_semantics.specs.Refines.{Refines, gained}
 use Rattle.cf_semantics.specs.Runs.{IsRun, opened as opened_on, run, start as start_on}
 use Rattle.cf_semantics.specs.State.{State, Moment}
-use Rattle.cf_confluence.proofs.Counted.{after_counts}
-use Rattle.cf_confluence.proofs.Rested.{drained_is}
-use Rattle.cf_refinement.proofs.Level.{retired_unserved}
+use Rattle.cf_confluence.proofs.drains.Counted.{after_counts}
+use Rattle.cf_confluence.proofs.drains.Rested.{drained_is}
+use Rattle.cf_refinement.proofs.claims.Level.{retired_unserved}
 use Rattle.cf_refinement.proofs.Theorems.{run_refines}
 use Rattle.cf_untold.specs.Anew.{finding, GoesTo}
 use Rattle.cf_untold.specs.Invariant.{HoldsAnew}
@@ -35,7 +38,7 @@ use Rattle.cf_run.specs.declared.answer.Scripted.{Scripted}
 use Rattle.cf_run.specs.declared.answer.Scripted.TheVariants.{Ran, ScriptEnd, BadScript, BarredAt}
 use Rattle.cf_run.specs.declared.show.Show.{Show}
 use Rattle.cf_run.specs.Ending.{IsAfter, Ends, EndsAsMachine, EndsAlike, EndsSequentially}
-use Rattle.cf_run.specs.Going.{Leads}
+use Rattle.cf_run.specs.Going.{moment_of, Leads}
 use Rattle.cf_run.specs.Headline.{machine_on}
 use Rattle.cf_run.specs.Made.{Made, moves_of}
 use Rattle.cf_run.specs.Moving.{Place}
@@ -48,21 +51,26 @@ use Rattle.cf_run.proofs.Retirements.{ended-kept}
 use Rattle.cf_run.proofs.Runs.{leads-run}
 use Rattle.cf_run.proofs.Untold.{LeadsAnew, leads-anew, goes-anew, left-untold}
 
--- at the limit no call is ahead of the count: the last move retired an instruction
-level_last : (plan : Plan) (limit : ℕ) (told : Option (List ℕ)) (m : Moment) (trace : List Made) (last : Moment) → (m.state.retired ≡ limit → served_count plan m.state ≡ 0) → Leads plan limit told m trace last → last.state.retired ≡ limit → served_count plan last.state ≡ 0
-unfolding Leads
-level_last plan limit told m [] last level leads full = subst (λ (q : Moment). q.state.retired ≡ limit → served_count plan q.state ≡ 0) (sym leads) level full
-level_last plan limit told m (made ∷ trace) last level (rest, finds, is, leads) full =
-    let t : Moment = next plan (finding rest m) made.move in
-    level_last plan limit told t trace last (λ there. retired_unserved plan (finding rest m) made.move is.allowed (let b = is.below in omega (arith, b, there))) leads full
+-- where a run has come to, it is level with the count at the limit, and the program ends below that
+pub record Over (plan : Plan) (limit : ℕ) (s : State) : Type 0 where
+  -- no call is ahead of the count there
+  pub full : s.retired ≡ limit → served_count plan s ≡ 0
+  pub below : (e : End) → s.ending ≡ Some e → s.retired < limit
 
--- the program ends below the limit
-ends_below : (plan : Plan) (limit : ℕ) (told : Option (List ℕ)) (m : Moment) (trace : List Made) (last : Moment) (e : End) → ((o : End) → m.state.ending ≡ Some o → m.state.retired < limit) → Leads plan limit told m trace last → last.state.ending ≡ Some e → last.state.retired < limit
+-- so it is behind a move that is made below the limit: the last move retired an instruction, or ended the program and retired none
+pub over-made : (plan : Plan) (limit : ℕ) (m : Moment) (mv : Move) (e : Event) → bar plan m.state mv ≡ None → IsEvent plan m.state mv e → m.state.retired < limit → Over plan limit (next plan m mv).state
+over-made plan limit m mv e free is low = record {
+  full = λ there. retired_unserved plan m mv free (omega (arith, low, there));
+  below = λ end ended. let same = ended-kept plan m mv e end free is ended in omega (arith, same, low);
+}
+
+-- and behind all moves that are
+over-led : (plan : Plan) (limit : ℕ) (told : Option (List ℕ)) (m : Moment) (trace : List Made) (last : Moment) → Over plan limit m.state → Leads plan limit told m trace last → Over plan limit last.state
 unfolding Leads
-ends_below plan limit told m [] last e below leads ended = subst (λ (q : Moment). q.state.ending ≡ Some e → q.state.retired < limit) (sym leads) (below e) ended
-ends_below plan limit told m (made ∷ trace) last e below (rest, finds, is, leads) ended =
-    let t : Moment = next plan (finding rest m) made.move in
-    ends_below plan limit told t trace last e (λ o there. let same = ended-kept plan (finding rest m) made.move made.event o is.allowed is.event there in let b = is.below in omega (arith, same, b)) leads ended
+over-led plan limit told m [] last over leads = subst (λ (q : Moment). Over plan limit q.state) (sym leads) over
+over-led plan limit told m (made ∷ trace) last over (rest, finds, is, leads) =
+    let here : Moment = finding rest m in
+    over-led plan limit told (next plan here made.move) trace last (over-made plan limit here made.move made.event is.allowed is.event is.below) leads
 
 -- the step of a machine that ends the program so
 step_ends : (isa : Isa) (at : Machine) (e : End) → step_here isa at ≡ Stops e → stepped (step isa at) ≡ Stops e
@@ -137,66 +145,73 @@ started_going : (plan : Plan) (x : Machine) → (opened_on plan x).ending ≡ No
 unfolding opened_on
 started_going plan x = refl
 
--- where a run from the start of a machine leads, it is level with the count at the limit, and the program ends below that
-record Over (plan : Plan) (limit : ℕ) (last : Moment) : Type 0 where
-  full : last.state.retired ≡ limit → served_count plan last.state ≡ 0
-  below : (e : End) → last.state.ending ≡ Some e → last.state.retired < limit
-
-over_here : (plan : Plan) (limit : ℕ) (told : Option (List ℕ)) (x : Machine) (trace : List Made) (last : Moment) → IsAccepted plan → length x.hart.regs ≡ 32 → Leads plan limit told (start_on plan x) trace last → Over plan limit last
-over_here plan limit told x trace last accepted wide leads = record {
-  full = level_last plan limit told (start_on plan x) trace last (λ full. started_level plan x accepted wide) leads;
-  below = λ e ended. ends_below plan limit told (start_on plan x) trace last e (λ o there. absurd (let none = started_going plan x in cc)) leads ended;
+-- so it is level there
+over-started : (plan : Plan) (limit : ℕ) (x : Machine) → IsAccepted plan → length x.hart.regs ≡ 32 → Over plan limit (opened_on plan x)
+over-started plan limit x accepted wide = record {
+  full = λ there. started_level plan x accepted wide;
+  below = λ e ended. absurd (let none = started_going plan x in cc);
 }
 
+pub over-opened : (limit : ℕ) (core : Processor) (hart : Hart) → IsAccepted core.plan → length hart.regs ≡ 32 → core ≡ opened core.plan hart → Over core.plan limit core.state
+unfolding opened
+over-opened limit core hart accepted wide opens =
+    subst (Over core.plan limit) (sym (ap (λ (p : Processor). p.state) opens)) (over-started core.plan limit (machine_on hart []) accepted wide)
+
+-- and where a run leads to
+over-reached : (limit : ℕ) (shows : Show) (begin now : Place) (hart : Hart) → IsAccepted begin.core.plan → length hart.regs ≡ 32 → begin.core ≡ opened begin.core.plan hart → Reaches limit shows begin now → Over begin.core.plan limit now.core.state
+over-reached limit shows begin now hart accepted wide opens h =
+    subst (Over begin.core.plan limit) (sym (ap (λ (p : Processor). p.state) h.core))
+    (over-led begin.core.plan limit begin.streams.input (moment_of begin.core h.rest) h.trace h.last (over-opened limit begin.core hart accepted wide opens) h.leads)
+
 -- over an input that tells
-ends_told : (limit : ℕ) (shows : Show) (begin now : Place) (hart : Hart) (rest : List ℕ) (answer : Answer) → IsAccepted begin.core.plan → length hart.regs ≡ 32 → begin.core ≡ opened begin.core.plan hart → begin.streams.input ≡ Some rest → Reaches limit shows begin now → IsOver limit now.core.state answer
+ends_told : (bound limit : ℕ) (shows : Show) (begin now : Place) (hart : Hart) (rest : List ℕ) (answer : Answer) → IsAccepted begin.core.plan → length hart.regs ≡ 32 → begin.core ≡ opened begin.core.plan hart → begin.streams.input ≡ Some rest → Reaches bound shows begin now → Over begin.core.plan limit now.core.state → IsOver limit now.core.state answer
     → (at : Machine) × (after (isa_of begin.core.plan) (machine_on hart rest) (now.core.state.retired - hart.retired) ≡ Some at) × Level begin.core.plan limit begin now (record { state = now.core.state; rest = at.rest; output = at.output }) answer at
-ends_told limit shows begin now hart rest answer accepted wide opens tells h over =
+ends_told bound limit shows begin now hart rest answer accepted wide opens tells h level over =
     let plan : Plan = begin.core.plan in
     let x : Machine = machine_on hart rest in
-    let leads : Leads plan limit (Some rest) (start_on plan x) h.trace h.last =
-    subst (λ (m : Moment). Leads plan limit (Some rest) m h.trace h.last) (begins begin.core hart rest h.rest opens (subst (λ (o : Option (List ℕ)). IsTold o h.rest) tells h.told))
-    (subst (λ (o : Option (List ℕ)). Leads plan limit o (record { state = begin.core.state; rest = h.rest; output = [] }) h.trace h.last) tells h.leads) in
-    let runs = leads-run plan limit rest (start_on plan x) h.trace h.last leads in
+    let leads : Leads plan bound (Some rest) (start_on plan x) h.trace h.last =
+    subst (λ (m : Moment). Leads plan bound (Some rest) m h.trace h.last) (begins begin.core hart rest h.rest opens (subst (λ (o : Option (List ℕ)). IsTold o h.rest) tells h.told))
+    (subst (λ (o : Option (List ℕ)). Leads plan bound o (record { state = begin.core.state; rest = h.rest; output = [] }) h.trace h.last) tells h.leads) in
+    let runs = leads-run plan bound rest (start_on plan x) h.trace h.last leads in
     let r : Refines plan x (lines plan (start_on plan x) (moves_of h.trace)) h.last = subst (λ (m : Moment). Refines plan x (lines plan (start_on plan x) (moves_of h.trace)) m) (sym runs.1) (run_refines plan x (moves_of h.trace) accepted wide runs.0) in
     let c = after_counts (isa_of plan) x r.at (gained x h.last.state) r.count in
     let count : r.at.hart.retired ≡ h.last.state.retired = let rises = r.rises in omega (arith, c, rises) in
-    let o : Over plan limit h.last = over_here plan limit (Some rest) x h.trace h.last accepted wide leads in
     let state : now.core.state ≡ h.last.state = ap (λ (p : Processor). p.state) h.core in
+    let o : Over plan limit h.last.state = subst (Over plan limit) state level in
     let l : Level plan limit begin now h.last answer r.at = leveled plan limit x (lines plan (start_on plan x) (moves_of h.trace)) begin now h.last answer r count o.full o.below h.core h.streams (subst (λ (s : State). IsOver limit s answer) state over) in
     (r.at, subst (λ (s : State). after (isa_of plan) x (s.retired - hart.retired) ≡ Some r.at) (sym state) r.count, record { ends = l.ends; retired = l.retired; regs = l.regs; streams = l.streams })
 
 -- over one that does not
-ends_untold : (limit : ℕ) (shows : Show) (begin now : Place) (hart : Hart) (answer : Answer) → IsAccepted begin.core.plan → length hart.regs ≡ 32 → begin.core ≡ opened begin.core.plan hart → begin.streams.input ≡ None → Reaches limit shows begin now → IsOver limit now.core.state answer
+ends_untold : (bound limit : ℕ) (shows : Show) (begin now : Place) (hart : Hart) (answer : Answer) → IsAccepted begin.core.plan → length hart.regs ≡ 32 → begin.core ≡ opened begin.core.plan hart → begin.streams.input ≡ None → Reaches bound shows begin now → Over begin.core.plan limit now.core.state → IsOver limit now.core.state answer
     → (at : Machine) × ((written : List Line) × GoesTo (isa_of begin.core.plan) (machine_on hart []) (now.core.state.retired - hart.retired) at written) × Level begin.core.plan limit begin now (record { state = now.core.state; rest = at.rest; output = at.output }) answer at
 unfolding after
-ends_untold limit shows begin now hart answer accepted wide opens none h over =
+ends_untold bound limit shows begin now hart answer accepted wide opens none h level over =
     let plan : Plan = begin.core.plan in
     let x : Machine = machine_on hart h.rest in
-    let there : Leads plan limit None (start_on plan x) h.trace h.last =
-    subst (λ (m : Moment). Leads plan limit None m h.trace h.last) (begins begin.core hart h.rest h.rest opens refl)
-    (subst (λ (o : Option (List ℕ)). Leads plan limit o (record { state = begin.core.state; rest = h.rest; output = [] }) h.trace h.last) none h.leads) in
-    let leads : LeadsAnew plan (start_on plan x) 1 h.trace h.last = leads-anew plan limit (start_on plan x) 1 h.trace h.last there in
+    let there : Leads plan bound None (start_on plan x) h.trace h.last =
+    subst (λ (m : Moment). Leads plan bound None m h.trace h.last) (begins begin.core hart h.rest h.rest opens refl)
+    (subst (λ (o : Option (List ℕ)). Leads plan bound o (record { state = begin.core.state; rest = h.rest; output = [] }) h.trace h.last) none h.leads) in
+    let leads : LeadsAnew plan (start_on plan x) 1 h.trace h.last = leads-anew plan bound (start_on plan x) 1 h.trace h.last there in
     let holds : HoldsAnew plan x leads.written h.last = holds_anew plan x (moves_of h.trace) h.last leads.written accepted wide leads.leads in
     let m : Moment = finding holds.rest h.last in
     let r : Refines plan holds.at [] m = refines_held plan holds.at m accepted holds.held holds.level in
-    let level = holds.level in
-    let still : gained holds.at m.state ≡ 0 = omega (arith, level) in
+    let same_count = holds.level in
+    let still : gained holds.at m.state ≡ 0 = omega (arith, same_count) in
     let same : holds.at ≡ r.at = one_after (Some holds.at) holds.at r.at refl (subst (λ (n : ℕ). after (isa_of plan) holds.at n ≡ Some r.at) still r.count) in
-    let count : r.at.hart.retired ≡ h.last.state.retired = ap (λ (k : Machine). k.hart.retired) (sym same) ∙ sym level in
-    let o : Over plan limit h.last = over_here plan limit None x h.trace h.last accepted wide there in
+    let count : r.at.hart.retired ≡ h.last.state.retired = ap (λ (k : Machine). k.hart.retired) (sym same) ∙ sym same_count in
     let state : now.core.state ≡ h.last.state = ap (λ (p : Processor). p.state) h.core in
+    let o : Over plan limit h.last.state = subst (Over plan limit) state level in
     let l : Level plan limit begin now m answer r.at = leveled plan limit holds.at [] begin now m answer r count o.full o.below h.core (left-untold begin.streams now.streams h.last.rest holds.rest h.last.output none h.streams) (subst (λ (s : State). IsOver limit s answer) state over) in
     let goes : GoesTo (isa_of plan) (machine_on hart []) (gained x h.last.state) r.at leads.written = subst (λ (k : Machine). GoesTo (isa_of plan) (machine_on hart []) (gained x h.last.state) k leads.written) same (goes-anew (isa_of plan) hart h.rest (gained x h.last.state) holds.at leads.written holds.goes) in
     (r.at, (leads.written, subst (λ (s : State). GoesTo (isa_of plan) (machine_on hart []) (s.retired - hart.retired) r.at leads.written) (sym state) goes), record { ends = l.ends; retired = l.retired; regs = l.regs; streams = l.streams })
 
--- a run that is over ends as the machine does
-pub ends-sequentially : (limit : ℕ) (shows : Show) (begin now : Place) (hart : Hart) (answer : Answer) → IsAccepted begin.core.plan → length hart.regs ≡ 32 → begin.core ≡ opened begin.core.plan hart → Reaches limit shows begin now → IsOver limit now.core.state answer → EndsAsMachine limit hart begin now answer
-ends-sequentially limit shows begin now hart answer accepted wide opens h over = go begin.streams.input refl
+-- a run that is over where it is level ends as the machine does
+pub ends-level : (bound limit : ℕ) (shows : Show) (begin now : Place) (hart : Hart) (answer : Answer) → IsAccepted begin.core.plan → length hart.regs ≡ 32 → begin.core ≡ opened begin.core.plan hart → Reaches bound shows begin now → Over begin.core.plan limit now.core.state → IsOver limit now.core.state answer → EndsAsMachine limit hart begin now answer
+ends-level bound limit shows begin now hart answer accepted wide opens h level over = go begin.streams.input refl
   where
     go : (o : Option (List ℕ)) → begin.streams.input ≡ o → EndsAsMachine limit hart begin now answer
     go (Some rest) tells =
-        let e = ends_told limit shows begin now hart rest answer accepted wide opens tells h over in
+        let e = ends_told bound limit shows begin now hart rest answer accepted wide opens tells h level over in
         record {
           at = e.0;
           comes = subst (λ (o : Option (List ℕ)). IsAfter (isa_of begin.core.plan) o hart (now.core.state.retired - hart.retired) e.0) (sym tells) e.1;
@@ -206,7 +221,7 @@ ends-sequentially limit shows begin now hart answer accepted wide opens h over =
           streams = e.2.streams;
         }
     go None none =
-        let e = ends_untold limit shows begin now hart answer accepted wide opens none h over in
+        let e = ends_untold bound limit shows begin now hart answer accepted wide opens none h level over in
         record {
           at = e.0;
           comes = subst (λ (o : Option (List ℕ)). IsAfter (isa_of begin.core.plan) o hart (now.core.state.retired - hart.retired) e.0) (sym none) e.1;
@@ -216,8 +231,13 @@ ends-sequentially limit shows begin now hart answer accepted wide opens h over =
           streams = e.2.streams;
         }
 
+-- so does one whose moves were all made below the limit
+pub ends-sequentially : (limit : ℕ) (shows : Show) (begin now : Place) (hart : Hart) (answer : Answer) → IsAccepted begin.core.plan → length hart.regs ≡ 32 → begin.core ≡ opened begin.core.plan hart → Reaches limit shows begin now → IsOver limit now.core.state answer → EndsAsMachine limit hart begin now answer
+ends-sequentially limit shows begin now hart answer accepted wide opens h over =
+    ends-level limit limit shows begin now hart answer accepted wide opens h (over-reached limit shows begin now hart accepted wide opens h) over
+
 -- a run whose last place it is
-same_place : (limit : ℕ) (hart : Hart) (begin now new : Place) (answer : Answer) → new ≡ now → EndsAsMachine limit hart begin now answer → EndsAsMachine limit hart begin new answer
+pub same_place : (limit : ℕ) (hart : Hart) (begin now new : Place) (answer : Answer) → new ≡ now → EndsAsMachine limit hart begin now answer → EndsAsMachine limit hart begin new answer
 same_place limit hart begin now new answer same e = subst (λ (p : Place). EndsAsMachine limit hart begin p answer) (sym same) e
 
 -- so does the run of a script

@@ -27,13 +27,13 @@ use Rattle.cf_semantics.specs.Refines.{Spoke, gained}
 use Rattle.cf_semantics.specs.State.{Moment, cell_at, put_cell}
 use Rattle.cf_refinement.specs.Invariant.{HoldsAfter, HoldsAt, Sound}
 use Rattle.cf_refinement.specs.Sure as sure
-use Rattle.cf_refinement.proofs.Accepted.{accepted_suits}
-use Rattle.cf_refinement.proofs.Kept.{bar_row}
-use Rattle.cf_refinement.proofs.Output.{output_ahead}
-use Rattle.cf_refinement.proofs.Runs.{going, kept, serve_counts}
-use Rattle.cf_refinement.proofs.Serve.{Serves, Scene, scene, serve_ready, next-serve}
-use Rattle.cf_confluence.proofs.Bound.{sound_at}
-use Rattle.cf_confluence.proofs.Rested.{after_gained}
+use Rattle.cf_refinement.proofs.layouts.Accepted.{accepted_suits}
+use Rattle.cf_refinement.proofs.moves.Rows.{bar_row}
+use Rattle.cf_refinement.proofs.claims.Output.{output_ahead}
+use Rattle.cf_refinement.proofs.claims.Runs.{going, kept, serve_counts}
+use Rattle.cf_refinement.proofs.moves.Serve.{Serves, Scene, scene, serve_ready, next-serve}
+use Rattle.cf_confluence.proofs.weight.Bound.{sound_at}
+use Rattle.cf_confluence.proofs.drains.Rested.{after_gained}
 use Rattle.cf_stages.specs.Changes.{passenger_at}
 use Rattle.cf_run.specs.Headline.{IsFrontAfter}
 

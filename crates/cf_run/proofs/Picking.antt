@@ -10,8 +10,8 @@ use Rattle.cf_semantics.specs.Lines.{Line, retires}
 use Rattle.cf_semantics.specs.Moves.{next}
 use Rattle.cf_semantics.specs.State.{State, Moment}
 use Rattle.cf_semantics.specs.Weight.{is_issue}
-use Rattle.cf_refinement.proofs.Accepted.{accepted_suits}
-use Rattle.cf_refinement.proofs.Runs.{going}
+use Rattle.cf_refinement.proofs.layouts.Accepted.{accepted_suits}
+use Rattle.cf_refinement.proofs.claims.Runs.{going}
 use Rattle.cf_untold.specs.Anew.{finding}
 use Rattle.cf_untold.specs.Invariant.{HoldsAnew}
 use Rattle.cf_untold.specs.Paced.{PacesTo}

@@ -17,9 +17,9 @@ use Rattle.cf_semantics.specs.Lines.{Line, line_of, lines, retired_by, retires}
 use Rattle.cf_semantics.specs.Moves.{left, next}
 use Rattle.cf_semantics.specs.Options.{on}
 use Rattle.cf_semantics.specs.State.{State, Moment, cell_at}
-use Rattle.cf_refinement.proofs.Kept.{bar_row}
-use Rattle.cf_refinement.proofs.Leave.{Leaves, leave_ready, next-leave}
-use Rattle.cf_refinement.proofs.Runs.{going, access_counts, climb_counts, emit_counts, execute_counts, exit_counts, fall_counts, issue_counts, launch_counts, meet_counts, recover_counts, send_counts, serve_counts, slide_counts}
+use Rattle.cf_refinement.proofs.moves.Rows.{bar_row}
+use Rattle.cf_refinement.proofs.moves.Leave.{Leaves, leave_ready, next-leave}
+use Rattle.cf_refinement.proofs.claims.Runs.{going, access_counts, climb_counts, emit_counts, execute_counts, exit_counts, fall_counts, issue_counts, launch_counts, meet_counts, recover_counts, send_counts, serve_counts, slide_counts}
 use Rattle.cf_report.specs.Lines.{retired_line}
 use Rattle.cf_run.specs.declared.show.Show.TheVariants as show
 use Rattle.cf_run.specs.Made.{Made, moves_of, retirement, shown, all_shown}

@@ -18,14 +18,14 @@ use Rattle.cf_semantics.specs.State.{State, Moment}
 use Rattle.cf_semantics.specs.Weight.{counts, is_issue, moves_per_issue, weight}
 use Rattle.cf_refinement.specs.Invariant.{HoldsAfter, HoldsAt, Sound}
 use Rattle.cf_refinement.specs.Suited.{Suits}
-use Rattle.cf_refinement.proofs.Accepted.{accepted_suits}
-use Rattle.cf_refinement.proofs.Runs.{going, kept}
+use Rattle.cf_refinement.proofs.layouts.Accepted.{accepted_suits}
+use Rattle.cf_refinement.proofs.claims.Runs.{going, kept}
 use Rattle.cf_refinement.proofs.Theorems.{holds_after}
-use Rattle.cf_confluence.proofs.Bound.{bounded_drain, costs, sound_at}
+use Rattle.cf_confluence.proofs.weight.Bound.{bounded_drain, costs, sound_at}
 use Rattle.cf_confluence.proofs.Candidates.{HasShape, no_other_stuck}
-use Rattle.cf_confluence.proofs.Confluent.{agree, halted_alike}
-use Rattle.cf_confluence.proofs.Determined.{ends_as}
-use Rattle.cf_confluence.proofs.Tidy.{IsTidy, tidy_next, tidy_opened, tidy_run}
+use Rattle.cf_confluence.proofs.drains.Confluent.{agree, halted_alike}
+use Rattle.cf_confluence.proofs.drains.Determined.{ends_as}
+use Rattle.cf_confluence.proofs.drains.Tidy.{IsTidy, tidy_next, tidy_opened, tidy_run}
 use Rattle.cf_run.specs.Headline.{Settles}
 
 -- what every move keeps holds at the moment: the invariant, over the machine, and that the state is tidy

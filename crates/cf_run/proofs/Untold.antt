@@ -14,7 +14,7 @@ use Rattle.cf_semantics.specs.Refines.{gained}
 use Rattle.cf_semantics.specs.Runs.{start as start_on}
 use Rattle.cf_semantics.specs.State.{Moment}
 use Rattle.cf_semantics.specs.Weight.{issues, weight}
-use Rattle.cf_refinement.proofs.Runs.{opened_retired}
+use Rattle.cf_refinement.proofs.claims.Runs.{opened_retired}
 use Rattle.cf_untold.specs.Anew.{finding, GoesTo, LeadsTo}
 use Rattle.cf_untold.specs.Invariant.{HoldsAnew}
 use Rattle.cf_untold.proofs.Bounded.{drain_bounded_anew}

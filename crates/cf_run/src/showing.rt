@@ -64,6 +64,7 @@ fn put_lines<R: Sink>(
 }
 
 /// Puts what is to be shown of a move, the `n`th, that left the processor as it is. Most runs show nothing.
+// The event is copied, so that it need not stand in memory where nothing is shown.
 #[inline(always)]
 pub(crate) fn put_shown<R: Sink>(
     core: &Core,
@@ -80,6 +81,9 @@ pub(crate) fn put_shown<R: Sink>(
 {
     match show {
         Show::Report => Ok(()),
-        Show::Retired | Show::Moves => put_lines(core, show, n, mv, event, report),
+        Show::Retired | Show::Moves => {
+            let event = *event;
+            put_lines(core, show, n, mv, &event, report)
+        }
     }
 }

@@ -1,27 +1,14 @@
--- The first lines, the counts, the registers and the picture stand behind one another.
+-- The rest stands behind the head.
 use Rattle.cf_report.proofs.Puttings.{put-nothing, has-more, has-last, has-failed, failed-more}
 use Rattle.cf_closing.specs.Closing.{whole_closing}
 use Rattle.cf_closing.proofs.closing.put_whole.Goals as goal
 
-pub returns-in_err-put_tally : goal.returns-in_err-put_tally
+pub returns-in_err-put_head : goal.returns-in_err-put_head
 unfolding whole_closing
-returns-in_err-put_tally g c =
-    let bad = c.from_residual-in_err-put_tally.ensures.0 in
-    let head = has-more c.in_ok-put_head.was (put-nothing _ _) (rw c.retired.ensures at c.put_head.ensures) in
-    failed-more _ _ bad (failed-more _ _ bad (has-last head (has-failed _ c.in_err-put_tally.was bad c.put_tally.ensures)))
-
-pub returns-in_err-put_registers : goal.returns-in_err-put_registers
-unfolding whole_closing
-returns-in_err-put_registers g c =
-    let bad = c.from_residual-in_err-put_registers.ensures.0 in
-    let head = has-more c.in_ok-put_head.was (put-nothing _ _) (rw c.retired.ensures at c.put_head.ensures) in
-    let counts = has-more c.in_ok-put_tally.was head c.put_tally.ensures in
-    failed-more _ _ bad (has-last counts (has-failed _ c.in_err-put_registers.was bad (rw c.regs.ensures.registers at c.put_registers.ensures)))
+returns-in_err-put_head g c =
+    let bad = c.from_residual.ensures.0 in
+    failed-more _ _ bad (has-failed _ c.in_err-put_head.was bad c.put_head.ensures)
 
 pub returns : goal.returns
 unfolding whole_closing
-returns g c =
-    let head = has-more c.in_ok-put_head.was (put-nothing _ _) (rw c.retired.ensures at c.put_head.ensures) in
-    let counts = has-more c.in_ok-put_tally.was head c.put_tally.ensures in
-    let regs = has-more c.in_ok-put_registers.was counts (rw c.regs.ensures.registers at c.put_registers.ensures) in
-    has-last regs c.put_picture.ensures
+returns g c = has-last (has-more c.in_ok-put_head.was (put-nothing _ _) c.put_head.ensures) c.put_rest.ensures

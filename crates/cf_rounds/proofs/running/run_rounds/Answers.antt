@@ -1,15 +1,17 @@
 use Rattle.std.proofs.Common.{refl, ap, subst, ◌∙◌, ℕ, arith}
 use Rattle.cf_layout.specs.Layout.{Plan}
 use Rattle.cf_sched.specs.Paces.{HasCounted}
+use Rattle.cf_run.proofs.Bounds.{opened_wide}
+use Rattle.cf_run.proofs.Ending.{over-opened}
 use Rattle.cf_run.proofs.Runs.{counts-within}
-use Rattle.cf_rounds.proofs.Rounding.{comes-closer, comes-counted, comes-end, comes-first, comes-offered, comes-on, comes-small, end-bounded, rounds-sequential}
+use Rattle.cf_rounds.proofs.Rounding.{comes-closer, comes-counted, comes-end, comes-first, comes-offered, comes-on, comes-small, end-bounded, rounds-end, rounds-sequential}
 use Rattle.cf_rounds.proofs.running.run_rounds.Goals as goal
 
 pub loop-clocked-init : goal.loop-clocked-init
 loop-clocked-init g c = record {
   comes = comes-first _ _ _ _ c.requires.tally
       (subst (λ (stages : ℕ). HasCounted stages 0 c.new-pace.result) (c.stages.ensures.stages ∙ ap (λ (plan : Plan). plan.stages) c.layout.ensures.layout) c.new-pace.ensures)
-      c.requires.rounds c.requires.retired;
+      c.requires.rounds c.requires.retired (over-opened _ _ c.requires.opened.hart c.known.ensures.accepted (opened_wide _ c.requires.opened c.known.ensures.registers) c.requires.opened.is);
   input = refl;
   output = refl;
 }
@@ -47,6 +49,9 @@ pub returns-in-Some-clause-run : goal.returns-in-Some-clause-run
 returns-in-Some-clause-run g c =
     let runs = comes-end _ _ _ _ _ _ _ _ c.loop-clocked.invariant.comes c.in-Some.ensures.turns in
     record { runs = runs; sequential = rounds-sequential _ _ _ _ _ c.known.ensures.accepted c.known.ensures.registers runs }
+
+pub returns-in-Some-clause-ends : goal.returns-in-Some-clause-ends
+returns-in-Some-clause-ends g c = rounds-end _ _ _ _ _ _ _ _ c.known.ensures.accepted c.known.ensures.registers c.loop-clocked.invariant.comes c.in-Some.ensures.turns
 
 pub returns-in-Some-clause-bounded : goal.returns-in-Some-clause-bounded
 returns-in-Some-clause-bounded g c = end-bounded _ _ _ _ _ _ _ _ c.known.ensures.accepted c.known.ensures.registers c.requires.opened c.loop-clocked.invariant.comes c.in-Some.ensures.turns
