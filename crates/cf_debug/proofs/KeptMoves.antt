@@ -1,0 +1,130 @@
+-- A move of the debugger keeps a session on its run.
+use Rattle.std.proofs.Common.{◌≡◌, ◌≢◌, ℕ, ◌+◌, ◌≤◌, List, [], ◌∷◌, ◌++◌, Option, Some, None, Ok, Err, refl, sym, ap, subst, ◌∙◌, append-nil, inl, inr, arith}
+use Rattle.std.specs.Prelude.{◌⊎◌}
+use Rattle.cf_io.specs.Causes.{HasCause}
+use Rattle.rv_machine.specs.Streams.{Streams, streams_of}
+use Rattle.cf_layout.specs.Layout.{Plan}
+use Rattle.cf_bind.specs.declared.moves.Move.{Move}
+use Rattle.cf_bind.specs.declared.moves.Move.TheVariants.{Issue, Emit, Climb, Fall, Meet, Execute, Send, Launch, Slide, Access, Recover, Leave, Exit, Serve}
+use Rattle.cf_semantics.specs.declared.event.Event.{Event}
+use Rattle.cf_semantics.specs.Bars.{bar}
+use Rattle.cf_semantics.specs.Kept.{Kept, kept}
+use Rattle.cf_semantics.specs.Moves.{moved, next}
+use Rattle.cf_semantics.specs.State.{Moment, State}
+use Rattle.cf_core.specs.Processors.{Processor, in_state}
+use Rattle.cf_core.specs.Stepping.{Makes, MakesOrFails as StepsOrFails}
+use Rattle.cf_core.specs.Undo.{CanStand, kept_by}
+use Rattle.cf_core.specs.declared.fault.Fault.TheVariants as fault
+use Rattle.cf_core.specs.declared.undo.Undo.{Undo}
+use Rattle.cf_core.proofs.Steps.{next_moved}
+use Rattle.cf_run.proofs.Behind.{next-behind}
+use Rattle.cf_debug.specs.Making.{Bench, MakesOne, FailsOne, bench_of}
+use Rattle.cf_debug.specs.Rings.{WasKept, ring_behind, with_record}
+use Rattle.cf_debug.specs.Standing.{Stands}
+use Rattle.cf_debug.proofs.Standing.{stands-kept, stands-served}
+
+-- what is kept of a move, unless it is Serve
+pub serves-or : (mv : Move) → (mv ≡ Serve) ⊎ ((mv ≢ Serve) × ((plan : Plan) (s : State) (ring : List Kept) → ring_behind plan s mv ring ≡ with_record ring (kept plan s mv)))
+unfolding ring_behind
+serves-or Serve = inl refl
+serves-or (Issue g) = inr ((λ e. cc), (λ plan s ring. refl))
+serves-or Emit = inr ((λ e. cc), (λ plan s ring. refl))
+serves-or (Climb i) = inr ((λ e. cc), (λ plan s ring. refl))
+serves-or (Fall i) = inr ((λ e. cc), (λ plan s ring. refl))
+serves-or (Meet i) = inr ((λ e. cc), (λ plan s ring. refl))
+serves-or (Execute i) = inr ((λ e. cc), (λ plan s ring. refl))
+serves-or (Send i) = inr ((λ e. cc), (λ plan s ring. refl))
+serves-or (Launch i) = inr ((λ e. cc), (λ plan s ring. refl))
+serves-or (Slide k c) = inr ((λ e. cc), (λ plan s ring. refl))
+serves-or Access = inr ((λ e. cc), (λ plan s ring. refl))
+serves-or (Recover i) = inr ((λ e. cc), (λ plan s ring. refl))
+serves-or Leave = inr ((λ e. cc), (λ plan s ring. refl))
+serves-or Exit = inr ((λ e. cc), (λ plan s ring. refl))
+
+-- what is kept of another move than Serve
+kept_other : (mv : Move) → mv ≢ Serve → (plan : Plan) (s : State) (ring : List Kept) → ring_behind plan s mv ring ≡ with_record ring (kept plan s mv)
+kept_other mv other plan s ring = of (serves-or mv)
+  where
+    of : (mv ≡ Serve) ⊎ ((mv ≢ Serve) × ((plan : Plan) (s : State) (ring : List Kept) → ring_behind plan s mv ring ≡ with_record ring (kept plan s mv))) → ring_behind plan s mv ring ≡ with_record ring (kept plan s mv)
+    of (inl serves) = absurd (other serves)
+    of (inr h) = h.1 plan s ring
+
+-- another move than Serve was made and kept
+pub made-other : (mv : Move) (e : Event) (core new : Processor) (ring later : List Kept) (out after : Option (List ℕ)) (undo : Undo) → CanStand core.plan core.state → kept_by undo ≡ kept core.plan core.state mv → bar core.plan core.state mv ≡ None → mv ≢ Serve
+    → StepsOrFails core new mv (streams_of (Some []) out) (streams_of (Some []) after) (Ok e) → later ≡ with_record ring (kept_by undo) → MakesOne mv e (bench_of core ring out) (bench_of new later after)
+unfolding StepsOrFails
+made-other mv e core new ring later out after undo stood is free other h put = record {
+  allowed = free;
+  stood = λ differs. stood;
+  makes = h.0;
+  is_event = h.1;
+  ring = put ∙ ap (with_record ring) is ∙ sym (kept_other mv other core.plan core.state ring);
+}
+
+-- Serve was made, and nothing is kept
+pub made-serve : (e : Event) (core new : Processor) (ring later : List Kept) (out after : Option (List ℕ)) → bar core.plan core.state Serve ≡ None
+    → StepsOrFails core new Serve (streams_of (Some []) out) (streams_of (Some []) after) (Ok e) → later ≡ [] → MakesOne Serve e (bench_of core ring out) (bench_of new later after)
+unfolding StepsOrFails ring_behind
+made-serve e core new ring later out after free h empty = record {
+  allowed = free;
+  stood = λ other. absurd (other refl);
+  makes = h.0;
+  is_event = h.1;
+  ring = empty;
+}
+
+-- the output failed Serve
+pub failed-serve : (core new : Processor) (ring later : List Kept) (out after : Option (List ℕ)) → bar core.plan core.state Serve ≡ None
+    → StepsOrFails core new Serve (streams_of (Some []) out) (streams_of (Some []) after) (Err fault.Write) → FailsOne Serve (bench_of core ring out) (bench_of new later after)
+unfolding StepsOrFails
+failed-serve core new ring later out after free h = record { allowed = free; serves = refl; fails = h.1 }
+
+-- nothing fails another move
+pub never-fails : (mv : Move) (core new : Processor) (before after : Streams) → mv ≢ Serve → StepsOrFails core new mv before after (Err fault.Write) → ⊥
+unfolding StepsOrFails
+never-fails mv core new before after other h = other h.0
+
+pub never-reads : (mv : Move) (core new : Processor) (before after : Streams) → mv ≢ Serve → StepsOrFails core new mv before after (Err fault.Read) → ⊥
+unfolding StepsOrFails
+never-reads mv core new before after other h = other h.0
+
+same_some : {X : Type 0} (x y : X) → Some x ≡ Some y → x ≡ y
+same_some x y h = cc
+
+-- the moment behind a move that finds nothing left, whatever was written before
+behind_move : (now new : Bench) (mv : Move) → Makes now.core new.core mv (streams_of (Some []) now.output) (streams_of (Some []) new.output) → (added : List ℕ) × ((before : List ℕ) → next now.core.plan (record { state = now.core.state; rest = []; output = before }) mv ≡ record { state = new.core.state; rest = []; output = before ++ added })
+behind_move now new mv m =
+    let plan : Plan = now.core.plan in
+    let none : [] ≡ m.later = same_some [] m.later m.leaves.input in
+    let P : List ℕ → List ℕ → Type 0 = λ rest later. next plan (record { state = now.core.state; rest = rest; output = [] }) mv ≡ record { state = new.core.state; rest = later; output = m.added } in
+    let blank : P [] [] = subst (P []) (sym none) (subst (λ (rest : List ℕ). P rest m.later) m.told m.is) in (
+      m.added,
+      λ before.
+          ap (λ (output : List ℕ). next plan (record { state = now.core.state; rest = []; output = output }) mv) (sym (append-nil before))
+          ∙ next-behind plan before (record { state = now.core.state; rest = []; output = [] }) mv
+          ∙ ap (λ (t : Moment). record t { output = before ++ t.output }) blank,
+    )
+
+-- the processor behind another move than Serve
+moved_core : (now new : Bench) (mv : Move) → mv ≢ Serve → Makes now.core new.core mv (streams_of (Some []) now.output) (streams_of (Some []) new.output) → new.core ≡ in_state now.core (moved now.core.plan now.core.state mv)
+moved_core now new mv other m =
+    let plan : Plan = now.core.plan in
+    let led = (behind_move now new mv m).1 [] in
+    let state : new.core.state ≡ moved plan now.core.state mv = ap (λ (t : Moment). t.state) (sym led ∙ next_moved plan (record { state = now.core.state; rest = []; output = [] }) mv other) in
+    ap (λ (p : Plan). record { plan = p; state = new.core.state }) m.plan ∙ ap (in_state now.core) state
+
+-- a session stays on its run behind a move
+pub makes-stands : (start : Processor) (mv : Move) (e : Event) (now new : Bench) → Stands start now.core now.ring → MakesOne mv e now new → Stands start new.core new.ring
+unfolding ring_behind kept
+makes-stands start mv e now new h m = of (serves-or mv)
+  where
+    of : (mv ≡ Serve) ⊎ ((mv ≢ Serve) × ((plan : Plan) (s : State) (ring : List Kept) → ring_behind plan s mv ring ≡ with_record ring (kept plan s mv))) → Stands start new.core new.ring
+    of (inl serves) =
+        let P : Move → Type 0 = λ v. (bar now.core.plan now.core.state v ≡ None) × Makes now.core new.core v (streams_of (Some []) now.output) (streams_of (Some []) new.output) × (new.ring ≡ ring_behind now.core.plan now.core.state v now.ring) in
+        let here : P Serve = subst P serves (m.allowed, m.makes, m.ring) in
+        let led = behind_move now new Serve here.1 in
+        subst (Stands start new.core) (sym here.2) (stands-served start now.core new.core now.ring led.0 h here.0 m.makes.plan led.1)
+    of (inr (other, is)) =
+        let k : Kept = kept now.core.plan now.core.state mv in
+        let was : WasKept now.core.plan now.core.state k = record { stood = m.stood other; allowed = m.allowed; other = other; is = refl } in
+        subst (Stands start new.core) (sym (m.ring ∙ is now.core.plan now.core.state now.ring)) (stands-kept start now.core new.core now.ring k h was (moved_core now new mv other m.makes))

@@ -1,0 +1,81 @@
+-- A command that a line tells asks for at most 16 bytes of memory.
+use Rattle.std.proofs.Common.{◌≡◌, ℕ, ◌≤◌, List, Option, Some, None, Bool, true, false, Ok, Err, refl, sym, subst, ◌∙◌, length, drop, arith}
+use Rattle.std.specs.Prelude.{◌&&◌, ◌==◌, Result, codes, nat_le, nat_lt, if◌then◌else◌}
+use Rattle.std.specs.Str.{bytes_eq}
+use Rattle.std.proofs.lemmas.Bool.Decides.{nat_tests}
+use Rattle.rv_text.specs.Pieces.{name_part, operand_part}
+use Rattle.cf_scripts.specs.declared.refusal.ScriptKind.{ScriptKind}
+use Rattle.cf_scripts.specs.MoveLines.{move_in}
+use Rattle.cf_scripts.specs.Words.{words_of, first_word, first_number}
+use Rattle.cf_bind.specs.declared.moves.Move.{Move as AnyMove}
+use Rattle.cf_debug.specs.declared.command.Command.{Command}
+use Rattle.cf_debug.specs.declared.command.Command.TheVariants.{Nothing, Auto, Show, Registers, Memory, Break, Bound, Back, End}
+use Rattle.cf_debug.specs.declared.command.Refusal.{Refusal}
+use Rattle.cf_debug.specs.declared.command.Refusal.TheVariants.{TooLong, UnknownCommand, BadNumber, ExtraWords}
+use Rattle.cf_debug.specs.Commands.{AsksFew, address_told, alone, and_then, auto_told, break_told, command_in, command_named, memory_told, move_told, number_told, stop_told, within}
+
+-- what is told, if anything is, asks for few
+abbrev Few : Result Command Refusal → Type 0
+Few (Ok command) = AsksFew command
+Few (Err refusal) = Unit {0}
+
+pick : (b : Bool) (x y : Result Command Refusal) → Few x → Few y → Few (if b then x else y)
+pick true x y few other = few
+pick false x y few other = other
+
+alone_few : (words : List (List ℕ)) (command : Command) → AsksFew command → Few (alone words command)
+unfolding alone
+alone_few words command few = pick (length words == 0) (Ok command) (Err ExtraWords) few tt
+
+then_few : {A : Type 0} (r : Result A Refusal) (step : A → Result Command Refusal) → ((a : A) → r ≡ Ok a → Few (step a)) → Few (and_then r step)
+then_few (Ok a) step few = few a refl
+then_few (Err e) step few = tt
+
+move_few : (r : Result AnyMove ScriptKind) → Few (move_told r)
+move_few (Ok mv) = tt
+move_few (Err kind) = tt
+
+within_most : (most : ℕ) (r : Result ℕ ScriptKind) (n : ℕ) → within most r ≡ Ok n → n ≤ most
+within_most most (Err kind) n is = absurd (cc)
+within_most most (Ok k) n is = of (nat_le 1 k && nat_le k most) refl is
+  where
+    same : (k n : ℕ) → ◌≡◌ {A = Result ℕ Refusal} (Ok k) (Ok n) → k ≡ n
+    same k n is = cc
+
+    of : (b : Bool) → (nat_le 1 k && nat_le k most) ≡ b → ◌≡◌ {A = Result ℕ Refusal} (if b then Ok k else Err BadNumber) (Ok n) → n ≤ most
+    of true both is = subst (λ (m : ℕ). m ≤ most) (same k n is) (grind (arith, nat_tests, both))
+    of false both is = absurd (cc)
+
+memory_few : (words : List (List ℕ)) → Few (memory_told words)
+unfolding memory_told number_told
+memory_few words =
+    then_few (address_told (first_word words)) _ (λ address told.
+    then_few (number_told 16 (drop 1 words)) _ (λ len is.
+    alone_few (drop 1 (drop 1 words)) (Memory address len) (within_most 16 (first_number (drop 1 words)) len is)))
+
+auto_few : (words : List (List ℕ)) → Few (auto_told words)
+unfolding auto_told
+auto_few words = then_few (number_told 1000000 words) _ (λ n is. alone_few (drop 1 words) (Auto n) tt)
+
+stop_few : (words : List (List ℕ)) → Few (stop_told words)
+unfolding stop_told
+stop_few words = then_few (break_told (first_word words)) _ (λ stop is. alone_few (drop 1 words) (Break stop) tt)
+
+named_few : (name behind : List ℕ) → Few (command_named name behind)
+unfolding command_named
+named_few name behind =
+    pick (bytes_eq name (codes "")) (Ok Nothing) _ tt
+    (pick (bytes_eq name (codes "move")) (move_told (move_in behind)) _ (move_few (move_in behind))
+    (pick (bytes_eq name (codes "auto")) (auto_told (words_of behind)) _ (auto_few (words_of behind))
+    (pick (bytes_eq name (codes "show")) (alone (words_of behind) Show) _ (alone_few (words_of behind) Show tt)
+    (pick (bytes_eq name (codes "regs")) (alone (words_of behind) Registers) _ (alone_few (words_of behind) Registers tt)
+    (pick (bytes_eq name (codes "mem")) (memory_told (words_of behind)) _ (memory_few (words_of behind))
+    (pick (bytes_eq name (codes "break")) (stop_told (words_of behind)) _ (stop_few (words_of behind))
+    (pick (bytes_eq name (codes "bound")) (alone (words_of behind) Bound) _ (alone_few (words_of behind) Bound tt)
+    (pick (bytes_eq name (codes "back")) (alone (words_of behind) Back) _ (alone_few (words_of behind) Back tt)
+    (pick (bytes_eq name (codes "end")) (alone (words_of behind) End) (Err UnknownCommand) (alone_few (words_of behind) End tt) tt)))))))))
+
+-- a command that a line tells asks for few
+pub few-told : (line : List ℕ) (command : Command) → command_in line ≡ Ok command → AsksFew command
+unfolding command_in
+few-told line command is = subst Few is (pick (nat_lt 256 (length line)) (Err TooLong) (command_named (name_part line) (operand_part line)) tt (named_few (name_part line) (operand_part line)))

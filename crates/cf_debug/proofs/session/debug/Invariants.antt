@@ -1,0 +1,27 @@
+use Rattle.std.proofs.Common.{◌≡◌, ◌+◌, None, length}
+use Rattle.cf_debug.specs.Making.{bench_of}
+use Rattle.cf_debug.specs.Replies.{Desk, desk_of}
+use Rattle.cf_debug.specs.Sessions.{Session, session_of}
+use Rattle.cf_debug.specs.Standing.{Stands}
+use Rattle.cf_debug.proofs.Sessions.{Comes}
+use Rattle.cf_debug.proofs.session.debug.Given as goal
+
+-- the whole lines of the bytes that were used are answered, and no fault was counted
+abbrev pub invariant-loop-byte : goal.invariant-loop-byte
+invariant-loop-byte g l =
+    let left = g.S.Source.left in
+    let written = g.K.Sink.written in
+    let reported = g.R.Sink.written in
+    let begin : Desk = desk_of (bench_of l.initial.core l.initial.ring (written l.initial.output)) None in
+    let now : Desk = desk_of (bench_of l.core l.ring (written l.output)) l.stop in
+    let before : Session = session_of begin.bench (left l.initial.commands) (reported l.initial.report) in
+    record {
+      comes : Comes before begin now (left l.commands) (reported l.report) l.line l.feed;
+      stands : Stands l.initial.core l.core l.ring;
+      commands : g.S.Source.faults l.commands ≡ g.S.Source.faults l.initial.commands;
+      output : g.K.Sink.faults l.output ≡ g.K.Sink.faults l.initial.output;
+      report : g.R.Sink.faults l.report ≡ g.R.Sink.faults l.initial.report;
+    }
+
+abbrev pub decreases-loop-byte : goal.decreases-loop-byte
+decreases-loop-byte g l = l.feed.left + length l.feed.rest

@@ -1,0 +1,13 @@
+use Rattle.std.proofs.Common.{◌≡◌, sym, ap, ◌∙◌}
+use Rattle.rv_machine.specs.Hart.{Hart}
+use Rattle.cf_layout.specs.Layout.{Plan}
+use Rattle.cf_core.specs.Processors.{Processor, opened}
+use Rattle.cf_run.specs.Policies.{IsOpened}
+use Rattle.cf_debug.proofs.tests.core_of.Goals as goal
+
+opened_is : (core : Processor) (plan : Plan) (hart : Hart) → core ≡ opened plan hart → IsOpened core
+unfolding opened
+opened_is core plan hart is = record { hart = hart; is = is ∙ ap (λ (p : Plan). opened p hart) (sym (ap (λ (c : Processor). c.plan) is)) }
+
+pub returns : goal.returns
+returns c = λ made. opened_is _ _ _ made.in_ok-new.ensures

@@ -1,0 +1,90 @@
+-- What a line tells the debugger (a format of this project): a command by its first word, and what has to stand behind that.
+use Rattle.std.specs.Prelude.{ℕ, ◌≤◌, ◌==◌, ◌&&◌, List, [], drop, length, Option, Some, None, Result, Ok, Err, codes, nat_le, nat_lt, if◌then◌else◌}
+use Rattle.std.specs.Str.{bytes_eq}
+use Rattle.rv_text.specs.Pieces.{name_part, operand_part}
+use Rattle.cf_bind.specs.declared.moves.Move.{Move as AnyMove}
+use Rattle.cf_scripts.specs.declared.refusal.ScriptKind.{ScriptKind}
+use Rattle.cf_scripts.specs.MoveLines.{move_in}
+use Rattle.cf_scripts.specs.Words.{words_of, first_word, first_number, address_in}
+use Rattle.cf_debug.specs.declared.command.Command.{Command}
+use Rattle.cf_debug.specs.declared.command.Command.TheVariants.{Nothing, Move, Auto, Show, Registers, Memory, Break, Bound, Back, End}
+use Rattle.cf_debug.specs.declared.command.Refusal.{Refusal}
+use Rattle.cf_debug.specs.declared.command.Refusal.TheVariants.{TooLong, UnknownCommand, BadNumber, ExtraWords, Script}
+use Rattle.cf_debug.specs.Limits.{longest_line, most_moves}
+
+-- the first refusal, or what the second step makes of the first one's answer
+abbrev pub and_then : {A B : Type 0} → Result A Refusal → (A → Result B Refusal) → Result B Refusal
+and_then (Ok a) step = step a
+and_then (Err e) step = Err e
+
+-- a number that must be there, from one up to a limit
+abbrev pub within : ℕ → Result ℕ ScriptKind → Result ℕ Refusal
+within most (Err kind) = Err BadNumber
+within most (Ok n) = if nat_le 1 n && nat_le n most then Ok n else Err BadNumber
+
+-- an address that must be there
+abbrev pub needed : Option ℕ → Result ℕ Refusal
+needed None = Err BadNumber
+needed (Some address) = Ok address
+
+-- a number that the first word spells in one to nine decimal digits, from one up to a limit
+unfoldable pub number_told : ℕ → List (List ℕ) → Result ℕ Refusal
+number_told most words = within most (first_number words)
+
+-- the address that a word spells in eight hexadecimal digits
+unfoldable pub address_told : List ℕ → Result ℕ Refusal
+address_told word = needed (address_in word)
+
+-- an address, or `none`
+unfoldable pub break_told : List ℕ → Result (Option ℕ) Refusal
+break_told word = if bytes_eq word (codes "none") then Ok None else and_then (address_told word) (λ a. Ok (Some a))
+
+-- a command behind which no word is left
+unfoldable pub alone : List (List ℕ) → Command → Result Command Refusal
+alone words command = if length words == 0 then Ok command else Err ExtraWords
+
+-- the move that the text behind `move` tells, as a line of a script
+abbrev pub move_told : Result AnyMove ScriptKind → Result Command Refusal
+move_told (Ok mv) = Ok (Move mv)
+move_told (Err kind) = Err (Script kind)
+
+-- how many moves
+unfoldable pub auto_told : List (List ℕ) → Result Command Refusal
+auto_told words = and_then (number_told most_moves words) (λ n. alone (drop 1 words) (Auto n))
+
+-- an address and how many bytes, up to 16
+unfoldable pub memory_told : List (List ℕ) → Result Command Refusal
+memory_told words =
+    and_then (address_told (first_word words)) (λ address.
+    and_then (number_told 16 (drop 1 words)) (λ len.
+    alone (drop 1 (drop 1 words)) (Memory address len)))
+
+-- where to break
+unfoldable pub stop_told : List (List ℕ) → Result Command Refusal
+stop_told words = and_then (break_told (first_word words)) (λ stop. alone (drop 1 words) (Break stop))
+
+-- the command of this name, with the text behind it
+unfoldable pub command_named : List ℕ → List ℕ → Result Command Refusal
+command_named name behind =
+    if bytes_eq name (codes "") then Ok Nothing
+    else if bytes_eq name (codes "move") then move_told (move_in behind)
+    else if bytes_eq name (codes "auto") then auto_told (words_of behind)
+    else if bytes_eq name (codes "show") then alone (words_of behind) Show
+    else if bytes_eq name (codes "regs") then alone (words_of behind) Registers
+    else if bytes_eq name (codes "mem") then memory_told (words_of behind)
+    else if bytes_eq name (codes "break") then stop_told (words_of behind)
+    else if bytes_eq name (codes "bound") then alone (words_of behind) Bound
+    else if bytes_eq name (codes "back") then alone (words_of behind) Back
+    else if bytes_eq name (codes "end") then alone (words_of behind) End
+    else Err UnknownCommand
+
+-- what a line tells, or the first refusal
+unfoldable pub command_in : List ℕ → Result Command Refusal
+command_in line =
+    if nat_lt longest_line (length line) then Err TooLong
+    else command_named (name_part line) (operand_part line)
+
+-- a command asks for at most 16 bytes of memory
+abbrev pub AsksFew : Command → Type 0
+AsksFew (Memory address len) = len ≤ 16
+AsksFew command = Unit {0}

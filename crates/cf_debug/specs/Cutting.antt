@@ -1,0 +1,53 @@
+-- How the bytes of the commands are cut into lines (POSIX, "Line"), as they are taken.
+use Rattle.std.specs.Prelude.{◌≡◌, ◌≢◌, ℕ, ◌+◌, ◌<◌, ◌≤◌, List, [], ◌∷◌, ◌++◌, All, length, map, take, Option, Some, None, Result, Ok, Err}
+use Rattle.cf_io.specs.Takes.{IsAtEnd}
+use Rattle.rv_machine.specs.Streams.{Gives}
+use Rattle.rv_text.specs.Lines.{without_return}
+use Rattle.cf_debug.specs.declared.feed.Next.{Next}
+use Rattle.cf_debug.specs.declared.feed.Next.TheVariants.{Byte, AtEnd, TooMany, Fault}
+use Rattle.cf_debug.specs.Limits.{longest_line, most_taken}
+
+-- no line feed
+abbrev pub IsPiece : List ℕ → Type 0
+IsPiece piece = All (λ byte. byte ≢ 10) piece
+
+-- the pieces, each with a line feed behind it, and then the rest
+unfoldable pub joined : List (List ℕ) → List ℕ → List ℕ
+joined [] rest = rest
+joined (piece ∷ pieces) rest = piece ++ 10 ∷ joined pieces rest
+
+-- the bytes are these lines, each ended by a line feed, before which one carriage return is dropped; and behind them the unfinished one
+pub record HasLines (bytes : List ℕ) (lines : List (List ℕ)) (unfinished : List ℕ) : Type 0 where
+  pub pieces : List (List ℕ)
+  pub are_pieces : All IsPiece pieces
+  pub is_piece : IsPiece unfinished
+  pub bytes_are : bytes ≡ joined pieces unfinished
+  pub lines_are : lines ≡ map without_return pieces
+
+-- at the end of the commands the unfinished line is one, unless it is empty
+abbrev pub last_line : List ℕ → List (List ℕ)
+last_line [] = []
+last_line (byte ∷ line) = (byte ∷ line) ∷ []
+
+-- of an unfinished line as much is held as tells whether it is too long, with a carriage return too
+abbrev pub held : List ℕ → List ℕ
+held line = take (longest_line + 2) line
+
+-- the bytes that were taken and not used yet, and how many may be taken still
+pub record Feeding : Type 0 where
+  pub rest : List ℕ
+  pub left : ℕ
+
+-- the next byte of the commands: where none that was taken is left, some are taken; or the commands are at their end, or there are more than may be, or a take failed
+unfoldable pub Feeds : (before after : Option (List ℕ)) → (now new : Feeding) → Next → Type 0
+Feeds before after now new (Byte byte) =
+    (taken : List ℕ) × Gives before after taken × (now.rest ++ taken ≡ byte ∷ new.rest)
+    × (new.left + length taken ≡ now.left) × (length new.rest < most_taken)
+Feeds before after now new AtEnd = (now.rest ≡ []) × IsAtEnd before × Gives before after [] × (new ≡ now)
+Feeds before after now new TooMany = (now.rest ≡ []) × (now.left ≡ 0) × ((byte : ℕ) × Gives before after (byte ∷ [])) × (new ≡ now)
+Feeds before after now new Fault = (now.rest ≡ []) × Gives before after [] × (new ≡ now)
+
+-- an error where a take failed
+abbrev pub commands_fed : Next → Result (Unit {0}) (Unit {0})
+commands_fed Fault = Err tt
+commands_fed next = Ok tt

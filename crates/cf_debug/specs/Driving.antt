@@ -1,0 +1,101 @@
+-- Moves in turn: the debugger picks them as a run under the policy Round does, until there are enough, the run is over, or an instruction at the break address is issued.
+use Rattle.std.specs.Prelude.{◌≡◌, ◌⊎◌, ℕ, ◌<◌, ◌≤◌, ◌==◌, ◌&&◌, List, [], ◌∷◌, ◌++◌, length, Option, Some, None, Bool, true, false}
+use Rattle.cf_bind.specs.declared.moves.Move.{Move}
+use Rattle.cf_bind.specs.declared.moves.Move.TheVariants.{Serve}
+use Rattle.cf_bind.specs.declared.packet.Fetch.{Fetch}
+use Rattle.cf_bind.specs.declared.packet.Fetch.TheVariants.{Running, Waiting}
+use Rattle.cf_semantics.specs.State.{State}
+use Rattle.cf_semantics.specs.Weight.{is_issue}
+use Rattle.cf_sched.specs.Policies.{round_pick, round_on}
+use Rattle.cf_run.specs.Made.{Made, retirement}
+use Rattle.cf_run.specs.Policies.{Chooser, fresh, choice, behind_choice}
+use Rattle.cf_run.specs.Reaching.{GoesOn}
+use Rattle.cf_debug.specs.Limits.{most_retired}
+use Rattle.cf_debug.specs.Making.{Bench, MakesOne, FailsOne}
+
+-- fetch runs at the address
+abbrev pub runs_at : ℕ → Fetch → Bool
+runs_at address (Running pc) = pc == address
+runs_at address Waiting = false
+
+-- the move issues an instruction at the break address, where there is one; whatever the guess
+abbrev pub breaks : Option ℕ → State → Move → Bool
+breaks None s mv = false
+breaks (Some address) s mv = is_issue mv && runs_at address s.fetch
+
+-- the last move that Round picked, and the Issue moves that the hold rule has counted
+abbrev pub Turn : Type 0
+Turn = Chooser (Option Move)
+
+-- before the first pick
+abbrev pub first_turn : Turn
+first_turn = fresh None
+
+-- the move that is picked in the state
+abbrev pub pick : Turn → Bench → Option Move
+pick at now = choice round_pick now.core.plan at now.core.state
+
+-- the turn behind a move that was made
+abbrev pub next_turn : Turn → Bench → Made → Turn
+next_turn at now made = behind_choice round_on now.core.plan at now.core.state made
+
+-- the run goes on, and the move that is picked was made
+pub record Takes (at : Turn) (made : Made) (now new : Bench) : Type 0 where
+  pub goes : GoesOn most_retired now.core.state
+  pub pick_is : pick at now ≡ Some made.move
+  pub makes : MakesOne made.move made.event now new
+  pub state : made.state ≡ new.core.state
+
+-- the moves were made one after another, and none issued an instruction at the break address
+unfoldable pub Passes : Option ℕ → Turn → Bench → List Made → Turn → Bench → Type 0
+Passes stop at now [] last new = (last ≡ at) × (new ≡ now)
+Passes stop at now (made ∷ trace) last new =
+    (next : Bench) × Takes at made now next × (breaks stop now.core.state made.move ≡ false)
+    × Passes stop (next_turn at now made) next trace last new
+
+-- the lines of the instructions that retired
+unfoldable pub retirements : List Made → List ℕ
+retirements [] = []
+retirements (made ∷ trace) = retirement made.state.retired made.event ++ retirements trace
+
+-- behind so many of n moves: there are enough, or the run is over; or the next one issues an instruction at the break address, and is the last
+abbrev pub Pauses : ℕ → Option ℕ → ℕ → Turn → (now new : Bench) → List Made → Type 0
+Pauses n stop count at now new [] = (new ≡ now) × ((count ≡ n) ⊎ (GoesOn most_retired now.core.state → ⊥))
+Pauses n stop count at now new (made ∷ []) =
+    (count < n) × Takes at made now new × (breaks stop now.core.state made.move ≡ true)
+Pauses n stop count at now new (made ∷ other ∷ more) = ⊥
+
+-- at most n moves were made, so many, with these lines of the instructions that retired
+pub record Drives (n : ℕ) (stop : Option ℕ) (start new : Bench) (count : ℕ) (lines : List ℕ) : Type 0 where
+  pub trace : List Made
+  pub at : Turn
+  pub now : Bench
+  pub passes : Passes stop first_turn start trace at now
+  pub within : length trace ≤ n
+  pub last : List Made
+  pub pauses : Pauses n stop (length trace) at now new last
+  pub count_is : count ≡ length (trace ++ last)
+  pub lines_are : lines ≡ retirements (trace ++ last)
+
+-- fewer than n moves were made, and one more, with these lines
+pub record DrivesOn (n : ℕ) (stop : Option ℕ) (start new : Bench) (lines : List ℕ) : Type 0 where
+  pub trace : List Made
+  pub at : Turn
+  pub now : Bench
+  pub passes : Passes stop first_turn start trace at now
+  pub below : length trace < n
+  pub made : Made
+  pub takes : Takes at made now new
+  pub lines_are : lines ≡ retirements (trace ++ made ∷ [])
+
+-- fewer than n moves were made, with these lines, and the output fails the call of the next
+pub record DrivesAground (n : ℕ) (stop : Option ℕ) (start new : Bench) (lines : List ℕ) : Type 0 where
+  pub trace : List Made
+  pub at : Turn
+  pub now : Bench
+  pub passes : Passes stop first_turn start trace at now
+  pub below : length trace < n
+  pub goes : GoesOn most_retired now.core.state
+  pub pick_is : pick at now ≡ Some Serve
+  pub fails : FailsOne Serve now new
+  pub lines_are : lines ≡ retirements trace

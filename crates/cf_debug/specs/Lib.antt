@@ -1,0 +1,10 @@
+pub mod Limits
+pub mod Rings
+pub mod Making
+pub mod Driving
+pub mod Commands
+pub mod Replies
+pub mod Cutting
+pub mod Standing
+pub mod Outcomes
+pub mod Sessions

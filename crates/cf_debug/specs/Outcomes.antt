@@ -1,0 +1,64 @@
+-- What is left behind a command, or a move of `auto`: it is done and its answer put, or the report failed behind a front of that, or the output failed it.
+use Rattle.std.specs.Prelude.{◌≡◌, ℕ, List, Option, Some, Bool, Result, Ok, Err}
+use Rattle.cf_io.specs.Puts.{Writes, WritesFront}
+use Rattle.cf_io.specs.declared.failed.Failed.{Failed}
+use Rattle.cf_bind.specs.declared.moves.Move.TheVariants.{Serve}
+use Rattle.cf_semantics.specs.Drained.{is_drained}
+use Rattle.cf_semantics.specs.Holding.{paced}
+use Rattle.cf_sched.specs.Paces.{stopped}
+use Rattle.cf_report.specs.Putting.{PutsText}
+use Rattle.cf_run.specs.Made.{Made, retirement}
+use Rattle.cf_run.specs.Reaching.{GoesOn}
+use Rattle.cf_debug.specs.declared.answer.Broken.{Broken}
+use Rattle.cf_debug.specs.declared.answer.Broken.TheVariants as broken
+use Rattle.cf_debug.specs.declared.command.Command.{Command}
+use Rattle.cf_debug.specs.Driving.{Turn, Takes, Drives, DrivesOn, DrivesAground, breaks, next_turn, pick}
+use Rattle.cf_debug.specs.Limits.{most_retired}
+use Rattle.cf_debug.specs.Making.{Bench, FailsOne}
+use Rattle.cf_debug.specs.Replies.{Desk, Carries, CarriesPart, RunsAground, TakesBack}
+
+-- the turn behind a move, by a count that stops where Issue is held back
+pub record IsNextTurn (at later : Turn) (now : Bench) (made : Made) : Type 0 where
+  pub policy : later.policy ≡ (next_turn at now made).policy
+  pub count : later.count ≡ stopped now.core.plan.stages (next_turn at now made).count
+
+-- what a move of `auto` leaves, and whether it issued an instruction at the break address
+unfoldable pub Steers : Option ℕ → (at later : Turn) → (now new : Bench) → (written after : Option (List ℕ)) → Result Bool Broken → Type 0
+Steers stop at later now new written after (Ok last) =
+    (made : Made) × Takes at made now new × (breaks stop now.core.state made.move ≡ last) × IsNextTurn at later now made
+    × Writes written after (retirement made.state.retired made.event)
+Steers stop at later now new written after (Err broken.Report) =
+    (made : Made) × Takes at made now new × WritesFront written after (retirement made.state.retired made.event)
+Steers stop at later now new written after (Err broken.Output) =
+    GoesOn most_retired now.core.state × (pick at now ≡ Some Serve) × FailsOne Serve now new × (after ≡ written)
+
+-- what the moves of `auto` leave, and how many there were
+unfoldable pub DrivesOut : ℕ → Option ℕ → (now new : Bench) → (written after : Option (List ℕ)) → Result ℕ Broken → Type 0
+DrivesOut n stop now new written after (Ok count) = (lines : List ℕ) × Drives n stop now new count lines × Writes written after lines
+DrivesOut n stop now new written after (Err broken.Report) = (lines : List ℕ) × DrivesOn n stop now new lines × WritesFront written after lines
+DrivesOut n stop now new written after (Err broken.Output) = (lines : List ℕ) × DrivesAground n stop now new lines × Writes written after lines
+
+-- only the report can fail a command that makes no move
+abbrev pub of_report : Result (Unit {0}) Failed → Result (Unit {0}) Broken
+of_report (Ok done) = Ok tt
+of_report (Err failed) = Err broken.Report
+
+-- what `back` leaves, and what is put
+abbrev pub PutsBack : (now new : Bench) → (written after : Option (List ℕ)) → (before faults : ℕ) → Result (Unit {0}) Failed → Type 0
+PutsBack now new written after before faults answer = (text : List ℕ) × TakesBack now new text × PutsText written after before faults text answer
+
+-- what a command leaves: it is carried out and its answer put; or the report failed behind a front of that, or the output failed it
+unfoldable pub CarriesOut : Command → (now new : Desk) → (written after : Option (List ℕ)) → Result (Unit {0}) Broken → Type 0
+CarriesOut command now new written after (Ok done) = (text : List ℕ) × Carries command now new text × Writes written after text
+CarriesOut command now new written after (Err broken.Report) = (text : List ℕ) × CarriesPart command now new text × WritesFront written after text
+CarriesOut command now new written after (Err broken.Output) = (text : List ℕ) × RunsAground command now new text × Writes written after text
+
+-- an error where the output failed
+abbrev pub output_broken : {T : Type 0} → Result T Broken → Result (Unit {0}) (Unit {0})
+output_broken (Err broken.Output) = Err tt
+output_broken answer = Ok tt
+
+-- an error where the report failed
+abbrev pub report_broken : {T : Type 0} → Result T Broken → Result (Unit {0}) (Unit {0})
+report_broken (Err broken.Report) = Err tt
+report_broken answer = Ok tt

@@ -1,0 +1,33 @@
+-- The ring of what is kept of moves, the oldest first, so that they can be taken back, the newest first.
+use Rattle.std.specs.Prelude.{◌≡◌, ◌≢◌, ℕ, List, [], ◌∷◌, ◌++◌, None}
+use Rattle.circular_buffer.specs.Buffer.{keep_last}
+use Rattle.cf_layout.specs.Layout.{Plan}
+use Rattle.cf_bind.specs.declared.moves.Move.{Move}
+use Rattle.cf_bind.specs.declared.moves.Move.TheVariants.{Serve}
+use Rattle.cf_semantics.specs.Bars.{bar}
+use Rattle.cf_semantics.specs.Kept.{Kept, kept}
+use Rattle.cf_semantics.specs.Moves.{moved}
+use Rattle.cf_semantics.specs.State.{State}
+use Rattle.cf_core.specs.Undo.{CanStand}
+use Rattle.cf_debug.specs.Limits.{most_kept}
+
+-- with one record more, for which the oldest goes out of a full ring
+abbrev pub with_record : List Kept → Kept → List Kept
+with_record ring k = keep_last most_kept (ring ++ k ∷ [])
+
+-- the ring behind a move: what the move writes is kept; but Serve empties it, for its output cannot be taken back
+unfoldable pub ring_behind : Plan → State → Move → List Kept → List Kept
+ring_behind plan s Serve ring = []
+ring_behind plan s mv ring = with_record ring (kept plan s mv)
+
+-- a move other than Serve was allowed in the state, and this was kept of it
+pub record WasKept (plan : Plan) (s : State) (k : Kept) : Type 0 where
+  pub stood : CanStand plan s
+  pub allowed : bar plan s k.move ≡ None
+  pub other : k.move ≢ Serve
+  pub is : k ≡ kept plan s k.move
+
+-- the records were kept of moves that lead from one state to another
+unfoldable pub Leads : Plan → State → List Kept → State → Type 0
+Leads plan s [] last = last ≡ s
+Leads plan s (k ∷ ring) last = WasKept plan s k × Leads plan (moved plan s k.move) ring last

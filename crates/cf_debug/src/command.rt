@@ -1,0 +1,57 @@
+//! The commands of the debugger, and why a line tells none.
+
+use cf_bind::Move as AnyMove;
+use cf_scripts::ScriptKind;
+
+/// A command of the debugger.
+#[derive(Clone, Copy, PartialEq, Eq)]
+pub(crate) enum Command {
+    /// A line without words.
+    Nothing,
+
+    /// Makes a move.
+    Move(AnyMove),
+
+    /// Makes so many moves in turn, at most.
+    Auto(u32),
+
+    /// Shows the picture of the processor.
+    Show,
+
+    /// Shows the registers.
+    Registers,
+
+    /// Shows so many bytes of memory, from an address on.
+    Memory(u32, u32),
+
+    /// Sets the address at which `auto` stops, or that it stops at none.
+    Break(Option<u32>),
+
+    /// Shows the weight of what stands in the processor.
+    Bound,
+
+    /// Takes the last move back.
+    Back,
+
+    /// Ends the session.
+    End,
+}
+
+/// Why a line tells no command, in the order in which it is tested.
+#[derive(Clone, Copy, PartialEq, Eq)]
+pub(crate) enum Refusal {
+    /// The line has more than 256 bytes.
+    TooLong,
+
+    /// The first word is no command.
+    UnknownCommand,
+
+    /// A number or an address is missing or misspelt, or out of its range.
+    BadNumber,
+
+    /// There are more words than the command has.
+    ExtraWords,
+
+    /// What stands behind `move` is no move of a script.
+    Script(ScriptKind),
+}

@@ -1,0 +1,133 @@
+//! The bytes of the commands, one after another.
+
+ghost use Rattle.std.specs.Prelude.{◌≡◌, ◌<◌, ◌≤◌, ◌+◌, [], ◌∷◌, length, false, true, IfOk, OnErr, OnOk};
+ghost use Rattle.cf_io.specs.Causes.{HasCause};
+ghost use Rattle.cf_io.specs.Takes.{IsAtEnd};
+ghost use Rattle.rv_machine.specs.Streams.{Gives};
+ghost use Rattle.cf_debug.specs.Cutting.{Feeding, Feeds, commands_fed};
+
+use cf_io::{Failed, Source};
+use std::marker::Model;
+
+/// What comes next of the commands.
+#[derive(Clone, Copy, PartialEq, Eq)]
+pub(crate) enum Next {
+    /// A byte.
+    Byte(u8),
+
+    /// Nothing: the commands are at their end.
+    AtEnd,
+
+    /// As many bytes were taken as may be, and there are more.
+    TooMany,
+
+    /// A take failed.
+    Fault,
+}
+
+/// The bytes that were taken of the commands and not used yet, and how many may be taken still, of 16,777,216.
+#[derive(Drop)]
+pub(crate) struct Feed {
+    piece: [u8; 4096],
+    at: usize,
+    end: usize,
+    left: usize,
+}
+
+impl Model for Feed {
+    ghost use Rattle.std.specs.Prelude.{◌≤◌, drop, take};
+    ghost use Rattle.cf_debug.specs.Cutting.{Feeding as Seen};
+
+    ghost Value = { Seen };
+
+    ghost view = { λ feed. record { rest = drop feed.at (take feed.end feed.piece); left = feed.left } };
+
+    ghost invariant = { λ feed. (feed.at ≤ feed.end) × (feed.end ≤ 4096) };
+}
+
+/// Takes one byte more than may be taken, to tell whether there is one.
+#[tactic(auto, unfolding(crate::specs::Cutting::Feeds))]
+fn one_more<S: Source>(commands: &mut S) -> Next
+    ensures feeds { (feed : Feeding) → feed.rest ≡ [] → feed.left ≡ 0 → Feeds (S.left commands.old) (S.left commands.new) feed feed result }
+    ensures cause { HasCause (S.faults commands.old) (S.faults commands.new) (commands_fed result) }
+{
+    let mut byte = [0];
+    match commands.take(&mut byte) {
+        Ok(0) => Next::AtEnd,
+        Ok(_) => Next::TooMany,
+        Err(_) => Next::Fault,
+    }
+}
+
+impl Feed {
+    /// Nothing was taken yet.
+    pub(crate) fn new() -> Feed
+        ensures { result ≡ record { rest = []; left = 16777216 } }
+    {
+        Feed {
+            piece: [0; 4096],
+            at: 0,
+            end: 0,
+            left: 16_777_216,
+        }
+    }
+
+    /// Takes some bytes, where none is left that was taken, and answers how many.
+    fn fill<S: Source>(&mut self, commands: &mut S) -> Result<usize, Failed>
+        requires none { self.old.rest ≡ [] }
+        requires some { 0 < self.old.left }
+        ensures taken { OnOk result (Gives (S.left commands.old) (S.left commands.new) self.new.rest) }
+        ensures count { IfOk result (λ count. count ≡ length self.new.rest) }
+        ensures left { OnOk result (self.new.left + length self.new.rest ≡ self.old.left) }
+        ensures few { OnOk result (length self.new.rest ≤ 4096) }
+        ensures end { IfOk result (λ count. count ≡ 0 → IsAtEnd (S.left commands.old)) }
+        ensures failed { OnErr result ((self.new ≡ self.old) × Gives (S.left commands.old) (S.left commands.new) []) }
+        ensures cause { HasCause (S.faults commands.old) (S.faults commands.new) result }
+    {
+        let room = self.left.min(4096);
+        let count = commands.take(&mut self.piece[..room])?;
+        self.at = 0;
+        self.end = count;
+        self.left -= count;
+        Ok(count)
+    }
+
+    /// The next byte that was taken.
+    fn use_byte(&mut self) -> u8
+        requires { 0 < length self.old.rest }
+        ensures byte { self.old.rest ≡ result ∷ self.new.rest }
+        ensures left { self.new.left ≡ self.old.left }
+    {
+        let byte = self.piece[self.at];
+        self.at += 1;
+        byte
+    }
+
+    /// Whether no byte is left that was taken.
+    #[tactic(auto, using(crate::proofs::Cutting::nothing_behind, crate::proofs::Cutting::something_behind))]
+    fn is_used(&self) -> bool
+        ensures yes { result ≡ true → self.now.rest ≡ [] }
+        ensures no { result ≡ false → 0 < length self.now.rest }
+    {
+        self.at == self.end
+    }
+
+    /// The next byte of the commands, or why none comes. Bytes are taken only where none is left that was taken: a take asks for
+    /// 4,096 of them, or for as many as may be taken still.
+    pub(crate) fn next<S: Source>(&mut self, commands: &mut S) -> Next
+        ensures feeds { Feeds (S.left commands.old) (S.left commands.new) self.old self.new result }
+        ensures cause { HasCause (S.faults commands.old) (S.faults commands.new) (commands_fed result) }
+    {
+        if !self.is_used() {
+            return Next::Byte(self.use_byte());
+        }
+        if self.left == 0 {
+            return one_more(commands);
+        }
+        match self.fill(commands) {
+            Ok(0) => Next::AtEnd,
+            Ok(_) => Next::Byte(self.use_byte()),
+            Err(_) => Next::Fault,
+        }
+    }
+}

@@ -1,0 +1,21 @@
+//! The debugger: commands, one a line, that make moves of the processor, show it, and take moves back.
+#![tactic(auto)]
+
+mod answer;
+mod carrying;
+mod command;
+mod driving;
+mod feed;
+mod making;
+mod pending;
+mod reading;
+mod replies;
+mod ring;
+mod session;
+
+pub use answer::Debugged;
+pub use ring::Ring;
+pub use session::debug;
+
+#[cfg(test)]
+mod tests;

@@ -1,0 +1,74 @@
+//! A move of the debugger.
+#![tactic(auto, unfolding(crate::specs::Making::MakesOrFails))]
+
+ghost use Rattle.std.specs.Prelude.{◌≡◌, ◌≢◌, ◌+◌, ◌<◌, ◌^◌, None};
+ghost use Rattle.cf_io.specs.Causes.{HasCause};
+ghost use Rattle.cf_bind.specs.declared.moves.Move.TheVariants as moves;
+ghost use Rattle.cf_semantics.specs.Bars.{bar};
+ghost use Rattle.cf_debug.specs.Making.{bench_of, MakesOne, MakesOrFails};
+
+use crate::ring::Ring;
+use cf_bind::Move;
+use cf_core::{Core, Event, Fault};
+use cf_io::{Empty, Failed, Sink};
+
+/// Serve is made. It cannot be taken back, so that nothing is kept then.
+fn serve<K: Sink>(core: &mut Core, ring: &mut Ring, output: &mut K) -> Result<Event, Failed>
+    requires allowed { bar core.old.plan core.old.state moves.Serve ≡ None }
+    requires retired { core.old.state.retired + 1 < 2 ^ 64 }
+    ensures makes { MakesOrFails moves.Serve
+        (bench_of core.old ring.old (K.written output.old))
+        (bench_of core.new ring.new (K.written output.new)) result }
+    ensures output { HasCause (K.faults output.old) (K.faults output.new) result }
+{
+    match core.make(Move::Serve, &mut Empty, output) {
+        Ok(event) => {
+            ring.clear();
+            Ok(event)
+        }
+        Err(Fault::Write) => Err(Failed),
+        Err(Fault::Read) => unreachable!(),
+    }
+}
+
+/// Another move is made and kept.
+fn make_other<K: Sink>(core: &mut Core, ring: &mut Ring, mv: Move, output: &mut K) -> Event
+    requires allowed { bar core.old.plan core.old.state mv ≡ None }
+    requires other { mv ≢ moves.Serve }
+    requires retired { core.old.state.retired + 1 < 2 ^ 64 }
+    ensures makes { MakesOne mv result
+        (bench_of core.old ring.old (K.written output.old))
+        (bench_of core.new ring.new (K.written output.new)) }
+    ensures output { K.faults output.new ≡ K.faults output.old }
+{
+    let undo = core.before(mv);
+    match core.make(mv, &mut Empty, output) {
+        Ok(event) => {
+            ring.push(undo);
+            event
+        }
+        Err(Fault::Write) => unreachable!(),
+        Err(Fault::Read) => unreachable!(),
+    }
+}
+
+/// Makes an allowed move and keeps it, and tells what is seen of it; or the output failed its call.
+pub(crate) fn make<K: Sink>(
+    core: &mut Core,
+    ring: &mut Ring,
+    mv: Move,
+    output: &mut K,
+) -> Result<Event, Failed>
+    requires allowed { bar core.old.plan core.old.state mv ≡ None }
+    requires retired { core.old.state.retired + 1 < 2 ^ 64 }
+    ensures makes { MakesOrFails mv
+        (bench_of core.old ring.old (K.written output.old))
+        (bench_of core.new ring.new (K.written output.new)) result }
+    ensures output { HasCause (K.faults output.old) (K.faults output.new) result }
+{
+    if mv == Move::Serve {
+        serve(core, ring, output)
+    } else {
+        Ok(make_other(core, ring, mv, output))
+    }
+}

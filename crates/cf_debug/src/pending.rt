@@ -1,0 +1,67 @@
+//! The line that is not ended yet.
+
+ghost use Rattle.std.specs.Prelude.{◌≡◌, ◌∷◌, ◌++◌, [], take};
+ghost use Rattle.rv_text.specs.Lines.{without_return};
+
+use arrayvec::ArrayVec;
+use std::marker::Model;
+
+/// The first 258 bytes of a line that is not ended yet: as many as tell whether it is too long, a carriage return among them.
+#[derive(Drop)]
+pub(crate) struct Pending {
+    bytes: ArrayVec<u8, 258>,
+}
+
+impl Model for Pending {
+    ghost use Rattle.std.specs.Prelude.{ℕ, List};
+
+    ghost Value = { List ℕ };
+
+    ghost view = { λ line. line.bytes.items };
+}
+
+impl Pending {
+    /// The line has no byte yet.
+    pub(crate) fn new() -> Pending
+        ensures { result ≡ [] }
+    {
+        Pending {
+            bytes: ArrayVec::new(),
+        }
+    }
+
+    /// One byte more.
+    pub(crate) fn push(&mut self, byte: u8)
+        ensures { self.new ≡ take 258 (self.old ++ byte ∷ []) }
+    {
+        if !self.bytes.is_full() {
+            self.bytes.push(byte);
+        }
+    }
+
+    /// The line has no byte again.
+    pub(crate) fn clear(&mut self)
+        ensures { self.new ≡ [] }
+    {
+        self.bytes.clear();
+    }
+
+    /// The line, as it is.
+    pub(crate) fn bytes(&self) -> &[u8]
+        ensures { result.now ≡ self.now }
+    {
+        self.bytes.as_slice()
+    }
+
+    /// The line, where a line feed comes now: without a carriage return at its end.
+    #[tactic(auto, unfolding(rv_text::specs::Lines::without_return))]
+    pub(crate) fn whole(&self) -> &[u8]
+        ensures { result.now ≡ without_return self.now }
+    {
+        let line = self.bytes.as_slice();
+        match line.strip_suffix(b"\r") {
+            Some(front) => front,
+            None => line,
+        }
+    }
+}

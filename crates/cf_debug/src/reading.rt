@@ -1,0 +1,146 @@
+//! A line is read.
+
+ghost use Rattle.std.specs.Prelude.{◌≡◌, drop};
+ghost use Rattle.cf_scripts.specs.MoveLines.{move_in};
+ghost use Rattle.cf_debug.specs.Commands.{address_told, alone, auto_told, break_told, command_in, command_named, memory_told, move_told, number_told, stop_told};
+
+use crate::command::{Command, Refusal};
+use cf_scripts::{Words, read_move};
+use rv_text::{numeral, split_name};
+
+/// The number that the next word spells: from one to nine decimal digits, from 1 up to a limit.
+#[tactic(auto, unfolding(crate::specs::Commands::number_told))]
+fn number(words: &mut Words<'_>, most: u32) -> Result<u32, Refusal>
+    ensures number { result ≡ number_told most words.old }
+    ensures left { words.new ≡ drop 1 words.old }
+{
+    match words.number() {
+        Ok(number) => {
+            if 1 <= number && number <= most {
+                Ok(number)
+            } else {
+                Err(Refusal::BadNumber)
+            }
+        }
+        Err(_) => Err(Refusal::BadNumber),
+    }
+}
+
+/// The address that a word spells: eight hexadecimal digits of either case.
+#[tactic(auto, unfolding(crate::specs::Commands::address_told))]
+fn address(word: &[u8]) -> Result<u32, Refusal>
+    ensures { result ≡ address_told word.now }
+{
+    if word.len() != 8 {
+        return Err(Refusal::BadNumber);
+    }
+    match numeral(word, 16, 8) {
+        Some(address) => Ok(address as u32),
+        None => Err(Refusal::BadNumber),
+    }
+}
+
+/// The command, if no word is left.
+#[tactic(auto, unfolding(crate::specs::Commands::alone))]
+fn alone(words: &Words<'_>, command: Command) -> Result<Command, Refusal>
+    ensures { result ≡ alone words.now command }
+{
+    if words.is_empty() {
+        Ok(command)
+    } else {
+        Err(Refusal::ExtraWords)
+    }
+}
+
+/// What stands behind `move`: a move, as in a script.
+fn read_moves(behind: &[u8]) -> Result<Command, Refusal>
+    ensures { result ≡ move_told (move_in behind.now) }
+{
+    match read_move(behind) {
+        Ok(mv) => Ok(Command::Move(mv)),
+        Err(kind) => Err(Refusal::Script(kind)),
+    }
+}
+
+/// What stands behind `auto`: how many moves.
+#[tactic(auto, unfolding(crate::specs::Commands::auto_told))]
+fn read_auto(mut words: Words<'_>) -> Result<Command, Refusal>
+    ensures { result ≡ auto_told words.entry }
+{
+    let count = number(&mut words, 1_000_000)?;
+    alone(&words, Command::Auto(count))
+}
+
+/// What stands behind `mem`: an address, and how many bytes.
+#[tactic(auto, unfolding(crate::specs::Commands::memory_told))]
+fn read_memory(mut words: Words<'_>) -> Result<Command, Refusal>
+    ensures { result ≡ memory_told words.entry }
+{
+    let start = address(words.next())?;
+    let len = number(&mut words, 16)?;
+    alone(&words, Command::Memory(start, len))
+}
+
+/// An address, or `none`.
+#[tactic(auto, unfolding(crate::specs::Commands::break_told))]
+fn break_address(word: &[u8]) -> Result<Option<u32>, Refusal>
+    ensures { result ≡ break_told word.now }
+{
+    if word == b"none".as_slice() {
+        Ok(None)
+    } else {
+        Ok(Some(address(word)?))
+    }
+}
+
+/// What stands behind `break`.
+#[tactic(auto, unfolding(crate::specs::Commands::stop_told))]
+fn read_break(mut words: Words<'_>) -> Result<Command, Refusal>
+    ensures { result ≡ stop_told words.entry }
+{
+    let stop = break_address(words.next())?;
+    alone(&words, Command::Break(stop))
+}
+
+/// The command of a name, with the text behind it.
+#[tactic(auto, unfolding(crate::specs::Commands::command_named))]
+fn read_named(name: &[u8], behind: &[u8]) -> Result<Command, Refusal>
+    ensures { result ≡ command_named name.now behind.now }
+{
+    if name == b"".as_slice() {
+        Ok(Command::Nothing)
+    } else if name == b"move".as_slice() {
+        read_moves(behind)
+    } else if name == b"auto".as_slice() {
+        read_auto(Words::of(behind))
+    } else if name == b"show".as_slice() {
+        alone(&Words::of(behind), Command::Show)
+    } else if name == b"regs".as_slice() {
+        alone(&Words::of(behind), Command::Registers)
+    } else if name == b"mem".as_slice() {
+        read_memory(Words::of(behind))
+    } else if name == b"break".as_slice() {
+        read_break(Words::of(behind))
+    } else if name == b"bound".as_slice() {
+        alone(&Words::of(behind), Command::Bound)
+    } else if name == b"back".as_slice() {
+        alone(&Words::of(behind), Command::Back)
+    } else if name == b"end".as_slice() {
+        alone(&Words::of(behind), Command::End)
+    } else {
+        Err(Refusal::UnknownCommand)
+    }
+}
+
+/// What a line tells: a command, or the first refusal of `TooLong`, `UnknownCommand`, `BadNumber` and `ExtraWords`, where
+/// those of scripts stand in the place of the last two behind `move`.
+#[tactic(auto, unfolding(crate::specs::Commands::command_in))]
+pub(crate) fn read_command(line: &[u8]) -> Result<Command, Refusal>
+    ensures { result ≡ command_in line.now }
+{
+    if line.len() > 256 {
+        return Err(Refusal::TooLong);
+    }
+    let (name, behind) = split_name(line);
+    read_named(name, behind)
+}

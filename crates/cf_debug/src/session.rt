@@ -1,0 +1,181 @@
+//! A session of the debugger.
+
+ghost use Rattle.std.specs.Prelude.{◌≡◌, ◌≢◌, ◌≤◌, true, false, None, Some, [], Ok};
+ghost use Rattle.cf_io.specs.Causes.{HasCause};
+ghost use Rattle.cf_run.specs.Policies.{IsOpened};
+ghost use Rattle.cf_debug.specs.declared.command.Command.TheVariants as commands;
+ghost use Rattle.cf_debug.specs.Making.{bench_of};
+ghost use Rattle.cf_debug.specs.Outcomes.{output_broken, report_broken};
+ghost use Rattle.cf_debug.specs.Replies.{desk_of};
+ghost use Rattle.cf_debug.specs.Sessions.{Debugs, Ends, Finishes, StaysOnRun, UsesByte, commands_ended, ended_by, output_ended, report_ended, session_of};
+ghost use Rattle.cf_debug.specs.Standing.{StandsSomewhere};
+
+use crate::answer::{Broken, Debugged};
+use crate::carrying::carry_out;
+use crate::command::Command;
+use crate::feed::{Feed, Next};
+use crate::pending::Pending;
+use crate::reading::read_command;
+use crate::replies::refuse_line;
+use crate::ring::Ring;
+use cf_core::Core;
+use cf_index::Candidates;
+use cf_io::{Sink, Source};
+use cf_run::known;
+
+/// How what a command leaves ends the session, if it does.
+fn ended(answer: Result<(), Broken>) -> Option<Debugged>
+    ensures { result ≡ ended_by answer }
+{
+    match answer {
+        Ok(()) => None,
+        Err(Broken::Output) => Some(Debugged::WriteFault),
+        Err(Broken::Report) => Some(Debugged::ReportFault),
+    }
+}
+
+/// Whether the command ends the session.
+fn is_end(command: Command) -> bool
+    ensures yes { result ≡ true → command ≡ commands.End }
+    ensures no { result ≡ false → command ≢ commands.End }
+{
+    matches!(command, Command::End)
+}
+
+/// Answers what a line tells, or tells how the session ends there.
+fn answer_line<K: Sink, R: Sink>(
+    line: &[u8],
+    core: &mut Core,
+    candidates: &mut Candidates,
+    ring: &mut Ring,
+    stop: &mut Option<u32>,
+    output: &mut K,
+    report: &mut R,
+) -> Option<Debugged>
+    requires stands { StandsSomewhere core.old ring.old }
+    ensures ends { Ends line.now
+        (desk_of (bench_of core.old ring.old (K.written output.old)) stop.old)
+        (desk_of (bench_of core.new ring.new (K.written output.new)) stop.new)
+        (R.written report.old) (R.written report.new) result }
+    ensures output { HasCause (K.faults output.old) (K.faults output.new) (output_ended result) }
+    ensures report { HasCause (R.faults report.old) (R.faults report.new) (report_ended result) }
+{
+    match read_command(line) {
+        Ok(command) => {
+            if is_end(command) {
+                return Some(Debugged::Done);
+            }
+            ended(carry_out(command, core, candidates, ring, stop, output, report))
+        }
+        Err(refusal) => match refuse_line(refusal, report) {
+            Ok(()) => None,
+            Err(_) => Some(Debugged::ReportFault),
+        },
+    }
+}
+
+/// Uses a byte of the commands: it is one more of the line, or it ends the line, which is answered.
+fn use_byte<K: Sink, R: Sink>(
+    byte: u8,
+    line: &mut Pending,
+    core: &mut Core,
+    candidates: &mut Candidates,
+    ring: &mut Ring,
+    stop: &mut Option<u32>,
+    output: &mut K,
+    report: &mut R,
+) -> Option<Debugged>
+    requires stands { StandsSomewhere core.old ring.old }
+    ensures uses { UsesByte byte line.old line.new
+        (desk_of (bench_of core.old ring.old (K.written output.old)) stop.old)
+        (desk_of (bench_of core.new ring.new (K.written output.new)) stop.new)
+        (R.written report.old) (R.written report.new) result }
+    ensures output { HasCause (K.faults output.old) (K.faults output.new) (output_ended result) }
+    ensures report { HasCause (R.faults report.old) (R.faults report.new) (report_ended result) }
+{
+    if byte != b'\n' {
+        line.push(byte);
+        return None;
+    }
+    let answer = answer_line(line.whole(), core, candidates, ring, stop, output, report);
+    line.clear();
+    answer
+}
+
+/// Answers the unfinished line at the end of the commands, if there is one.
+fn finish<K: Sink, R: Sink>(
+    line: &Pending,
+    core: &mut Core,
+    candidates: &mut Candidates,
+    ring: &mut Ring,
+    stop: &mut Option<u32>,
+    output: &mut K,
+    report: &mut R,
+) -> Debugged
+    requires stands { StandsSomewhere core.old ring.old }
+    ensures finishes { Finishes line.now
+        (desk_of (bench_of core.old ring.old (K.written output.old)) stop.old)
+        (desk_of (bench_of core.new ring.new (K.written output.new)) stop.new)
+        (R.written report.old) (R.written report.new) result }
+    ensures output { HasCause (K.faults output.old) (K.faults output.new) (output_ended (Some result)) }
+    ensures report { HasCause (R.faults report.old) (R.faults report.new) (report_ended (Some result)) }
+{
+    if line.bytes().is_empty() {
+        return Debugged::Done;
+    }
+    match answer_line(line.bytes(), core, candidates, ring, stop, output, report) {
+        Some(answer) => answer,
+        None => Debugged::Done,
+    }
+}
+
+/// A session of the debugger on an opened processor: answers the commands, one a line, until one of them is `end` or there are no
+/// more. The ring has to be empty. It takes no memory.
+///
+/// The lines are answered in order, and a refused one changes nothing. The answers are put to the report, and the guest's output
+/// to the output; the guest's input is empty. The ring is left with what is kept of the moves that were made last and not taken
+/// back; unless the output or the report failed, the processor stands at a moment of a run of the machine on which it was opened.
+///
+/// `Done` comes at `end` and at the end of the commands. `Limit` comes where 16,777,216 bytes were taken, no whole line among them
+/// is `end`, and there is one byte more. `ReadFault` comes only where the commands failed, behind the answers to all lines that
+/// were taken whole; `WriteFault` only where the output failed a call of the environment, and `ReportFault` only where the report
+/// failed. The count of the faults of that one rose.
+pub fn debug<S: Source, K: Sink, R: Sink>(
+    core: &mut Core,
+    candidates: &mut Candidates,
+    ring: &mut Ring,
+    commands: &mut S,
+    output: &mut K,
+    report: &mut R,
+) -> Debugged
+    requires opened { IsOpened core.old }
+    requires retired { core.old.state.retired ≤ 10000000 }
+    requires ring { ring.old ≡ [] }
+    ensures session { Debugs
+        (session_of (bench_of core.old ring.old (K.written output.old)) (S.left commands.old) (R.written report.old))
+        (session_of (bench_of core.new ring.new (K.written output.new)) (S.left commands.new) (R.written report.new))
+        result }
+    ensures on_run { StaysOnRun core.old core.new result }
+    ensures commands { HasCause (S.faults commands.old) (S.faults commands.new) (commands_ended (Some result)) }
+    ensures output { HasCause (K.faults output.old) (K.faults output.new) (output_ended (Some result)) }
+    ensures report { HasCause (R.faults report.old) (R.faults report.new) (report_ended (Some result)) }
+{
+    known(core);
+    let mut stop = None;
+    let mut line = Pending::new();
+    let mut feed = Feed::new();
+    loop {
+        match feed.next(commands) {
+            Next::Byte(byte) => {
+                if let Some(answer) = use_byte(
+                    byte, &mut line, core, candidates, ring, &mut stop, output, report,
+                ) {
+                    return answer;
+                }
+            }
+            Next::AtEnd => return finish(&line, core, candidates, ring, &mut stop, output, report),
+            Next::TooMany => return Debugged::Limit,
+            Next::Fault => return Debugged::ReadFault,
+        }
+    }
+}

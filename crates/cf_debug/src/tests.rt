@@ -1,0 +1,351 @@
+//! Sessions: the commands and answers of the table, and what an empty ring, the limits, and failing calls do.
+ghost use Rattle.std.specs.Prelude.{◌≡◌, ◌<◌, ◌≤◌, [], IfOk, length};
+ghost use Rattle.cf_run.specs.Policies.{IsOpened};
+
+use super::*;
+use cf_core::Core;
+use cf_index::Candidates;
+use cf_io::{MemSink, MemSource};
+use layout_file::read_layout;
+use mem_regions::{Part, Regions};
+use rv_machine::Machine;
+use std::process::Abort;
+use std::test::Fail;
+
+/// Two stages.
+const TINY: &[u8] =
+    b"format = 1\nstages = 2\nlane = 4\n[units]\nadd = [1, 2]\nlogic = [1]\nshift = [2]\n\
+        compare = [1]\nbranch = [1]\njump = [1]\n[[siding]]\nclasses = [\"memory\"]\n\
+        launch = 1\nrecover = 2\ncells = 1\n";
+
+/// `addi x10, x0, 7`, `addi x17, x0, 93` and `ecall`: the program ends with status 7.
+const SEVEN: &[u32] = &[0x0070_0513, 0x05d0_0893, 0x0000_0073];
+
+/// A processor of two stages on a flat image of at most eight words, with a stack.
+fn core_of(rt: &(impl Abort + AllocGlobal), words: &[u32]) -> Result<Core, Fail>
+    ensures { IfOk result (λ core. IsOpened core) }
+{
+    assert!(rt; words.len() <= 8, "too many words");
+    let mut file = Vec::new(rt.alloc());
+    for word in words {
+        file.extend_from_slice(&word.to_le_bytes())?;
+    }
+    assert!(rt; file.len() == 4 * words.len(), "length");
+    let size = file.len() as u32;
+    let image = Part {
+        base: 0x1_0000,
+        start: 0,
+        len: size,
+        size,
+        write: true,
+        exec: true,
+    };
+    let stack = Part {
+        base: 0x7f00_0000,
+        start: 0,
+        len: 0,
+        size: 0x10_0000,
+        write: true,
+        exec: false,
+    };
+    let memory = Regions::load(rt.alloc(), file.as_slice(), &[image, stack])?;
+    let layout = read_layout(rt.alloc(), TINY).ok().expect(rt, "layout");
+    Ok(Core::new(rt.alloc(), layout, Machine::new(memory, 0x1_0000))?)
+}
+
+/// A processor, what the debugger works with beside it, and where output and answers go.
+#[derive(Drop)]
+struct Bench {
+    core: Core,
+    candidates: Candidates,
+    ring: Ring,
+    output: MemSink,
+    report: MemSink,
+}
+
+impl Bench {
+    /// The puts of these numbers fail the output, and the report has room for so many bytes.
+    fn new(
+        rt: &(impl Abort + AllocGlobal),
+        words: &[u32],
+        fails: &[u64],
+        room: usize,
+    ) -> Result<Bench, Fail>
+        ensures opened { IfOk result (λ bench. IsOpened bench.core) }
+        ensures empty { IfOk result (λ bench. bench.ring ≡ []) }
+    {
+        let mut failing = Vec::new(rt.alloc());
+        failing.extend_from_slice(fails)?;
+        Ok(Bench {
+            core: core_of(rt, words)?,
+            candidates: Candidates::new(rt.alloc())?,
+            ring: Ring::new(rt.alloc())?,
+            output: MemSink::new(rt.alloc(), 1000, failing)?,
+            report: MemSink::new(rt.alloc(), room, Vec::new(rt.alloc()))?,
+        })
+    }
+
+    /// How the session of these commands ends, given in pieces of this size, of which these takes fail.
+    fn answer(
+        &mut self,
+        rt: &(impl Abort + AllocGlobal),
+        commands: &[u8],
+        piece: usize,
+        fails: &[u64],
+    ) -> Result<Debugged, Fail>
+        requires opened { IsOpened self.old.core }
+        requires empty { self.old.ring ≡ [] }
+    {
+        assert!(rt; 0 < piece, "no piece");
+        assert!(rt; self.core.retired() <= 10_000_000, "too many retired");
+        let mut bytes = Vec::new(rt.alloc());
+        bytes.extend_from_slice(commands)?;
+        let mut failing = Vec::new(rt.alloc());
+        failing.extend_from_slice(fails)?;
+        let mut source = MemSource::new(bytes, piece, failing);
+        Ok(debug(
+            &mut self.core,
+            &mut self.candidates,
+            &mut self.ring,
+            &mut source,
+            &mut self.output,
+            &mut self.report,
+        ))
+    }
+}
+
+/// The session of these commands, given in pieces of this size, of which these takes fail, ends so with these answers.
+fn assert_session(
+    rt: &(impl Abort + AllocGlobal),
+    words: &[u32],
+    commands: &[u8],
+    piece: usize,
+    fails: &[u64],
+    answer: Debugged,
+    answers: &[u8],
+) -> Result<(), Fail> {
+    let mut bench = Bench::new(rt, words, &[], 200_000)?;
+    let ended = bench.answer(rt, commands, piece, fails)?;
+    assert!(rt; bench.report.bytes() == answers, "other answers");
+    assert!(rt; ended == answer, "another end");
+    Ok(())
+}
+
+/// The commands of the first example, and what they answer: `addi` weighs 3 in stage 1 of 2, 4 as it is not done, and 4 as it is
+/// not launched where the longest siding has one cell.
+const COMMANDS: &[u8] = b"move issue next\nbound\nmove leave\nback\nbound\nback\n\
+    mem 7f0ffff0 4\nmem 00000000 4\nfrob\nend\n";
+
+const ANSWERS: &[u8] = b"moved\nbound 11\n? NoPassenger\nback issue next\nbound 0\n? NothingKept\n\
+    7f0ffff0 00 00 00 00\n? NoAccess\n? UnknownCommand\n";
+
+/// The answers are the same however the commands come, and whether or not the last line has a line feed.
+#[test]
+fn pieces(rt: HostRuntime) -> Result<(), Fail> {
+    assert_session(&rt, SEVEN, COMMANDS, 1, &[], Debugged::Done, ANSWERS)?;
+    assert_session(&rt, SEVEN, COMMANDS, 8, &[], Debugged::Done, ANSWERS)?;
+    assert_session(&rt, SEVEN, COMMANDS, 4096, &[], Debugged::Done, ANSWERS)
+}
+
+/// A take that fails leaves the answers to the lines that were taken whole before it: pieces of 8 bytes end in the first line, then in
+/// the first and then in the second.
+#[test]
+fn failing_takes(rt: HostRuntime) -> Result<(), Fail> {
+    assert_session(&rt, SEVEN, COMMANDS, 8, &[1], Debugged::ReadFault, b"")?;
+    assert_session(&rt, SEVEN, COMMANDS, 8, &[2], Debugged::ReadFault, b"")?;
+    assert_session(
+        &rt,
+        SEVEN,
+        COMMANDS,
+        8,
+        &[3],
+        Debugged::ReadFault,
+        b"moved\n",
+    )
+}
+
+/// Each refusal, and each command in another spelling: blanks, tabs, carriage returns and digits of either case. What stands behind
+/// `end` is not answered.
+#[test]
+fn refusals(rt: HostRuntime) -> Result<(), Fail> {
+    let commands =
+        b"\n \t\r\n\r\n# note\nmove\nmove jump\nmove climb\nmove emit 1\nmove \x80\n\x80\nmove execute 1\n\
+        auto\nauto 0\nauto 1000001\nauto 0000000001\nauto x 1\nauto 1 1\n\
+        mem 7F0FFFF0 1 \nmem 7f0ffff0\nmem 7f0ffff0 0\nmem 7f0ffff0 17\nmem 7f0ffff 1\nmem 00010000 16\nmem 00010000 12\n\
+        \tbreak  0001000C\r\nbreak none\nbreak\nbreak none 1\nbound\r\nback 1\nend 1\nend\nfrob\n";
+    let answers =
+        b"? UnknownCommand\n? UnknownMove\n? UnknownMove\n? BadNumber\n? ExtraWords\n? NotAscii\n\
+        ? UnknownCommand\n? NoPassenger\n? BadNumber\n? BadNumber\n? BadNumber\n? BadNumber\n? BadNumber\n? ExtraWords\n\
+        7f0ffff0 00\n? BadNumber\n? BadNumber\n? BadNumber\n? BadNumber\n? NoAccess\n\
+        00010000 13 05 70 00 93 08 d0 05 73 00 00 00\nbreak 0001000c\nbreak none\n? BadNumber\n? ExtraWords\nbound 0\n\
+        ? ExtraWords\n? ExtraWords\n";
+    assert_session(&rt, SEVEN, commands, 5, &[], Debugged::Done, answers)
+}
+
+/// The last line may lack its line feed, and keeps its carriage return then.
+#[test]
+fn last_lines(rt: HostRuntime) -> Result<(), Fail> {
+    assert_session(
+        &rt,
+        SEVEN,
+        b"bound\nbound",
+        4096,
+        &[],
+        Debugged::Done,
+        b"bound 0\nbound 0\n",
+    )?;
+    assert_session(
+        &rt,
+        SEVEN,
+        b"bound\nbound\r",
+        4096,
+        &[],
+        Debugged::Done,
+        b"bound 0\n? UnknownCommand\n",
+    )?;
+    assert_session(
+        &rt,
+        SEVEN,
+        b"bound\nend",
+        4096,
+        &[],
+        Debugged::Done,
+        b"bound 0\n",
+    )
+}
+
+/// A line of 256 bytes is read, also with a carriage return behind it, and one of 257 is too long, also where it is the last.
+#[test]
+fn long_lines(rt: HostRuntime) -> Result<(), Fail> {
+    let mut line = Vec::new(rt.alloc());
+    line.extend_from_slice(b"bound")?;
+    for _ in 0..251 {
+        line.push(b' ')?;
+    }
+    line.extend_from_slice(b"\r\n")?;
+    assert_session(
+        &rt,
+        SEVEN,
+        line.as_slice(),
+        100,
+        &[],
+        Debugged::Done,
+        b"bound 0\n",
+    )?;
+    for _ in 0..257 {
+        line.push(b' ')?;
+    }
+    assert_session(
+        &rt,
+        SEVEN,
+        line.as_slice(),
+        100,
+        &[],
+        Debugged::Done,
+        b"bound 0\n? TooLong\n",
+    )?;
+    line.extend_from_slice(b"\r\nend")?;
+    assert_session(
+        &rt,
+        SEVEN,
+        line.as_slice(),
+        300,
+        &[],
+        Debugged::Done,
+        b"bound 0\n? TooLong\n",
+    )
+}
+
+/// The program runs to its end in 19 moves, worked by hand from the table of moves and the order of Round: Serve is the 17th, so that two
+/// are taken back behind it, and no more. Nothing is made behind the end.
+#[test]
+fn to_the_end(rt: HostRuntime) -> Result<(), Fail> {
+    let commands = b"auto 1000000\nauto 5\nmove emit\nmove serve\nback\nback\nback\nmove emit\n";
+    let answers =
+        b"retire 1 00010000 00700513 x10=00000007\nretire 2 00010004 05d00893 x17=0000005d\nauto 19\nauto 0\n\
+        ? Halted\n? Halted\nback leave\nback fall 2\n? NothingKept\n? LaneEmpty\n";
+    assert_session(&rt, SEVEN, commands, 4096, &[], Debugged::Done, answers)
+}
+
+/// `auto` stops behind the Issue at the break address, also where that is its first move. The first instruction is issued, climbs, is
+/// executed, sends its result and leaves before the second is issued.
+#[test]
+fn break_address(rt: HostRuntime) -> Result<(), Fail> {
+    let commands = b"break 00010000\nauto 100\nback\nbreak 00010004\nauto 100\nbreak none\nshow\n";
+    let answers = b"break 00010000\nauto 1\nback issue next\nbreak 00010004\n\
+        retire 1 00010000 00700513 x10=00000007\nauto 6\nbreak none\nfetch 00010008\nlane -\n\
+        stage 2 result | x10=00000007\nstage 1 instruction | 00010004 next new - - x17=? -\n";
+    assert_session(&rt, SEVEN, commands, 4096, &[], Debugged::Done, answers)
+}
+
+/// The registers at the start.
+#[test]
+fn registers(rt: HostRuntime) -> Result<(), Fail> {
+    let answers = b"x00=00000000 x01=00000000 x02=7f0ffff0 x03=00000000\n\
+        x04=00000000 x05=00000000 x06=00000000 x07=00000000\nx08=00000000 x09=00000000 x10=00000000 x11=00000000\n\
+        x12=00000000 x13=00000000 x14=00000000 x15=00000000\nx16=00000000 x17=00000000 x18=00000000 x19=00000000\n\
+        x20=00000000 x21=00000000 x22=00000000 x23=00000000\nx24=00000000 x25=00000000 x26=00000000 x27=00000000\n\
+        x28=00000000 x29=00000000 x30=00000000 x31=00000000\n";
+    assert_session(&rt, SEVEN, b"regs", 4096, &[], Debugged::Done, answers)
+}
+
+/// One byte is written from address 00010000, and the output fails that: the four instructions before the call have retired.
+#[test]
+fn failing_output(rt: HostRuntime) -> Result<(), Fail> {
+    let words = &[
+        0x0010_0513,
+        0x0001_05b7,
+        0x0010_0613,
+        0x0400_0893,
+        0x0000_0073,
+    ];
+    let mut bench = Bench::new(&rt, words, &[1], 1000)?;
+    let answer = bench.answer(&rt, b"auto 1000\nbound\n", 4096, &[])?;
+    assert!(rt; answer == Debugged::WriteFault, "another end");
+    let lines =
+        b"retire 1 00010000 00100513 x10=00000001\nretire 2 00010004 000105b7 x11=00010000\n\
+        retire 3 00010008 00100613 x12=00000001\nretire 4 0001000c 04000893 x17=00000040\n";
+    assert!(rt; bench.report.bytes() == lines.as_slice(), "other answers");
+    Ok(())
+}
+
+/// A report of three bytes takes a front of the first answer, and the session ends.
+#[test]
+fn failing_report(rt: HostRuntime) -> Result<(), Fail> {
+    let mut bench = Bench::new(&rt, SEVEN, &[], 3)?;
+    let answer = bench.answer(&rt, COMMANDS, 4096, &[])?;
+    assert!(rt; answer == Debugged::ReportFault, "another end");
+    assert!(rt; bench.report.bytes() == b"mov".as_slice(), "other answers");
+    Ok(())
+}
+
+/// `auto` makes 2,000 moves of a jump to itself, and then moves are taken back so often.
+fn taken_back(rt: &(impl Abort + AllocGlobal), times: u32) -> Result<Vec<u8>, Fail> {
+    let mut commands = Vec::new(rt.alloc());
+    commands.extend_from_slice(b"auto 2000\n")?;
+    for _ in 0..times {
+        commands.extend_from_slice(b"back\n")?;
+    }
+    Ok(commands)
+}
+
+/// Of 2,000 moves the last 1,024 are taken back, and no more.
+#[test]
+fn full_ring(rt: HostRuntime) -> Result<(), Fail> {
+    let commands = taken_back(&rt, 1025)?;
+    let mut bench = Bench::new(&rt, &[0x0000_006f], &[], 200_000)?;
+    let answer = bench.answer(&rt, commands.as_slice(), 4096, &[])?;
+    assert!(rt; answer == Debugged::Done, "another end");
+    assert!(rt;
+        bench.report.bytes().ends_with(b"\n? NothingKept\n"),
+        "too much kept"
+    );
+    let refused = bench
+        .report
+        .bytes()
+        .iter()
+        .filter(|byte| **byte == b'?')
+        .count();
+    assert_eq!(rt; refused, 1);
+    Ok(())
+}

@@ -1,0 +1,96 @@
+-- What the command `debug` answers, and what it leaves of the outside.
+use Rattle.std.specs.Prelude.{◌≡◌, ◌≢◌, ◌⊎◌, ℕ, List, [], ◌++◌, codes, Option, Some, None}
+use Rattle.rv_machine.specs.Hart.{Hart}
+use Rattle.rv_machine.specs.Streams.{Streams}
+use Rattle.cf_layout.specs.Layout.{Plan}
+use Rattle.cf_semantics.specs.Kept.{Kept}
+use Rattle.cf_core.specs.Processors.{Processor, opened}
+use Rattle.cf_debug.specs.declared.answer.Debugged.{Debugged}
+use Rattle.cf_debug.specs.declared.answer.Debugged.TheVariants.{Done, Limit, ReadFault, WriteFault, ReportFault}
+use Rattle.cf_debug.specs.Making.{bench_of}
+use Rattle.cf_debug.specs.Sessions.{Debugs, StaysOnRun, session_of}
+use Rattle.cf_texts.specs.Texts.{line}
+use Rattle.cf_words.specs.Words.{Layout}
+use Rattle.cli_files.specs.Loading.{IsLoaded, LacksLoaded}
+use Rattle.cli_files.specs.Outside.{Outside}
+use Rattle.cli_files.specs.declared.status.Status.{Status}
+use Rattle.cli_files.specs.declared.status.Status.TheVariants as status
+use Rattle.cli_files.specs.declared.status.Which.TheVariants as which
+
+-- the status of a session that ended so
+abbrev pub status_of : Debugged → Status
+status_of Done = status.Done
+status_of Limit = status.Limit None
+status_of ReadFault = status.ReadFault which.Input
+status_of WriteFault = status.WriteFault
+status_of ReportFault = status.WriteFault
+
+-- the line that closes its report, where it did not end as the commands wanted
+abbrev pub closing_of : Debugged → List ℕ
+closing_of Done = []
+closing_of Limit = line (codes "limit")
+closing_of ReadFault = line (codes "read fault input")
+closing_of WriteFault = line (codes "write fault output")
+closing_of ReportFault = []
+
+-- a session on the processor of the layout, as it is opened on the hart, with nothing kept; the input has its commands. The
+-- processor is left at a moment of a run, unless the output or the report failed
+pub record HasSession (plan : Plan) (hart : Hart) (before after : Streams) (blank full : Option (List ℕ))
+    (ended : Debugged) : Type 0 where
+  pub last : Processor
+  pub kept : List Kept
+  pub session : Debugs (session_of (bench_of (opened plan hart) [] before.output) before.input blank)
+      (session_of (bench_of last kept after.output) after.input full) ended
+  pub on_run : StaysOnRun (opened plan hart) last ended
+
+-- a session was had; this is the whole report: the answers to its commands, and behind them how it ended
+pub record AnswersSession (plan : Plan) (hart : Hart) (before after : Streams) (answer : Status)
+    (report : List ℕ) : Type 0 where
+  pub ended : Debugged
+  pub told : ended ≢ ReportFault
+  pub answers : List ℕ
+  pub session : HasSession plan hart before after (Some []) (Some answers) ended
+  pub status_is : answer ≡ status_of ended
+  pub reports : report ≡ answers ++ closing_of ended
+
+-- memory for the processor or for what is kept of its moves was refused, before the first command
+pub record LacksMemory (before after : Streams) (answer : Status) (report : List ℕ) : Type 0 where
+  pub status_is : answer ≡ status.NoMemory
+  pub reports : report ≡ line (codes "no memory")
+  pub streams : after ≡ before
+
+-- what comes of a layout and a hart
+abbrev pub ComesOfCommands : Plan → Hart → (before after : Streams) → Status → List ℕ → Type 0
+ComesOfCommands plan hart before after answer report =
+    AnswersSession plan hart before after answer report ⊎ LacksMemory before after answer report
+
+-- the report failed in the session
+abbrev pub BreaksSession : Plan → Hart → (before after : Streams) → (blank full : Option (List ℕ)) → Type 0
+BreaksSession plan hart before after blank full = HasSession plan hart before after blank full ReportFault
+
+-- the layout and the program are there, and this came of them
+pub record DebugsProgram (layout : Layout) (program : List ℕ) (before after : Outside) (answer : Status)
+    (report : List ℕ) : Type 0 where
+  pub plan : Plan
+  pub hart : Hart
+  pub loaded : IsLoaded layout program before.files after.files plan hart
+  pub comes : ComesOfCommands plan hart before.streams after.streams answer report
+
+-- one of them is not there, and the streams were left alone
+pub record RefusesDebug (layout : Layout) (program : List ℕ) (before after : Outside) (answer : Status)
+    (report : List ℕ) : Type 0 where
+  pub lacks : LacksLoaded layout program before.files after.files answer report
+  pub streams : after.streams ≡ before.streams
+
+-- the answer of `debug` and its report
+abbrev pub AnswersDebug : Layout → List ℕ → Outside → Outside → Status → List ℕ → Type 0
+AnswersDebug layout program before after answer report =
+    DebugsProgram layout program before after answer report ⊎ RefusesDebug layout program before after answer report
+
+-- both are there, and the report failed in the session
+pub record BreaksDebug (layout : Layout) (program : List ℕ) (before after : Outside)
+    (blank full : Option (List ℕ)) : Type 0 where
+  pub plan : Plan
+  pub hart : Hart
+  pub loaded : IsLoaded layout program before.files after.files plan hart
+  pub breaks : BreaksSession plan hart before.streams after.streams blank full
