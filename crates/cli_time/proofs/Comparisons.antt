@@ -1,0 +1,118 @@
+-- What comes of the lines of all layouts, and of the line behind them.
+use Rattle.std.proofs.Common.{◌≡◌, ◌∙◌, sym, ap, subst, refl, ℕ, ◌<◌, List, [], ◌∷◌, ◌++◌, length, map, append-nil, Option, Some, Result, Ok, Err, inl, inr}
+use Rattle.std.specs.Prelude.{codes, slice_get}
+use Rattle.std.specs.Result.{IsErr}
+use Rattle.cf_io.specs.Puts.{Writes, WritesFront}
+use Rattle.cf_io.specs.Reads.{Told}
+use Rattle.cf_io.specs.declared.failed.Failed.{Failed}
+use Rattle.rv_machine.specs.Hart.{Hart}
+use Rattle.cf_layout.specs.Layout.{Plan}
+use Rattle.std.proofs.lemmas.Bool.{false≢true}
+use Rattle.cf_report.specs.Putting.{PutsText}
+use Rattle.cf_report.proofs.Puttings.{writes-again}
+use Rattle.cf_texts.specs.Texts.{line}
+use Rattle.cf_words.specs.Words.{Layout}
+use Rattle.cli_files.specs.Deciding.{Decides}
+use Rattle.cli_files.specs.declared.answer.Answer.{Answer}
+use Rattle.cli_files.specs.declared.status.Status.TheVariants as status
+use Rattle.cli_time.specs.Asked.{TimeAsked}
+use Rattle.cli_time.specs.Leasts.{IsFirstLeast}
+use Rattle.cli_time.specs.Lines.{least_line, time_lines}
+use Rattle.cli_time.specs.Reading.{IsReady}
+use Rattle.cli_time.specs.Runs.{PutsAll, PutsFewer}
+use Rattle.cli_time.specs.Times.{AnswersTime, BreaksAtLeast, BreaksTime, BreaksTimes, MeasuresAll, TimesOf}
+
+-- the layout that is named is the first with the least time
+measures-all : (words : List Layout) (limit : ℕ) (delays : List ℕ) (plans : List Plan) (hart : Hart) (blank told : Option (List ℕ))
+    (times : List ℕ) (place : ℕ) (named : Layout) → (h : PutsAll words limit delays plans hart blank told times) →
+    IsFirstLeast times place → slice_get words place ≡ Some named → MeasuresAll words limit delays plans hart h.measured named
+measures-all words limit delays plans hart blank told times place named h least is = record {
+  each = h.each;
+  all = h.all;
+  place = place;
+  least = subst (λ (ts : List ℕ). IsFirstLeast ts place) h.times_are least;
+  named_is = is;
+}
+
+-- it was named
+pub times-all : (words : List Layout) (limit : ℕ) (delays : List ℕ) (plans : List Plan) (hart : Hart) (blank told full : Option (List ℕ))
+    (times : List ℕ) (place : ℕ) (named : Layout) (answer : Answer) → PutsAll words limit delays plans hart blank told times →
+    IsFirstLeast times place → slice_get words place ≡ Some named → Writes told full (least_line named) →
+    answer.status ≡ status.Done → answer.closing ≡ [] →
+    Decides (TimesOf words limit delays plans hart) (BreaksTimes words limit delays plans hart blank full) blank full (Ok answer)
+times-all words limit delays plans hart blank told full times place named answer h least is put done closed =
+    let text : List ℕ = time_lines limit words h.measured ++ least_line named in (
+      text,
+      writes-again blank told full (time_lines limit words h.measured) (least_line named) h.put put,
+      inl (record {
+        measured = h.measured;
+        named = named;
+        all = measures-all words limit delays plans hart blank told times place named h least is;
+        status_is = done;
+        reports = ap (λ (rest : List ℕ). text ++ rest) closed ∙ append-nil text;
+      }),
+    )
+
+-- the report failed at that
+pub times-break : (words : List Layout) (limit : ℕ) (delays : List ℕ) (plans : List Plan) (hart : Hart) (blank told full : Option (List ℕ))
+    (times : List ℕ) (place : ℕ) (named : Layout) → PutsAll words limit delays plans hart blank told times →
+    IsFirstLeast times place → slice_get words place ≡ Some named → WritesFront told full (least_line named) →
+    BreaksTimes words limit delays plans hart blank full
+times-break words limit delays plans hart blank told full times place named h least is front =
+    inr (record {
+      measured = h.measured;
+      named = named;
+      all = measures-all words limit delays plans hart blank told times place named h least is;
+      told = told;
+      put = h.put;
+      front = front;
+    })
+
+pub times-broken : {T E : Type 0} (words : List Layout) (limit : ℕ) (delays : List ℕ) (plans : List Plan) (hart : Hart)
+    (blank told full : Option (List ℕ)) (i j : ℕ) (times : List ℕ) (place : ℕ) (named : Layout) (r : Result T E) (e : E) (result : Result Answer Failed) →
+    PutsAll words limit delays plans hart blank told times → IsFirstLeast times place → slice_get words place ≡ Some named →
+    PutsText told full i j (least_line named) r → r ≡ Err e → IsErr result →
+    Decides (TimesOf words limit delays plans hart) (BreaksTimes words limit delays plans hart blank full) blank full result
+times-broken words limit delays plans hart blank told full i j times place named r e (Ok answer) h least is puts was failed =
+    absurd (false≢true failed)
+times-broken {T = T} {E = E} words limit delays plans hart blank told full i j times place named r e (Err f) h least is puts was failed =
+    let q : PutsText {T = T} {E = E} told full i j (least_line named) (Err e) = rw was at puts in
+    times-break words limit delays plans hart blank told full times place named h least is q.front
+
+-- it was named, and that is all
+pub times-named : {T E : Type 0} (words : List Layout) (limit : ℕ) (delays : List ℕ) (plans : List Plan) (hart : Hart)
+    (blank told full : Option (List ℕ)) (i j : ℕ) (times : List ℕ) (place : ℕ) (named : Layout) (r : Result T E) (t : T) (answer : Answer) →
+    PutsAll words limit delays plans hart blank told times → IsFirstLeast times place → slice_get words place ≡ Some named →
+    PutsText told full i j (least_line named) r → r ≡ Ok t → answer.status ≡ status.Done → answer.closing ≡ [] →
+    Decides (TimesOf words limit delays plans hart) (BreaksTimes words limit delays plans hart blank full) blank full (Ok answer)
+times-named {T = T} {E = E} words limit delays plans hart blank told full i j times place named r t answer h least is puts was done closed =
+    let q : PutsText {T = T} {E = E} told full i j (least_line named) (Ok t) = rw was at puts in
+    times-all words limit delays plans hart blank told full times place named answer h least is q.all done closed
+
+-- memory was refused before that
+pub times-fewer : (words : List Layout) (limit : ℕ) (delays : List ℕ) (plans : List Plan) (hart : Hart) (blank full : Option (List ℕ))
+    (answer : Answer) → PutsFewer words limit delays plans hart blank full →
+    answer.status ≡ status.NoMemory → answer.closing ≡ line (codes "no memory") →
+    Decides (TimesOf words limit delays plans hart) (BreaksTimes words limit delays plans hart blank full) blank full (Ok answer)
+times-fewer words limit delays plans hart blank full answer h is closed =
+    let text : List ℕ = time_lines limit words h.measured in (
+      text,
+      h.put,
+      inr (record {
+        measured = h.measured;
+        each = h.each;
+        fewer = h.fewer;
+        status_is = is;
+        reports = ap (λ (rest : List ℕ). text ++ rest) closed;
+      }),
+    )
+
+-- what comes of the files is what the command answers
+pub answers-time : (asked : TimeAsked) (before after : Option Told) (delays : List ℕ) (plans : List Plan) (hart : Hart)
+    (blank full : Option (List ℕ)) (result : Result Answer Failed) → IsReady asked before after delays plans hart →
+    Decides (TimesOf asked.layouts asked.limit delays plans hart) (BreaksTimes asked.layouts asked.limit delays plans hart blank full) blank full result →
+    Decides (AnswersTime asked before after) (BreaksTime asked before after blank full) blank full result
+answers-time asked before after delays plans hart blank full (Ok answer) ready (lines, put, comes) =
+    (lines, put, inl (record { delays = delays; plans = plans; hart = hart; ready = ready; comes = comes }))
+answers-time asked before after delays plans hart blank full (Err failed) ready breaks =
+    record { delays = delays; plans = plans; hart = hart; ready = ready; comes = breaks }

@@ -1,0 +1,24 @@
+-- Delays that a file tells, or that it does not.
+use Rattle.std.proofs.Common.{◌≡◌, ◌≤◌, ℕ, ◌+◌, List, length, Option, Result, Ok, Err, IfOk, IfErr, inl}
+use Rattle.cf_io.specs.Reads.{Told}
+use Rattle.cf_timed.specs.DelayLines.{delays_in}
+use Rattle.cli_files.specs.Files.{IsFrontOf}
+use Rattle.cli_files.specs.declared.answer.Answer.{Answer}
+use Rattle.cli_time.specs.DelayFiles.{most_delays, IsDelaysAt, LacksDelays, RefusesText}
+
+-- a text that was read and tells delays is in its file
+pub delays-found : (before after : Option Told) (name text : List ℕ) (r : Result (List ℕ) Answer) →
+    IsFrontOf (most_delays + 1) before after name text →
+    IfOk r (λ delays. length text ≤ most_delays) → IfOk r (λ delays. delays_in text ≡ Ok delays) →
+    IfOk r (IsDelaysAt name before after)
+delays-found before after name text (Ok delays) front fits told =
+    record { text = text; front = front; fits = fits; told = told }
+delays-found before after name text (Err answer) front fits told = tt
+
+-- one that was read and tells none
+pub delays-refused : (before after : Option Told) (name text : List ℕ) (r : Result (List ℕ) Answer) →
+    IsFrontOf (most_delays + 1) before after name text →
+    IfErr r (λ answer. RefusesText text answer.status answer.closing) →
+    IfErr r (λ answer. LacksDelays name before after answer.status answer.closing)
+delays-refused before after name text (Ok delays) front h = tt
+delays-refused before after name text (Err answer) front h = inl (record { text = text; front = front; refuses = h })

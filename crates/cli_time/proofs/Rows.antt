@@ -1,0 +1,161 @@
+-- The runs on the first layouts and their lines, and those of the next one.
+use Rattle.std.proofs.Common.{◌≡◌, ◌∙◌, sym, ap, subst, refl, ℕ, suc, ◌+◌, ◌<◌, List, [], ◌∷◌, ◌++◌, length, map, append-nil, append_assoc, Option, Some, true, false, Result, Ok, Err, Bool, arith}
+use Rattle.std.specs.Prelude.{slice_get, is_err}
+use Rattle.std.proofs.lemmas.List.{length-append}
+use Rattle.cf_io.specs.Causes.{HasCause}
+use Rattle.cf_io.specs.Puts.{Writes, WritesFront}
+use Rattle.rv_machine.specs.Hart.{Hart}
+use Rattle.cf_layout.specs.Layout.{Plan}
+use Rattle.cf_report.proofs.Puttings.{writes-again, writes-nothing}
+use Rattle.cf_report.specs.Putting.{PutsText}
+use Rattle.cf_words.specs.Words.{Layout}
+use Rattle.cli_time.specs.Lines.{time_line, time_lines}
+use Rattle.cli_time.specs.Measures.{Measures, MeasuresFirst}
+use Rattle.cli_time.specs.Runs.{PutsAll, PutsFewer}
+use Rattle.cli_time.specs.Times.{BreaksAtLine}
+use Rattle.cli_time.specs.declared.measuring.Measured.{Measured}
+use Rattle.cli_time.proofs.Lists.{map-next}
+
+-- one run more
+pub measures-next : (delays : List ℕ) (limit : ℕ) (hart : Hart) (plans : List Plan) (earlier : List Measured) (plan : Plan) (next : Measured) →
+    MeasuresFirst delays limit hart plans earlier → slice_get plans (length earlier) ≡ Some plan → Measures delays limit plan hart next →
+    MeasuresFirst delays limit hart plans (earlier ++ next ∷ [])
+measures-next delays limit hart [] [] plan next h e m = absurd (cc)
+measures-next delays limit hart (p ∷ plans) [] plan next h e m =
+    let same : p ≡ plan = cc in
+    (rw same m, tt)
+measures-next delays limit hart [] (k ∷ earlier) plan next h e m = absurd h
+measures-next delays limit hart (p ∷ plans) (k ∷ earlier) plan next (first, more) e m =
+    (first, measures-next delays limit hart plans earlier plan next more e m)
+
+-- and its line
+pub lines-next : (limit : ℕ) (words : List Layout) (earlier : List Measured) (word : Layout) (next : Measured) →
+    slice_get words (length earlier) ≡ Some word →
+    time_lines limit words (earlier ++ next ∷ []) ≡ time_lines limit words earlier ++ time_line limit word next
+lines-next limit [] [] word next e = absurd (cc)
+lines-next limit (w ∷ words) [] word next e =
+    let same : w ≡ word = cc in
+    rw same (append-nil (time_line limit word next))
+lines-next limit [] (k ∷ earlier) word next e = absurd (cc)
+lines-next limit (w ∷ words) (k ∷ earlier) word next e =
+    ap (λ (text : List ℕ). time_line limit w k ++ text) (lines-next limit words earlier word next e)
+    ∙ sym (append_assoc (time_line limit w k) (time_lines limit words earlier) (time_line limit word next))
+
+-- the runs on the first layouts, with their times, have their lines, and the report did not fail
+pub record RowsPut (words : List Layout) (limit : ℕ) (delays : List ℕ) (plans : List Plan) (hart : Hart)
+    (blank told : Option (List ℕ)) (before now : ℕ) (place : ℕ) (times : List ℕ) : Type 0 where
+  pub measured : List Measured
+  pub each : MeasuresFirst delays limit hart plans measured
+  pub count : length measured ≡ place
+  pub times_are : times ≡ map (λ m. m.time) measured
+  pub put : Writes blank told (time_lines limit words measured)
+  pub still : now ≡ before
+
+pub rows-start : (words : List Layout) (limit : ℕ) (delays : List ℕ) (plans : List Plan) (hart : Hart)
+    (blank : Option (List ℕ)) (faults : ℕ) (times : List ℕ) → times ≡ [] →
+    RowsPut words limit delays plans hart blank blank faults faults 0 times
+rows-start words limit delays plans hart blank faults times none = record {
+  measured = [];
+  each = tt;
+  count = refl;
+  times_are = none;
+  put = writes-nothing blank;
+  still = refl;
+}
+
+-- the next line was put
+put-next : (words : List Layout) (limit : ℕ) (delays : List ℕ) (plans : List Plan) (hart : Hart)
+    (blank told full : Option (List ℕ)) (before now later : ℕ) (place : ℕ) (times more : List ℕ) (word : Layout) (plan : Plan) (next : Measured) →
+    RowsPut words limit delays plans hart blank told before now place times →
+    slice_get words place ≡ Some word → slice_get plans place ≡ Some plan → Measures delays limit plan hart next →
+    Writes told full (time_line limit word next) → later ≡ now → more ≡ times ++ next.time ∷ [] →
+    RowsPut words limit delays plans hart blank full before later (place + 1) more
+put-next words limit delays plans hart blank told full before now later place times more word plan next h at_word at_plan measures put still pushed =
+    let w : slice_get words (length h.measured) ≡ Some word = rw h.count at_word in
+    let p : slice_get plans (length h.measured) ≡ Some plan = rw h.count at_plan in
+    record {
+      measured = h.measured ++ next ∷ [];
+      each = measures-next delays limit hart plans h.measured plan next h.each p measures;
+      count = let n = length-append h.measured (next ∷ []) in let k = h.count in omega (arith, n, k);
+      times_are = pushed ∙ ap (λ (ts : List ℕ). ts ++ next.time ∷ []) h.times_are ∙ sym (map-next (λ (m : Measured). m.time) h.measured next);
+      put = subst (λ (text : List ℕ). Writes blank full text) (sym (lines-next limit words h.measured word next w))
+          (writes-again blank told full (time_lines limit words h.measured) (time_line limit word next) h.put put);
+      still = still ∙ h.still;
+    }
+
+pub rows-next : {T E : Type 0} (words : List Layout) (limit : ℕ) (delays : List ℕ) (plans : List Plan) (hart : Hart)
+    (blank told full : Option (List ℕ)) (before now later : ℕ) (place : ℕ) (times more : List ℕ) (word : Layout) (plan : Plan) (next : Measured)
+    (r : Result T E) (failed : Bool) →
+    RowsPut words limit delays plans hart blank told before now place times →
+    slice_get words place ≡ Some word → slice_get plans place ≡ Some plan → Measures delays limit plan hart next →
+    PutsText told full now later (time_line limit word next) r → failed ≡ is_err r → failed ≡ false → more ≡ times ++ next.time ∷ [] →
+    RowsPut words limit delays plans hart blank full before later (place + 1) more
+rows-next words limit delays plans hart blank told full before now later place times more word plan next (Ok u) failed h at_word at_plan measures puts is none pushed =
+    put-next words limit delays plans hart blank told full before now later place times more word plan next h at_word at_plan measures
+    puts.all puts.cause.still pushed
+rows-next words limit delays plans hart blank told full before now later place times more word plan next (Err e) failed h at_word at_plan measures puts is none pushed =
+    absurd (cc)
+
+-- all were
+pub rows-all : (words : List Layout) (limit : ℕ) (delays : List ℕ) (plans : List Plan) (hart : Hart)
+    (blank told : Option (List ℕ)) (before now : ℕ) (place : ℕ) (times : List ℕ) →
+    RowsPut words limit delays plans hart blank told before now place times → place ≡ length plans →
+    PutsAll words limit delays plans hart blank told times
+rows-all words limit delays plans hart blank told before now place times h end = record {
+  measured = h.measured;
+  each = h.each;
+  all = h.count ∙ end;
+  times_are = h.times_are;
+  put = h.put;
+}
+
+-- memory was refused for the next run
+pub rows-fewer : (words : List Layout) (limit : ℕ) (delays : List ℕ) (plans : List Plan) (hart : Hart)
+    (blank told : Option (List ℕ)) (before now : ℕ) (place : ℕ) (times : List ℕ) →
+    RowsPut words limit delays plans hart blank told before now place times → place < length plans →
+    PutsFewer words limit delays plans hart blank told
+rows-fewer words limit delays plans hart blank told before now place times h below = record {
+  measured = h.measured;
+  each = h.each;
+  fewer = let k = h.count in omega (arith, k, below);
+  put = h.put;
+}
+
+-- the report failed at the next line
+pub rows-break : {T E : Type 0} (words : List Layout) (limit : ℕ) (delays : List ℕ) (plans : List Plan) (hart : Hart)
+    (blank told full : Option (List ℕ)) (before now later : ℕ) (place : ℕ) (times : List ℕ) (word : Layout) (plan : Plan) (next : Measured)
+    (r : Result T E) (failed : Bool) →
+    RowsPut words limit delays plans hart blank told before now place times →
+    slice_get words place ≡ Some word → slice_get plans place ≡ Some plan → Measures delays limit plan hart next →
+    PutsText told full now later (time_line limit word next) r → failed ≡ is_err r → failed ≡ true →
+    BreaksAtLine words limit delays plans hart blank full
+rows-break words limit delays plans hart blank told full before now later place times word plan next (Ok u) failed h at_word at_plan measures puts is some =
+    absurd (cc)
+rows-break words limit delays plans hart blank told full before now later place times word plan next (Err e) failed h at_word at_plan measures puts is some =
+    record {
+      measured = h.measured;
+      each = h.each;
+      word = word;
+      plan = plan;
+      next = next;
+      word_is = rw h.count at_word;
+      plan_is = rw h.count at_plan;
+      measures = measures;
+      told = told;
+      put = h.put;
+      front = puts.front;
+    }
+
+-- the count of the report's faults rose there
+pub rows-cause : {T E : Type 0} (told full : Option (List ℕ)) (before now later : ℕ) (text : List ℕ) (r : Result T E) (failed : Bool) →
+    PutsText told full now later text r → failed ≡ is_err r → failed ≡ true → now ≡ before → HasCause {T = Unit {0}} {E = Unit {0}} before later (Err tt)
+rows-cause told full before now later text (Ok u) failed puts is some still = absurd (cc)
+rows-cause told full before now later text (Err e) failed puts is some still = record {
+  never_falls = let n = puts.cause.never_falls in omega (arith, n, still);
+  rose = let r = puts.cause.rose in rw (sym still) r;
+  still = tt;
+}
+
+-- and stays where it did not
+pub rows-still : (before now : ℕ) → now ≡ before → HasCause {T = Unit {0}} {E = Unit {0}} before now (Ok tt)
+rows-still before now still = record { never_falls = omega (arith, still); rose = tt; still = still }

@@ -1,0 +1,23 @@
+-- What the words ask of `time`.
+use Rattle.std.specs.Prelude.{ℕ, List, codes}
+use Rattle.cf_words.specs.Words.{Layout, plain, in_file}
+
+-- the files with the delays and with the program, the layouts in their order, and the retired instructions at which each run stops
+pub record TimeAsked : Type 0 where
+  pub delays : List ℕ
+  pub program : List ℕ
+  pub layouts : List Layout
+  pub limit : ℕ
+
+abbrev pub time_asked : List ℕ → List ℕ → List Layout → ℕ → TimeAsked
+time_asked delays program layouts limit = record {
+  delays = delays;
+  program = program;
+  layouts = layouts;
+  limit = limit;
+}
+
+-- the word that names a layout
+unfoldable pub name_of : Layout → List ℕ
+name_of plain = codes "plain"
+name_of (in_file name) = name

@@ -1,0 +1,25 @@
+-- The layouts that some words name, read one after another, and the first that is not there.
+use Rattle.std.specs.Prelude.{◌≡◌, ◌⊎◌, ℕ, List, [], ◌∷◌, Option}
+use Rattle.cf_io.specs.Reads.{Told}
+use Rattle.cf_layout.specs.Layout.{Plan}
+use Rattle.cf_words.specs.Words.{Layout}
+use Rattle.cli_files.specs.Files.{LacksMemory}
+use Rattle.cli_files.specs.Layouts.{IsLayoutAt, LacksLayout}
+use Rattle.cli_files.specs.declared.status.Status.{Status}
+
+-- the words name these layouts, in their order
+abbrev pub AreLayoutsAt : List Layout → Option Told → Option Told → List Plan → Type 0
+AreLayoutsAt [] before after [] = after ≡ before
+AreLayoutsAt [] before after (plan ∷ plans) = ⊥
+AreLayoutsAt (word ∷ words) before after [] = ⊥
+AreLayoutsAt (word ∷ words) before after (plan ∷ plans) =
+    (between : Option Told) × IsLayoutAt word before between plan × AreLayoutsAt words between after plans
+
+-- the first words name layouts, and the next one none, or memory for it was refused: the status that says why, and the report
+abbrev pub LacksLayouts : List Layout → Option Told → Option Told → Status → List ℕ → Type 0
+LacksLayouts [] before after answer report = ⊥
+LacksLayouts (word ∷ words) before after answer report =
+    LacksLayout word before after answer report
+    ⊎ (LacksMemory before after answer report
+    ⊎ ((between : Option Told) × (plan : Plan) × IsLayoutAt word before between plan
+    × LacksLayouts words between after answer report))

@@ -1,0 +1,10 @@
+pub mod Asked
+pub mod DelayFiles
+pub mod LayoutFiles
+pub mod Leasts
+pub mod Lines
+pub mod Measures
+pub mod Reading
+pub mod Refusals
+pub mod Runs
+pub mod Times

@@ -1,0 +1,41 @@
+-- The lines of the report of `time` (a format of this project).
+use Rattle.std.specs.Prelude.{ℕ, ◌-◌, List, [], ◌∷◌, ◌++◌, codes, decimal, length, take}
+use Rattle.cf_closing.specs.Lines.{line_of_run}
+use Rattle.cf_texts.specs.Texts.{counted_line, line}
+use Rattle.cf_timed.specs.declared.answer.Timed.{Timed}
+use Rattle.cf_timed.specs.TimedRuns.{answer_of}
+use Rattle.cf_words.specs.Words.{Layout}
+use Rattle.cli_time.specs.Asked.{name_of}
+use Rattle.cli_time.specs.declared.measuring.Measured.{Measured}
+
+-- a line without its line feed
+abbrev pub unended : List ℕ → List ℕ
+unended text = take (length text - 1) text
+
+-- how the run ended: the first line of the report of `run`, without its line feed
+unfoldable pub ending_text : ℕ → Timed → List ℕ
+ending_text limit answer = unended (line_of_run limit (answer_of answer))
+
+-- a number behind its name
+unfoldable pub number_text : List ℕ → ℕ → List ℕ
+number_text name number = name ++ decimal number
+
+-- what was measured, behind the name of the layout
+unfoldable pub measured_text : ℕ → Measured → List ℕ
+measured_text limit measured =
+    codes ": " ++ ending_text limit measured.answer ++ number_text (codes " time ") measured.time
+    ++ number_text (codes " moves ") measured.moves ++ counted_line (codes " retired ") measured.retired
+
+-- the line of a layout
+abbrev pub time_line : ℕ → Layout → Measured → List ℕ
+time_line limit word measured = name_of word ++ measured_text limit measured
+
+-- the lines of the first layouts, as many as were measured
+abbrev pub time_lines : ℕ → List Layout → List Measured → List ℕ
+time_lines limit words [] = []
+time_lines limit [] (measured ∷ more) = []
+time_lines limit (word ∷ words) (measured ∷ more) = time_line limit word measured ++ time_lines limit words more
+
+-- the line that names the layout with the least time
+abbrev pub least_line : Layout → List ℕ
+least_line word = codes "least " ++ line (name_of word)

@@ -1,0 +1,139 @@
+//! The command `time`.
+
+ghost use Rattle.std.specs.Prelude.{◌≡◌, ◌≤◌, IfOk, MatchResult, Ok, length, map, string_bytes, vec_items};
+ghost use Rattle.cf_io.specs.Causes.{HasCause};
+ghost use Rattle.cf_words.specs.Words.{layout_in};
+ghost use Rattle.cli_files.specs.Causes.{input_answered, output_answered};
+ghost use Rattle.cli_files.specs.Deciding.{Decides, files_decided};
+ghost use Rattle.cli_files.specs.Image.{IsProgram, opened};
+ghost use Rattle.cli_time.specs.Asked.{time_asked};
+ghost use Rattle.cli_time.specs.Runs.{PutsAll, StopsAt, report_stopped};
+ghost use Rattle.cli_time.specs.Times.{AnswersTime, BreaksTime, BreaksTimes, TimesOf};
+
+use crate::layout_files::word_at;
+use crate::leasts::first_least;
+use crate::lines::{put_least, put_line};
+use crate::measuring::measure;
+use crate::reading::{Ready, read_files};
+use arrayvec::ArrayVec;
+use cf_io::{Failed, Files, Sink};
+use cf_texts::Page;
+use cli_files::{Answer, Status, no_memory};
+use std::alloc::Global;
+
+/// Why there is no line for each layout.
+pub enum Stop {
+    /// Memory was refused, before the first move of a run.
+    NoMemory,
+    /// The report failed.
+    Failed,
+}
+
+/// Runs the program on each layout, and puts the line of each as it comes. The times are given, in the order of the layouts.
+fn time_each<R: Sink>(
+    alloc: Global,
+    ready: &Ready,
+    words: &[String],
+    limit: u64,
+    report: &mut R,
+) -> Result<ArrayVec<u64, 8>, Stop>
+    requires limit { limit ≤ 1000000000 }
+    requires program { IsProgram (vec_items ready.now.image) }
+    requires words { length words.now ≡ length (vec_items ready.now.layouts) }
+    requires few { length words.now ≤ 8 }
+    ensures put { MatchResult result
+        (λ times. PutsAll (map layout_in (map string_bytes words.now)) limit ready.now.delays (vec_items ready.now.layouts)
+        (opened (vec_items ready.now.image)) (R.written report.old) (R.written report.new) times.items)
+        (λ stop. StopsAt (map layout_in (map string_bytes words.now)) limit ready.now.delays (vec_items ready.now.layouts)
+        (opened (vec_items ready.now.image)) (R.written report.old) (R.written report.new) stop) }
+    ensures cause { HasCause (R.faults report.old) (R.faults report.new) (report_stopped result) }
+{
+    let layouts = ready.layouts.as_slice();
+    let mut times = ArrayVec::new();
+    for place in 0..layouts.len() {
+        let Ok(measured) = measure(
+            alloc,
+            ready.image.as_slice(),
+            &layouts[place],
+            ready.delays,
+            limit,
+        ) else {
+            return Err(Stop::NoMemory);
+        };
+        if put_line(limit, word_at(words, place), measured, report).is_err() {
+            return Err(Stop::Failed);
+        }
+        times.push(measured.time);
+    }
+    Ok(times)
+}
+
+/// Runs the program on each layout, puts the line of each, and names the first layout with the least time.
+fn compare_ready<R: Sink>(
+    alloc: Global,
+    ready: &Ready,
+    words: &[String],
+    limit: u64,
+    report: &mut R,
+) -> Result<Answer, Failed>
+    requires limit { limit ≤ 1000000000 }
+    requires program { IsProgram (vec_items ready.now.image) }
+    requires words { length words.now ≡ length (vec_items ready.now.layouts) }
+    requires some { 1 ≤ length words.now }
+    requires few { length words.now ≤ 8 }
+    ensures comes { Decides
+        (TimesOf (map layout_in (map string_bytes words.now)) limit ready.now.delays (vec_items ready.now.layouts) (opened (vec_items ready.now.image)))
+        (BreaksTimes (map layout_in (map string_bytes words.now)) limit ready.now.delays (vec_items ready.now.layouts)
+        (opened (vec_items ready.now.image)) (R.written report.old) (R.written report.new))
+        (R.written report.old) (R.written report.new) result }
+    ensures files { files_decided result ≡ Ok tt }
+    ensures input { IfOk result (λ answer. input_answered answer.status ≡ Ok tt) }
+    ensures output { IfOk result (λ answer. output_answered answer.status ≡ Ok tt) }
+    ensures report { HasCause (R.faults report.old) (R.faults report.new) result }
+{
+    let times = match time_each(alloc, ready, words, limit, report) {
+        Ok(times) => times,
+        Err(Stop::NoMemory) => return Ok(no_memory()),
+        Err(Stop::Failed) => return Err(Failed),
+    };
+    let least = first_least(times.as_slice());
+    put_least(word_at(words, least), report)?;
+    Ok(Answer {
+        status: Status::Done,
+        closing: Page::new(),
+    })
+}
+
+/// Carries out `time`: reads the delays, the one to eight layouts in their order and the program, and runs the program on each
+/// layout, loaded anew, by the moves that are done first. The line of each is put to the report as it comes, with how the run
+/// ended, its time in ticks, and how many moves were made and instructions retired; the last line names the first layout with the
+/// least time. The program's input is empty, and its output goes nowhere. Memory may be refused before the first move of each run,
+/// so that lines of the earlier ones stand there then. It fails where the report does, which is then put nothing more.
+pub fn compare_layouts<F: Files, R: Sink>(
+    alloc: Global,
+    delays: &str,
+    program: &str,
+    layouts: &[String],
+    limit: u64,
+    files: &mut F,
+    report: &mut R,
+) -> Result<Answer, Failed>
+    requires limit { limit ≤ 1000000000 }
+    requires some { 1 ≤ length layouts.now }
+    requires few { length layouts.now ≤ 8 }
+    ensures answers { Decides
+        (AnswersTime (time_asked delays.now program.now (map layout_in (map string_bytes layouts.now)) limit)
+        (F.told files.old) (F.told files.new))
+        (BreaksTime (time_asked delays.now program.now (map layout_in (map string_bytes layouts.now)) limit)
+        (F.told files.old) (F.told files.new) (R.written report.old) (R.written report.new))
+        (R.written report.old) (R.written report.new) result }
+    ensures files { HasCause (F.faults files.old) (F.faults files.new) (files_decided result) }
+    ensures input { IfOk result (λ answer. input_answered answer.status ≡ Ok tt) }
+    ensures output { IfOk result (λ answer. output_answered answer.status ≡ Ok tt) }
+    ensures report { HasCause (R.faults report.old) (R.faults report.new) result }
+{
+    match read_files(alloc, delays, program, layouts, limit, files) {
+        Ok(ready) => compare_ready(alloc, &ready, layouts, limit, report),
+        Err(answer) => Ok(answer),
+    }
+}

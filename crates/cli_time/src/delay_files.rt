@@ -1,0 +1,64 @@
+//! The delays that a file tells.
+
+ghost use Rattle.std.specs.Prelude.{◌≡◌, ◌≤◌, IfOk, IfErr, Ok, length};
+ghost use Rattle.cf_io.specs.Causes.{HasCause};
+ghost use Rattle.cf_timed.specs.DelayLines.{delays_in};
+ghost use Rattle.cli_files.specs.Causes.{files_read};
+ghost use Rattle.cli_files.specs.declared.status.Status.TheVariants.{BadDelays};
+ghost use Rattle.cli_time.specs.DelayFiles.{IsDelaysAt, LacksDelays, RefusesText};
+ghost use Rattle.cli_time.specs.Refusals.{bad_delays as bad_delays_text};
+
+use crate::refusals::bad_delays;
+use cf_io::{Files, FilesErr};
+use cf_timed::{Delays, read_delays};
+use cli_files::{Answer, DelaysFault, Status, Which, line, no_memory};
+use std::alloc::Global;
+
+/// The greatest length of a file of delays, in bytes.
+const MOST_BYTES: u64 = 65_536;
+
+fn refusal(fault: DelaysFault) -> Answer
+    ensures status { result.status ≡ BadDelays fault }
+    ensures closing { result.closing ≡ bad_delays_text fault }
+{
+    Answer {
+        status: Status::BadDelays(fault),
+        closing: bad_delays(fault),
+    }
+}
+
+/// The delays that a text tells, or the answer where it tells none.
+fn read_text(text: &[u8]) -> Result<Delays, Answer>
+    ensures fits { IfOk result (λ delays. length text.now ≤ 65536) }
+    ensures told { IfOk result (λ delays. delays_in text.now ≡ Ok delays) }
+    ensures refused { IfErr result (λ answer. RefusesText text.now answer.status answer.closing) }
+{
+    if text.len() as u64 > MOST_BYTES {
+        return Err(refusal(DelaysFault::TooLong));
+    }
+    match read_delays(text) {
+        Ok(delays) => Ok(delays),
+        Err(error) => Err(refusal(DelaysFault::Line(error))),
+    }
+}
+
+/// The delays that the file of this name tells, or the answer where it tells none. One byte more than it may have is read of it.
+pub(crate) fn delays_at<F: Files>(
+    alloc: Global,
+    name: &str,
+    files: &mut F,
+) -> Result<Delays, Answer>
+    ensures ok { IfOk result (IsDelaysAt name.now (F.told files.old) (F.told files.new)) }
+    ensures refused { IfErr result (λ answer. LacksDelays name.now
+        (F.told files.old) (F.told files.new) answer.status answer.closing) }
+    ensures faults { HasCause (F.faults files.old) (F.faults files.new) (files_read result) }
+{
+    match files.read(alloc, name, MOST_BYTES + 1) {
+        Ok(text) => read_text(text.as_slice()),
+        Err(FilesErr::Failed) => Err(Answer {
+            status: Status::ReadFault(Which::Delays),
+            closing: line(b"read fault delays"),
+        }),
+        Err(FilesErr::NoMemory) => Err(no_memory()),
+    }
+}

@@ -1,0 +1,47 @@
+//! The layouts that some words name.
+
+ghost use Rattle.std.specs.Prelude.{◌≡◌, ◌<◌, IfOk, IfErr, Some, length, map, slice_get, string_bytes, vec_items};
+ghost use Rattle.cf_io.specs.Causes.{HasCause};
+ghost use Rattle.cf_words.specs.Views.{layout_of};
+ghost use Rattle.cf_words.specs.Words.{layout_in};
+ghost use Rattle.cli_files.specs.Causes.{files_read};
+ghost use Rattle.cli_time.specs.LayoutFiles.{AreLayoutsAt, LacksLayouts};
+
+use cf_io::Files;
+use cf_layout::Layout;
+use cf_words::LayoutWord;
+use cli_files::{Answer, layout_at, no_memory};
+use std::alloc::Global;
+
+/// The layout that the word at a place names.
+pub(crate) fn word_at(words: &[String], place: usize) -> LayoutWord<'_>
+    requires { place < length words.now }
+    ensures { slice_get (map layout_in (map string_bytes words.entry.now)) place ≡ Some (layout_of result) }
+{
+    LayoutWord::from_word(words[place].as_str())
+}
+
+/// The layouts that words name, read in their order; or the answer of the first that is not there.
+pub(crate) fn layouts_at<F: Files>(
+    alloc: Global,
+    words: &[String],
+    files: &mut F,
+) -> Result<Vec<Layout>, Answer>
+    ensures ok { IfOk result (λ layouts. AreLayoutsAt (map layout_in (map string_bytes words.now))
+        (F.told files.old) (F.told files.new) (vec_items layouts)) }
+    ensures refused { IfErr result (λ answer. LacksLayouts (map layout_in (map string_bytes words.now))
+        (F.told files.old) (F.told files.new) answer.status answer.closing) }
+    ensures faults { HasCause (F.faults files.old) (F.faults files.new) (files_read result) }
+{
+    let mut layouts = Vec::new(alloc);
+    for place in 0..words.len() {
+        let layout = match layout_at(alloc, word_at(words, place), files) {
+            Ok(layout) => layout,
+            Err(answer) => return Err(answer),
+        };
+        if layouts.push(layout).is_err() {
+            return Err(no_memory());
+        }
+    }
+    Ok(layouts)
+}

@@ -1,0 +1,106 @@
+//! The lines of the report.
+#![tactic(auto, unfolding(crate::specs::Lines::ending_text, crate::specs::Lines::number_text, crate::specs::Lines::measured_text, crate::specs::Asked::name_of))]
+
+ghost use Rattle.std.specs.Prelude.{◌≡◌, ◌+◌, ◌≤◌, ◌++◌, length};
+ghost use Rattle.cf_report.specs.Putting.{PutsText};
+ghost use Rattle.cf_timed.specs.TimedRuns.{answer_of};
+ghost use Rattle.cf_words.specs.Views.{layout_of};
+ghost use Rattle.cli_time.specs.Asked.{name_of};
+ghost use Rattle.cli_time.specs.Lines.{ending_text, least_line, measured_text, number_text, time_line};
+
+use crate::measuring::Measured;
+use cf_closing::run_line;
+use cf_io::{Failed, Sink, put_all};
+use cf_run::Ran;
+use cf_texts::Page;
+use cf_timed::Timed;
+use cf_words::LayoutWord;
+
+/// The answer of a timed run as that of any run.
+fn ran(answer: Timed) -> Ran
+    ensures { result ≡ answer_of answer }
+{
+    match answer {
+        Timed::Exit(status) => Ran::Exit(status),
+        Timed::Trap { cause, pc, detail } => Ran::Trap { cause, pc, detail },
+        Timed::Limit => Ran::Limit,
+        Timed::ReadFault => Ran::ReadFault,
+        Timed::WriteFault => Ran::WriteFault,
+    }
+}
+
+/// How the run ended.
+fn push_ending(page: &mut Page, limit: u64, answer: Timed)
+    requires { length page.old + 80 ≤ 640 }
+    ensures text { page.new ≡ page.old ++ ending_text limit answer }
+    ensures size { length page.new ≤ length page.old + 80 }
+{
+    let line = run_line(limit, ran(answer));
+    let line = line.bytes();
+    page.push(&line[..line.len().saturating_sub(1)]);
+}
+
+/// A number behind its name.
+fn push_number(page: &mut Page, name: &[u8], number: u64)
+    requires { length page.old + length name.now + 20 ≤ 640 }
+    ensures text { page.new ≡ page.old ++ number_text name.now number }
+    ensures size { length page.new ≤ length page.old + length name.now + 20 }
+{
+    page.push(name);
+    page.push_decimal(number);
+}
+
+/// What was measured, as it stands behind the name of the layout.
+fn measured_page(limit: u64, measured: Measured) -> Page
+    ensures { result ≡ measured_text limit measured }
+{
+    let mut page = Page::new();
+    page.push(b": ");
+    push_ending(&mut page, limit, measured.answer);
+    push_number(&mut page, b" time ", measured.time);
+    push_number(&mut page, b" moves ", measured.moves);
+    page.push_counted(b" retired ", measured.retired);
+    page
+}
+
+/// The word that names a layout.
+fn name_of(word: LayoutWord<'_>) -> &[u8]
+    ensures { result.now ≡ name_of (layout_of word.entry) }
+{
+    match word {
+        LayoutWord::Plain => b"plain",
+        LayoutWord::File(name) => name.as_bytes(),
+    }
+}
+
+/// Puts one text, and another behind it.
+fn put_both<R: Sink>(first: &[u8], second: &[u8], report: &mut R) -> Result<(), Failed>
+    ensures { PutsText (R.written report.old) (R.written report.new)
+        (R.faults report.old) (R.faults report.new) (first.now ++ second.now) result }
+{
+    put_all(report, first)?;
+    put_all(report, second)
+}
+
+/// Puts the line of a layout.
+pub(crate) fn put_line<R: Sink>(
+    limit: u64,
+    word: LayoutWord<'_>,
+    measured: Measured,
+    report: &mut R,
+) -> Result<(), Failed>
+    ensures { PutsText (R.written report.old) (R.written report.new)
+        (R.faults report.old) (R.faults report.new) (time_line limit (layout_of word.entry) measured) result }
+{
+    let page = measured_page(limit, measured);
+    put_both(name_of(word), page.bytes(), report)
+}
+
+/// Puts the line that names the layout with the least time.
+pub(crate) fn put_least<R: Sink>(word: LayoutWord<'_>, report: &mut R) -> Result<(), Failed>
+    ensures { PutsText (R.written report.old) (R.written report.new)
+        (R.faults report.old) (R.faults report.new) (least_line (layout_of word.entry)) result }
+{
+    put_all(report, b"least ")?;
+    put_both(name_of(word), b"\n", report)
+}

@@ -1,0 +1,83 @@
+//! The files that the command reads.
+
+ghost use Rattle.std.specs.Prelude.{◌≡◌, IfOk, IfErr, map, string_bytes, vec_items};
+ghost use Rattle.cf_io.specs.Causes.{HasCause};
+ghost use Rattle.cf_words.specs.Words.{layout_in};
+ghost use Rattle.cli_files.specs.Causes.{files_read};
+ghost use Rattle.cli_files.specs.Image.{IsProgram, opened};
+ghost use Rattle.cli_files.specs.Programs.{IsProgramAt, LacksProgram};
+ghost use Rattle.cli_time.specs.Asked.{time_asked};
+ghost use Rattle.cli_time.specs.Reading.{IsReady, LacksFile};
+
+use crate::delay_files::delays_at;
+use crate::layout_files::layouts_at;
+use cf_io::{Files, FilesErr};
+use cf_layout::Layout;
+use cf_timed::Delays;
+use cli_files::{Answer, MOST_BYTES, Status, Which, line, no_memory, open_image};
+use std::alloc::Global;
+
+/// What the runs begin with: the delays, the layouts in their order, and the bytes of the program's file.
+#[derive(Drop)]
+pub(crate) struct Ready {
+    pub(crate) delays: Delays,
+    pub(crate) layouts: Vec<Layout>,
+    pub(crate) image: Vec<u8>,
+}
+
+/// The bytes of the file of this name, which are a program, or the answer where they are none.
+fn image_at<F: Files>(alloc: Global, name: &str, files: &mut F) -> Result<Vec<u8>, Answer>
+    ensures ok { IfOk result (λ image. IsProgramAt name.now (F.told files.old) (F.told files.new) (opened (vec_items image))) }
+    ensures program { IfOk result (λ image. IsProgram (vec_items image)) }
+    ensures refused { IfErr result (λ answer. LacksProgram name.now
+        (F.told files.old) (F.told files.new) answer.status answer.closing) }
+    ensures faults { HasCause (F.faults files.old) (F.faults files.new) (files_read result) }
+{
+    match files.read(alloc, name, MOST_BYTES + 1) {
+        Ok(image) => match open_image(alloc, image.as_slice()) {
+            Ok(_) => Ok(image),
+            Err(answer) => Err(answer),
+        },
+        Err(FilesErr::Failed) => Err(Answer {
+            status: Status::ReadFault(Which::Program),
+            closing: line(b"read fault program"),
+        }),
+        Err(FilesErr::NoMemory) => Err(no_memory()),
+    }
+}
+
+/// Reads the delays, the layouts and the program, in this order; or the answer of the first that is not there.
+pub(crate) fn read_files<F: Files>(
+    alloc: Global,
+    delays: &str,
+    program: &str,
+    layouts: &[String],
+    limit: u64,
+    files: &mut F,
+) -> Result<Ready, Answer>
+    ensures ready { IfOk result (λ ready. IsReady
+        (time_asked delays.now program.now (map layout_in (map string_bytes layouts.now)) limit)
+        (F.told files.old) (F.told files.new) ready.delays (vec_items ready.layouts) (opened (vec_items ready.image))) }
+    ensures program { IfOk result (λ ready. IsProgram (vec_items ready.image)) }
+    ensures lacks { IfErr result (λ answer. LacksFile
+        (time_asked delays.now program.now (map layout_in (map string_bytes layouts.now)) limit)
+        (F.told files.old) (F.told files.new) answer.status answer.closing) }
+    ensures faults { HasCause (F.faults files.old) (F.faults files.new) (files_read result) }
+{
+    let delays = match delays_at(alloc, delays, files) {
+        Ok(delays) => delays,
+        Err(answer) => return Err(answer),
+    };
+    let layouts = match layouts_at(alloc, layouts, files) {
+        Ok(layouts) => layouts,
+        Err(answer) => return Err(answer),
+    };
+    match image_at(alloc, program, files) {
+        Ok(image) => Ok(Ready {
+            delays,
+            layouts,
+            image,
+        }),
+        Err(answer) => Err(answer),
+    }
+}

@@ -1,0 +1,50 @@
+//! The report of a file that tells no delays.
+#![tactic(auto, unfolding(crate::specs::Refusals::kind_text, crate::specs::Refusals::error_text, crate::specs::Refusals::bad_delays))]
+
+ghost use Rattle.std.specs.Prelude.{◌≡◌, ◌+◌, ◌≤◌, ◌++◌, length};
+ghost use Rattle.cli_time.specs.Refusals.{bad_delays as bad_delays_text, error_text, kind_text};
+
+use cf_texts::Page;
+use cf_timed::{DelayErr, DelayKind};
+use cli_files::DelaysFault;
+
+fn push_kind(page: &mut Page, kind: DelayKind)
+    requires { length page.old + 20 ≤ 640 }
+    ensures text { page.new ≡ page.old ++ kind_text kind }
+    ensures size { length page.new ≤ length page.old + 20 }
+{
+    match kind {
+        DelayKind::NotAscii => page.push(b"NotAscii"),
+        DelayKind::UnknownKind => page.push(b"UnknownKind"),
+        DelayKind::KindTwice => page.push(b"KindTwice"),
+        DelayKind::BadDelay => page.push(b"BadDelay"),
+        DelayKind::ExtraWords => page.push(b"ExtraWords"),
+    }
+}
+
+fn push_error(page: &mut Page, error: DelayErr)
+    requires { length page.old + 60 ≤ 640 }
+    ensures text { page.new ≡ page.old ++ error_text error }
+    ensures size { length page.new ≤ length page.old + 60 }
+{
+    page.push(b" line ");
+    page.push_decimal(u64::from(error.line));
+    page.push(b": ");
+    push_kind(page, error.kind);
+}
+
+/// The report of a file that tells no delays: it is too long, or the first line that tells none, and why.
+pub(crate) fn bad_delays(fault: DelaysFault) -> Page
+    ensures { result ≡ bad_delays_text fault }
+{
+    let mut page = Page::new();
+    match fault {
+        DelaysFault::TooLong => page.push(b"bad delays: TooLong"),
+        DelaysFault::Line(error) => {
+            page.push(b"bad delays");
+            push_error(&mut page, error);
+        }
+    }
+    page.push(b"\n");
+    page
+}
