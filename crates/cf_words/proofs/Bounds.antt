@@ -1,4 +1,4 @@
--- What is asked is built, and its numbers are within their bounds.
+-- The numbers that are asked are within their bounds.
 use Rattle.std.proofs.Common.{◌≡◌, ◌≤◌, ℕ, List, [], ◌∷◌, length, map, Bool, true, false, refl, arith, if◌then◌else◌, Option, Some, None, option_map, subst}
 use Rattle.std.specs.Prelude.{nat_le, ◌&&◌}
 use Rattle.std.specs.List.{list_all}
@@ -8,9 +8,9 @@ use Rattle.std.proofs.lemmas.List.{length-map}
 use Rattle.cf_words.specs.declared.names.Name.{Name}
 use Rattle.cf_words.specs.declared.names.Name.TheVariants as names
 use Rattle.cf_words.specs.Values.{most_statements, count_in, is_number}
-use Rattle.cf_words.specs.Commands.{is_built, most}
+use Rattle.cf_words.specs.Commands.{most}
 use Rattle.cf_words.specs.Options.{takes, most_limit, Setting, limit_to, show_lines, show_sites, script_from, seed_from, with_mul, with_run, Schedule, Given, given_in}
-use Rattle.cf_words.specs.Words.{Asked, gen, moves, layout_in, limit_of, asked_by, IsBounded, IsBuilt, Asks}
+use Rattle.cf_words.specs.Words.{Asked, gen, moves, layout_in, limit_of, asked_by, IsBounded, Asks}
 use Rattle.cf_words.proofs.Settings.{both}
 
 -- the limit among options of a command is within its bound
@@ -49,10 +49,9 @@ unfolding count_in
 count-bounded word number h =
     count-tested (is_number most_statements word && nat_le 1 (digits_value 10 word)) word number refl h
 
--- what is asked, and of which command
+-- what is asked of a command
 record Fits (name : Name) (asked : Asked) : Type 0 where
   bounded : IsBounded asked
-  built : is_built name ≡ true → IsBuilt asked
 
 drawn-fits : (count : Option ℕ) (run : Bool) (word : List ℕ) (asked : Asked) → count_in word ≡ count →
     option_map (λ number. gen number run) count ≡ Some asked → Fits names.Gen asked
@@ -60,7 +59,7 @@ drawn-fits None run word asked e h = absurd (cc)
 drawn-fits (Some number) run word asked e h =
     let b = count-bounded word number e in
     let same : gen number run ≡ asked = cc in
-    subst (λ (a : Asked). Fits names.Gen a) same (record { bounded = b; built = λ built. built })
+    subst (λ (a : Asked). Fits names.Gen a) same (record { bounded = b })
 
 moves-fits : (schedule : Option Schedule) (layout program : List ℕ) (given : Given) (asked : Asked) →
     limit_of given ≤ most_limit →
@@ -69,34 +68,29 @@ moves-fits : (schedule : Option Schedule) (layout program : List ℕ) (given : G
 moves-fits None layout program given asked limit h = absurd (cc)
 moves-fits (Some schedule) layout program given asked limit h =
     let same : moves (layout_in layout) program schedule (limit_of given) ≡ asked = cc in
-    subst (λ (a : Asked). Fits names.Moves a) same (record { bounded = limit; built = λ built. built })
+    subst (λ (a : Asked). Fits names.Moves a) same (record { bounded = limit })
 
 same-fits : (name : Name) (one asked : Asked) → Some one ≡ Some asked → Fits name one → Fits name asked
 same-fits name one asked h fits = let same : one ≡ asked = cc in subst (λ (a : Asked). Fits name a) same fits
-
--- the commands for help are built together
-help-built : is_built names.HelpOption ≡ true → is_built names.Help ≡ true
-unfolding is_built
-help-built h = refl
 
 asked-fits : (name : Name) (words : List (List ℕ)) (given : Given) (asked : Asked) →
     limit_of given ≤ most_limit → length words ≤ most name → asked_by name words given ≡ Some asked →
     Fits name asked
 asked-fits names.Machine [] given asked limit few h = absurd (cc)
 asked-fits names.Machine (w ∷ []) given asked limit few h =
-    same-fits _ _ asked h (record { bounded = limit; built = λ built. built })
+    same-fits _ _ asked h (record { bounded = limit })
 asked-fits names.Machine (w ∷ v ∷ ws) given asked limit few h = absurd (cc)
 asked-fits names.Check [] given asked limit few h = absurd (cc)
 asked-fits names.Check (w ∷ []) given asked limit few h =
-    same-fits _ _ asked h (record { bounded = tt; built = λ built. built })
+    same-fits _ _ asked h (record { bounded = tt })
 asked-fits names.Check (w ∷ v ∷ ws) given asked limit few h = absurd (cc)
 asked-fits names.Asm [] given asked limit few h = absurd (cc)
 asked-fits names.Asm (w ∷ []) given asked limit few h =
-    same-fits _ _ asked h (record { bounded = tt; built = λ built. built })
+    same-fits _ _ asked h (record { bounded = tt })
 asked-fits names.Asm (w ∷ v ∷ ws) given asked limit few h = absurd (cc)
 asked-fits names.List [] given asked limit few h = absurd (cc)
 asked-fits names.List (w ∷ []) given asked limit few h =
-    same-fits _ _ asked h (record { bounded = tt; built = λ built. built })
+    same-fits _ _ asked h (record { bounded = tt })
 asked-fits names.List (w ∷ v ∷ ws) given asked limit few h = absurd (cc)
 asked-fits names.Gen [] given asked limit few h = absurd (cc)
 asked-fits names.Gen (w ∷ []) given asked limit few h =
@@ -105,7 +99,7 @@ asked-fits names.Gen (w ∷ v ∷ ws) given asked limit few h = absurd (cc)
 asked-fits names.Run [] given asked limit few h = absurd (cc)
 asked-fits names.Run (w ∷ []) given asked limit few h = absurd (cc)
 asked-fits names.Run (w ∷ v ∷ []) given asked limit few h =
-    same-fits _ _ asked h (record { bounded = limit; built = λ built. built })
+    same-fits _ _ asked h (record { bounded = limit })
 asked-fits names.Run (w ∷ v ∷ u ∷ ws) given asked limit few h = absurd (cc)
 asked-fits names.Moves [] given asked limit few h = absurd (cc)
 asked-fits names.Moves (w ∷ []) given asked limit few h = absurd (cc)
@@ -115,12 +109,12 @@ asked-fits names.Moves (w ∷ v ∷ u ∷ ws) given asked limit few h = absurd (
 asked-fits names.Rounds [] given asked limit few h = absurd (cc)
 asked-fits names.Rounds (w ∷ []) given asked limit few h = absurd (cc)
 asked-fits names.Rounds (w ∷ v ∷ []) given asked limit few h =
-    same-fits _ _ asked h (record { bounded = limit; built = λ built. built })
+    same-fits _ _ asked h (record { bounded = limit })
 asked-fits names.Rounds (w ∷ v ∷ u ∷ ws) given asked limit few h = absurd (cc)
 asked-fits names.Debug [] given asked limit few h = absurd (cc)
 asked-fits names.Debug (w ∷ []) given asked limit few h = absurd (cc)
 asked-fits names.Debug (w ∷ v ∷ []) given asked limit few h =
-    same-fits _ _ asked h (record { bounded = tt; built = λ built. built })
+    same-fits _ _ asked h (record { bounded = tt })
 asked-fits names.Debug (w ∷ v ∷ u ∷ ws) given asked limit few h = absurd (cc)
 asked-fits names.Time [] given asked limit few h = absurd (cc)
 asked-fits names.Time (w ∷ []) given asked limit few h = absurd (cc)
@@ -128,21 +122,21 @@ asked-fits names.Time (w ∷ v ∷ []) given asked limit few h = absurd (cc)
 asked-fits names.Time (w ∷ v ∷ u ∷ ws) given asked limit few h =
     let layouts : length (map layout_in (u ∷ ws)) ≡ length (u ∷ ws) = length-map (u ∷ ws) layout_in in
     same-fits _ _ asked h
-    (record { bounded = (limit, omega arith, omega (arith, layouts, few)); built = λ built. built })
+    (record { bounded = (limit, omega arith, omega (arith, layouts, few)) })
 asked-fits names.Audit [] given asked limit few h = absurd (cc)
 asked-fits names.Audit (w ∷ []) given asked limit few h = absurd (cc)
 asked-fits names.Audit (w ∷ v ∷ []) given asked limit few h = absurd (cc)
 asked-fits names.Audit (w ∷ v ∷ u ∷ []) given asked limit few h =
-    same-fits _ _ asked h (record { bounded = tt; built = λ built. built })
+    same-fits _ _ asked h (record { bounded = tt })
 asked-fits names.Audit (w ∷ v ∷ u ∷ t ∷ ws) given asked limit few h = absurd (cc)
 asked-fits names.Help [] given asked limit few h =
-    same-fits _ _ asked h (record { bounded = tt; built = λ built. built })
+    same-fits _ _ asked h (record { bounded = tt })
 asked-fits names.Help (w ∷ ws) given asked limit few h = absurd (cc)
 asked-fits names.HelpOption [] given asked limit few h =
-    same-fits _ _ asked h (record { bounded = tt; built = help-built })
+    same-fits _ _ asked h (record { bounded = tt })
 asked-fits names.HelpOption (w ∷ ws) given asked limit few h = absurd (cc)
 asked-fits names.Version [] given asked limit few h =
-    same-fits _ _ asked h (record { bounded = tt; built = λ built. built })
+    same-fits _ _ asked h (record { bounded = tt })
 asked-fits names.Version (w ∷ ws) given asked limit few h = absurd (cc)
 
 fits : (words : List (List ℕ)) (asked : Asked) (asks : Asks words asked) → Fits asks.name asked
@@ -152,6 +146,3 @@ fits words asked asks =
 
 pub asks-bounded : (words : List (List ℕ)) (asked : Asked) → Asks words asked → IsBounded asked
 asks-bounded words asked asks = (fits words asked asks).bounded
-
-pub asks-built : (words : List (List ℕ)) (asked : Asked) → Asks words asked → IsBuilt asked
-asks-built words asked asks = (fits words asked asks).built asks.command.built

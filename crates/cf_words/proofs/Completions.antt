@@ -11,7 +11,7 @@ use Rattle.cf_words.specs.declared.options.Key.{Key}
 use Rattle.cf_words.specs.declared.options.Key.TheVariants as keys
 use Rattle.cf_words.specs.declared.reading.Subject.{Subject}
 use Rattle.cf_words.specs.Values.{is_file_name, count_in}
-use Rattle.cf_words.specs.Commands.{is_built, word_of, fewest, most, counts, is_positional}
+use Rattle.cf_words.specs.Commands.{word_of, fewest, most, counts, is_positional}
 use Rattle.cf_words.specs.Options.{key_word, takes_key, has_lines, has_sites, script_from, Given, Schedule}
 use Rattle.cf_words.specs.Words.{Asked, gen, moves, layout_in, limit_of, asked_by}
 use Rattle.cf_words.specs.Reading.{State, start, placed, options, valued, bare, one_more, follow, has_key, nothing_given, positional_in, completed}
@@ -253,7 +253,7 @@ shown-some : (name : Name) → takes_key name keys.Show ≡ true →
     (has_lines name shows.Report ≡ true) ⊎ (has_sites name ≡ true)
 shown-some names.Machine h = inl refl
 shown-some names.Run h = inl refl
-shown-some names.Time h = inr refl
+shown-some names.Time h = absurd (cc)
 shown-some names.Moves h = absurd (cc)
 shown-some names.Rounds h = absurd (cc)
 shown-some names.Debug h = absurd (cc)
@@ -298,18 +298,13 @@ complete-value words subject given key reached stands h =
     (omega (arith, stands, length-append words (v.word ∷ [])))
     (reads-word words v.word (valued subject given key) (options subject v.more) h v.followed))
 
--- the sequential machine is built
-machine-built : is_built names.Machine ≡ true
-unfolding is_built
-machine-built = refl
-
 complete-start : (words : List (List ℕ)) → reads start words ≡ Some start → Completion words
 complete-start words h =
     let word : List ℕ = word_of names.Machine in
     complete-word words word
     (complete-places 1 (words ++ word ∷ []) (bare names.Machine) (omega arith) (omega arith)
     (omega (arith, length-append words (word ∷ [])))
-    (reads-word words word start (placed (bare names.Machine)) h (start-follows names.Machine machine-built)))
+    (reads-word words word start (placed (bare names.Machine)) h (start-follows names.Machine)))
 
 complete-state : (words : List (List ℕ)) (state : State) → Reached state → Stands (length words) state →
     reads start words ≡ Some state → Completion words

@@ -6,7 +6,7 @@ use Rattle.std.proofs.Math.Seq.{take-length}
 use Rattle.cf_words.specs.declared.names.Name.{Name}
 use Rattle.cf_words.specs.declared.names.Name.TheVariants as names
 use Rattle.cf_words.specs.declared.reading.Subject.{Subject}
-use Rattle.cf_words.specs.Commands.{is_built, word_of, fewest, most, is_positional}
+use Rattle.cf_words.specs.Commands.{word_of, fewest, most, is_positional}
 use Rattle.cf_words.specs.Options.{key_of, value_words, written, takes, Setting, Given, given_in}
 use Rattle.cf_words.specs.Words.{Asked, asked_by, Asks}
 use Rattle.cf_words.specs.Reading.{State, start, placed, options, valued, bare, one_more, nothing_given, positional_in, completed}
@@ -169,10 +169,10 @@ positional-are : (first : List ℕ) (more behind : List (List ℕ)) →
 positional-are first more behind =
     take-append-le (length more) more behind (omega arith) ∙ take-length more
 
-placing-asks : (name : Name) (words : List (List ℕ)) (last : State) (asked : Asked) → is_built name ≡ true →
+placing-asks : (name : Name) (words : List (List ℕ)) (last : State) (asked : Asked) →
     completed (word_of name ∷ words) last ≡ Some asked → Placing (bare name) words last →
     Asks (word_of name ∷ words) asked
-placing-asks name words last asked built done p =
+placing-asks name words last asked done p =
     let zero-more : 0 + length p.more ≡ length p.more = omega arith in
     let positional : positional_in (0 + length p.more) (word_of name ∷ words) ≡ p.more =
     ap (λ (ws : List (List ℕ)). positional_in (0 + length p.more) (word_of name ∷ ws)) p.words_are
@@ -187,7 +187,6 @@ placing-asks name words last asked built done p =
       positional = p.more;
       settings = p.settings;
       command = record {
-        built = built;
         words_are = ap (λ (ws : List (List ℕ)). word_of name ∷ ws) p.words_are;
         enough = asked-enough name p.more (given_in p.settings) asked means;
         few = omega (arith, p.few);
@@ -212,7 +211,7 @@ reads-sound (word ∷ words) last asked h done =
     let d : completed (word_of r.name ∷ words) last ≡ Some asked =
     subst (λ (w : List ℕ). completed (w ∷ words) last ≡ Some asked) r.word_is done in
     subst (λ (w : List ℕ). Asks (w ∷ words) asked) (sym r.word_is)
-    (placing-asks r.name words last asked r.built d
+    (placing-asks r.name words last asked d
     (placing words (bare r.name) last (omega arith) h1 whole))
 
 -- the positional words behind which a state is reached, which misses no value
@@ -316,7 +315,7 @@ asks-read words asked asks =
       last = b.0;
       read = ap (λ (ws : List (List ℕ)). reads start ws) c.words_are
           ∙ (reads-step start (word_of asks.name) (asks.positional ++ written asks.settings)
-          (placed (bare asks.name)) (start-follows asks.name c.built)
+          (placed (bare asks.name)) (start-follows asks.name)
           ∙ (places-read asks.positional (bare asks.name) (written asks.settings) c.placed
           (omega (arith, c.few))
           ∙ b.1));

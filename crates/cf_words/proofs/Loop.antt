@@ -2,10 +2,10 @@
 use Rattle.std.proofs.Common.{◌≡◌, ◌≤◌, ◌<◌, ◌+◌, ℕ, List, [], ◌∷◌, length, map, take, get_or, arith, Option, Some, None, option_map, Result, Ok, Err, MatchResult, IfOk, sym, ◌∙◌, subst, ap}
 use Rattle.std.specs.Option.{ok_or}
 use Rattle.std.proofs.lemmas.List.{get_or-map, length-map, length-take-le, take_more, take_all}
-use Rattle.cf_words.specs.Words.{Asked, Asks, IsBadAt, IsBounded, IsBuilt}
+use Rattle.cf_words.specs.Words.{Asked, Asks, IsBadAt, IsBounded}
 use Rattle.cf_words.specs.Reading.{State, start, follow, completed}
 use Rattle.cf_words.proofs.InTurn.{after, reads, reads-append}
-use Rattle.cf_words.proofs.Bounds.{asks-bounded, asks-built}
+use Rattle.cf_words.proofs.Bounds.{asks-bounded}
 use Rattle.cf_words.proofs.Grammar.{reads-sound}
 use Rattle.cf_words.proofs.Reached.{few-read}
 use Rattle.cf_words.proofs.BadWords.{bad-word, bad-end}
@@ -67,11 +67,6 @@ pub answers-bounded : {C : Type 0} → (words : List (List ℕ)) (asks : C → A
     Answers words asks result → IfOk result (λ command. IsBounded (asks command))
 answers-bounded words asks (Ok command) answers = asks-bounded words (asks command) answers
 answers-bounded words asks (Err index) answers = tt
-
-pub answers-built : {C : Type 0} → (words : List (List ℕ)) (asks : C → Asked) (result : Result C ℕ) →
-    Answers words asks result → IfOk result (λ command. IsBuilt (asks command))
-answers-built words asks (Ok command) answers = asks-built words (asks command) answers
-answers-built words asks (Err index) answers = tt
 
 -- behind the last word
 pub ends : {X C : Type 0} → (bytes : X →

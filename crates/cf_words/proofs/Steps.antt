@@ -9,7 +9,7 @@ use Rattle.cf_words.specs.declared.options.Key.{Key}
 use Rattle.cf_words.specs.declared.options.Key.TheVariants as keys
 use Rattle.cf_words.specs.declared.reading.Subject.{Subject}
 use Rattle.cf_words.specs.Values.{is_file_name, is_number, count_in}
-use Rattle.cf_words.specs.Commands.{is_built, word_of, fewest, most, counts, is_positional}
+use Rattle.cf_words.specs.Commands.{word_of, fewest, most, counts, is_positional}
 use Rattle.cf_words.specs.Options.{key_word, show_word, key_of, value_words, takes_key, has_lines, has_sites, is_value, most_limit, most_seed, Setting, limit_to, show_lines, show_sites, script_from, seed_from, with_mul, with_run, by_script, by_seed, Given}
 use Rattle.cf_words.specs.Reading.{State, start, placed, options, valued, bare, one_more, follow, when, behind_name, behind_key, behind_option, behind_value, has_place, has_key, is_text, with_value, with_limit, with_seed, with_lines, name_in, key_in, lines_in, number_in, nothing_given}
 use Rattle.cf_words.proofs.Texts.{is-text, name-read, name-written, key-read, key-written, lines-read, lines-written, lines-no-sites}
@@ -46,23 +46,21 @@ true-both false b g h = absurd (cc)
 pub record NameRead (word : List ℕ) (behind : State) : Type 0 where
   pub name : Name
   pub word_is : word ≡ word_of name
-  pub built : is_built name ≡ true
   pub behind_is : behind ≡ placed (bare name)
 
 name-found : (found : Option Name) (word : List ℕ) (behind : State) → name_in word ≡ found →
     behind_name found ≡ Some behind → NameRead word behind
 name-found None word behind e h = absurd (cc)
 name-found (Some name) word behind e h =
-    let w = when-some (is_built name) (placed (bare name)) behind h in
-    record { name = name; word_is = name-read word name e; built = w.0; behind_is = w.1 }
+    record { name = name; word_is = name-read word name e; behind_is = cc }
 
 pub start-read : (word : List ℕ) (behind : State) → follow start word ≡ Some behind → NameRead word behind
 unfolding follow
 start-read word behind h = name-found (name_in word) word behind refl h
 
-pub start-follows : (name : Name) → is_built name ≡ true → follow start (word_of name) ≡ Some (placed (bare name))
+pub start-follows : (name : Name) → follow start (word_of name) ≡ Some (placed (bare name))
 unfolding follow
-start-follows name built = rw (name-written name) (when-true (is_built name) (placed (bare name)) built)
+start-follows name = rw (name-written name) refl
 
 -- one more positional word, or the first option
 both-tests : (a b : Bool) → (a && b) ≡ true → (a ≡ true) × (b ≡ true)

@@ -4,13 +4,6 @@ use Rattle.cf_words.specs.declared.names.Name.{Name}
 use Rattle.cf_words.specs.declared.names.Name.TheVariants as names
 use Rattle.cf_words.specs.Values.{is_file_name, count_in}
 
--- the commands that are built: the one place that says so
-unfoldable pub is_built : Name → Bool
-is_built names.Debug = false
-is_built names.Time = false
-is_built names.Rounds = false
-is_built _ = true
-
 -- the first word of each command
 abbrev pub word_of : Name → List ℕ
 word_of names.Machine = codes "machine"

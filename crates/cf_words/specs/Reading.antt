@@ -10,7 +10,7 @@ use Rattle.cf_words.specs.declared.options.Key.{Key}
 use Rattle.cf_words.specs.declared.options.Key.TheVariants as keys
 use Rattle.cf_words.specs.declared.reading.Subject.{Subject}
 use Rattle.cf_words.specs.Values.{is_file_name, is_number}
-use Rattle.cf_words.specs.Commands.{is_built, fewest, most, is_positional}
+use Rattle.cf_words.specs.Commands.{fewest, most, is_positional}
 use Rattle.cf_words.specs.Options.{takes_key, has_lines, has_sites, most_limit, most_seed, Matter, limits, showing, schedules, multiplies, running, matter_of, by_script, by_seed, Given}
 use Rattle.cf_words.specs.Words.{Asked, asked_by}
 
@@ -105,7 +105,7 @@ one_more subject = record { name = subject.name; count = subject.count + 1 }
 -- behind the first word
 abbrev pub behind_name : Option Name → Option State
 behind_name None = None
-behind_name (Some name) = when (is_built name) (placed (bare name))
+behind_name (Some name) = Some (placed (bare name))
 
 -- behind an option's own word
 abbrev pub behind_key : Subject → Given → Key → State

@@ -8,14 +8,13 @@ use Rattle.cf_words.specs.declared.names.Name.TheVariants as names
 use Rattle.cf_words.specs.declared.options.Show.{Show}
 use Rattle.cf_words.specs.declared.options.Show.TheVariants as shows
 use Rattle.cf_words.specs.Values.{most_statements, count_in}
-use Rattle.cf_words.specs.Commands.{is_built, word_of, fewest, most, is_positional}
+use Rattle.cf_words.specs.Commands.{word_of, fewest, most, is_positional}
 use Rattle.cf_words.specs.Options.{Setting, written, takes, default_limit, most_limit, NoneTwice, Schedule, by_rule, Given, given_in}
 
--- the words are a built command's, with its positional words and behind them options of that command, which
+-- the words are a command's, with its positional words and behind them options of that command, which
 -- settle nothing twice
 pub record IsCommand (words : List (List ℕ)) (name : Name) (positional : List (List ℕ))
     (settings : List Setting) : Type 0 where
-  pub built : is_built name ≡ true
   pub words_are : words ≡ word_of name ∷ (positional ++ written settings)
   pub enough : fewest name ≤ length positional
   pub few : length positional ≤ most name
@@ -107,26 +106,6 @@ IsBounded (time delays program layouts limit sites) =
     (limit ≤ most_limit) × (1 ≤ length layouts) × (length layouts ≤ 8)
 IsBounded (gen number runs) = (1 ≤ number) × (number ≤ most_statements)
 IsBounded _ = Unit {0}
-
--- which command is asked
-abbrev pub command_of : Asked → Name
-command_of (machine program limit retired mul) = names.Machine
-command_of (run layout program schedule limit lines) = names.Run
-command_of (moves layout program schedule limit) = names.Moves
-command_of (rounds layout program limit) = names.Rounds
-command_of (debug layout program) = names.Debug
-command_of (time delays program layouts limit sites) = names.Time
-command_of (audit layout program trace) = names.Audit
-command_of (check layout) = names.Check
-command_of (asm source) = names.Asm
-command_of (listing program) = names.List
-command_of (gen number runs) = names.Gen
-command_of help = names.Help
-command_of version = names.Version
-
--- it is one that is built
-abbrev pub IsBuilt : Asked → Type 0
-IsBuilt asked = is_built (command_of asked) ≡ true
 
 -- the words before this index begin those of some command; with the word at it, or with none there, they begin
 -- those of no command

@@ -3,7 +3,7 @@
 
 ghost use Rattle.std.specs.Prelude.{◌≡◌, ◌≤◌, [], ◌∷◌, IfOk, MatchResult, drop, length, map, string_bytes, option_map, take};
 ghost use Rattle.cf_words.specs.Options.{Given};
-ghost use Rattle.cf_words.specs.Words.{Asks, IsBadAt, IsBounded, IsBuilt, asked_by, layout_in};
+ghost use Rattle.cf_words.specs.Words.{Asks, IsBadAt, IsBounded, asked_by, layout_in};
 ghost use Rattle.cf_words.specs.Reading.{completed};
 ghost use Rattle.cf_words.specs.Views.{state_of, given_of, asked_of, layout_of};
 
@@ -297,7 +297,6 @@ pub fn read_words(words: &[String]) -> Result<Command<'_>, u32>
         (λ command. Asks (map string_bytes words.now) (asked_of command))
         (λ index. IsBadAt (map string_bytes words.now) index) }
     ensures bounded { IfOk result (λ command. IsBounded (asked_of command)) }
-    ensures built { IfOk result (λ command. IsBuilt (asked_of command)) }
 {
     let mut reading = Reading::Start;
     // No command has more than twenty-two words, so the index stays small.

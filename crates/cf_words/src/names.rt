@@ -1,9 +1,9 @@
 //! The commands by their first words, and which positional words they have.
-#![tactic(auto, unfolding(crate::specs::Commands::is_built, crate::specs::Commands::is_positional, crate::specs::Reading::name_in))]
+#![tactic(auto, unfolding(crate::specs::Commands::is_positional, crate::specs::Reading::name_in))]
 
 ghost use Rattle.std.specs.Prelude.{◌≡◌};
 ghost use Rattle.cf_words.specs.Values.{is_file_name};
-ghost use Rattle.cf_words.specs.Commands.{is_built, fewest, most, counts, is_positional};
+ghost use Rattle.cf_words.specs.Commands.{fewest, most, counts, is_positional};
 ghost use Rattle.cf_words.specs.Reading.{name_in};
 
 use crate::numbers::read_count;
@@ -28,13 +28,6 @@ pub(crate) enum Name {
 }
 
 impl Name {
-    /// Whether the command is built: the one place that says so.
-    pub(crate) fn is_built(self) -> bool
-        ensures { result ≡ is_built self }
-    {
-        !matches!(self, Name::Debug | Name::Time | Name::Rounds)
-    }
-
     /// The command that begins with this word.
     pub(crate) fn from_word(word: &str) -> Option<Self>
         ensures { result ≡ name_in word.now }

@@ -102,8 +102,7 @@ impl<'a> Reading<'a> {
         match self {
             Reading::Start => {
                 let name = Name::from_word(word)?;
-                name.is_built()
-                    .then_some(Reading::Placed(Subject { name, count: 0 }))
+                Some(Reading::Placed(Subject { name, count: 0 }))
             }
             Reading::Placed(subject) => behind_place(subject, word),
             Reading::Options(subject, options) => {

@@ -25,9 +25,10 @@ use Rattle.cf_run.specs.Scripts.{Stand, stand_of, first_moves, RunsScript, DoesL
 use Rattle.cf_closing.specs.Closing.{closing, is_report_fault}
 use Rattle.cli_files.specs.Causes.{input_answered, output_answered}
 use Rattle.cli_files.specs.Deciding.{Counts, Decides}
-use Rattle.cfpp_cli.specs.Deciding.{Closes}
+use Rattle.cfpp_cli.specs.Deciding.{Closes, ClosesWith}
 use Rattle.cfpp_cli.specs.Run.{start_of, status_of, Chooses, ByScript, ByPolicy, ProcessorRun, RunsCore, BreaksCore}
 use Rattle.cli_files.specs.declared.answer.Answer.{Answer}
+use Rattle.cli_files.specs.declared.status.Status.{Status}
 use Rattle.cfpp_cli.proofs.Reports.{writes-again}
 
 -- what the report has where the run stops at the stand that it reached
@@ -234,20 +235,28 @@ output-said limit moves (BadScript refusal) sound = refl
 output-said limit moves (BarredAt line bar) sound = refl
 
 -- so beside a run that was closed a count rose just where the answer says so
+-- what the status says of a count where the closing lines were put; where the report failed at them it has not fallen
+pub closed-count : (answered : Status → Result (Unit {0}) (Unit {0})) (said : Status) (cause : Result (Unit {0}) (Unit {0}))
+    (lines : List ℕ) (told full : Option (List ℕ)) (result : Result Answer Failed) (before now : ℕ) →
+    answered said ≡ cause → ClosesWith said lines told full result → HasCause before now cause →
+    Counts answered before now result
+closed-count answered said cause lines told full (Ok answer) before now same closes h = rw (closes.0, same) h
+closed-count answered said cause lines told full (Err failed) before now same closes h = h.never_falls
+
 pub closed-input : (limit : ℕ) (finish : Scripted) (last : Processor) (tally : Tally) (told full : Option (List ℕ))
     (result : Result Answer Failed) (before now : ℕ) → Closes limit finish last tally told full result →
     HasCause before now (input_scripted (Some finish)) → Counts input_answered before now result
-closed-input limit finish last tally told full (Ok answer) before now closes h =
-    rw (closes.0, input-said limit tally.moves finish) h
-closed-input limit finish last tally told full (Err failed) before now closes h = h.never_falls
+closed-input limit finish last tally told full result before now closes h =
+    closed-count input_answered (status_of limit tally.moves finish) (input_scripted (Some finish))
+    (closing limit finish last.plan last.state tally) told full result before now (input-said limit tally.moves finish) closes h
 
 pub closed-output : (limit : ℕ) (finish : Scripted) (last : Processor) (tally : Tally) (told full : Option (List ℕ))
     (result : Result Answer Failed) (before now : ℕ) → is_report_fault finish ≡ false →
     Closes limit finish last tally told full result → HasCause before now (output_scripted (Some finish)) →
     Counts output_answered before now result
-closed-output limit finish last tally told full (Ok answer) before now sound closes h =
-    rw (closes.0, output-said limit tally.moves finish sound) h
-closed-output limit finish last tally told full (Err failed) before now sound closes h = h.never_falls
+closed-output limit finish last tally told full result before now sound closes h =
+    closed-count output_answered (status_of limit tally.moves finish) (output_scripted (Some finish))
+    (closing limit finish last.plan last.state tally) told full result before now (output-said limit tally.moves finish sound) closes h
 
 -- of a run under a policy
 stopped-input : (answer : RunAnswer) → input_stopped (Some answer) ≡ input_scripted (Some (Ran answer))

@@ -1,5 +1,5 @@
 -- What comes of the files of a run.
-use Rattle.std.proofs.Common.{◌≡◌, ℕ, List, Option, Ok, Result, Err, inl}
+use Rattle.std.proofs.Common.{◌≡◌, ℕ, List, Option, Ok, Result, Err, IfOk, inl, arith}
 use Rattle.cf_io.specs.declared.failed.Failed.{Failed}
 use Rattle.rv_machine.specs.Hart.{Hart}
 use Rattle.rv_machine.specs.Streams.{Streams}
@@ -8,7 +8,8 @@ use Rattle.cf_layout.specs.Layout.{Plan}
 use Rattle.cf_layout.specs.Plain.{plain}
 use Rattle.cf_run.specs.declared.show.Show.TheVariants.{Report}
 use Rattle.cf_words.specs.Options.{default_limit}
-use Rattle.cli_files.specs.Deciding.{Decides}
+use Rattle.cli_files.specs.Deciding.{Counts, Decides}
+use Rattle.cli_files.proofs.NoStreams.{no-cause}
 use Rattle.cfpp_cli.specs.Drawn.{StartsDrawn, AnswersDrawn, BreaksDrawn}
 use Rattle.cli_files.specs.Outside.{Outside}
 use Rattle.cfpp_cli.specs.Run.{chosen_by, ComesOf, BreaksCore, AnswersRun, BreaksRun}
@@ -76,3 +77,9 @@ pub decides-beside : (Answers : Status → List ℕ → Type 0) (Breaks Beside :
 decides-beside Answers Breaks Beside blank full (Ok answer) beside (lines, put, answers) =
     (lines, put, (answers, beside))
 decides-beside Answers Breaks Beside blank full (Err failed) beside breaks = (breaks, beside)
+
+-- a count stays where the command has nothing to do with what it counts, and no answer says otherwise
+pub untouched : (answered : Status → Result (Unit {0}) (Unit {0})) (count : ℕ) (result : Result Answer Failed) →
+    IfOk result (λ answer. answered answer.status ≡ Ok tt) → Counts answered count count result
+untouched answered count (Ok answer) h = no-cause count (answered answer.status) h
+untouched answered count (Err failed) h = omega arith

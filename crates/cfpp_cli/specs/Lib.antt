@@ -9,6 +9,7 @@ pub mod Lines
 pub mod Listings
 pub mod Machine
 pub mod Options
+pub mod Rounds
 pub mod Run
 pub mod Sources
 pub mod Standing

@@ -8,6 +8,9 @@ use Rattle.cf_words.specs.declared.options.Show.TheVariants as shows
 use Rattle.cf_words.specs.Words.{Asks, IsBadAt, Asked, machine, run, moves, rounds, debug, time, audit, check, asm, listing, gen, help, version}
 use Rattle.cfpp_cli.specs.Options.{chosen_of}
 use Rattle.cli_audit.specs.Audit.{AnswersAudit, audit_asked, side_of as audit_side}
+use Rattle.cli_debug.specs.Debug.{AnswersDebug, BreaksDebug}
+use Rattle.cli_time.specs.Asked.{time_asked}
+use Rattle.cli_time.specs.Times.{AnswersTime, BreaksTime}
 use Rattle.cli_files.specs.Causes.{files_answered, input_answered, output_answered}
 use Rattle.cli_files.specs.Outside.{Outside, Report}
 use Rattle.cfpp_cli.specs.Machine.{AnswersMachine, BreaksProgram}
@@ -17,6 +20,7 @@ use Rattle.cfpp_cli.specs.FileCommands.{PutsOrFails, side_of}
 use Rattle.cfpp_cli.specs.Listings.{AnswersList}
 use Rattle.cfpp_cli.specs.Sources.{AnswersAsm}
 use Rattle.cli_files.specs.RunFiles.{run_asked}
+use Rattle.cfpp_cli.specs.Rounds.{rounds_asked, AnswersRounds, BreaksRounds}
 use Rattle.cfpp_cli.specs.Run.{AnswersRun, BreaksRun}
 use Rattle.cfpp_cli.specs.Standing.{AnswersMoves, BreaksMoves}
 use Rattle.cfpp_cli.specs.declared.help.TheConstants.{HELP, VERSION}
@@ -42,8 +46,7 @@ pub record PutsAlone (text : List ℕ) (before after : Outside) (answer : Status
   pub files : after.files ≡ before.files
   pub input : after.streams.input ≡ before.streams.input
 
--- the answer and the whole report, behind what it told before, by what the words ask; nothing is claimed of commands that
--- are not built, since no words ask them
+-- the answer and the whole report, behind what it told before, by what the words ask
 abbrev pub Answers : Result Asked ℕ → Outside → Outside → Option (List ℕ) → Status → List ℕ → Type 0
 Answers (Ok (machine program limit retired mul)) before after blank answer report =
     AnswersMachine program (chosen_of limit retired mul) before after answer report
@@ -51,9 +54,12 @@ Answers (Ok (run layout program schedule limit lines)) before after blank answer
     AnswersRun (run_asked layout program schedule limit lines) before after blank answer report
 Answers (Ok (moves layout program schedule limit)) before after blank answer report =
     AnswersMoves (run_asked layout program schedule limit shows.Report) before after blank answer report
-Answers (Ok (rounds layout program limit)) before after blank answer report = Unit {0}
-Answers (Ok (debug layout program)) before after blank answer report = Unit {0}
-Answers (Ok (time delays program layouts limit sites)) before after blank answer report = Unit {0}
+Answers (Ok (rounds layout program limit)) before after blank answer report =
+    AnswersRounds (rounds_asked layout program limit) before after answer report
+Answers (Ok (debug layout program)) before after blank answer report = AnswersDebug layout program before after answer report
+Answers (Ok (time delays program layouts limit sites)) before after blank answer report =
+    AnswersTime (time_asked delays program layouts limit) before.files after.files answer report
+    × (after.streams ≡ before.streams)
 Answers (Ok (audit layout program trace)) before after blank answer report =
     AnswersAudit (audit_asked layout program trace) (audit_side before) (audit_side after) answer report
     × (after.streams.output ≡ before.streams.output)
@@ -82,8 +88,14 @@ Breaks (Ok (run layout program schedule limit lines)) before after blank full =
     BreaksRun (run_asked layout program schedule limit lines) before after blank full
 Breaks (Ok (moves layout program schedule limit)) before after blank full =
     BreaksMoves (run_asked layout program schedule limit shows.Report) before after blank full
+Breaks (Ok (rounds layout program limit)) before after blank full =
+    BreaksRounds (rounds_asked layout program limit) before after blank full
+Breaks (Ok (debug layout program)) before after blank full = BreaksDebug layout program before after blank full
 Breaks (Ok (gen number true)) before after blank full =
     BreaksDrawn number before.streams after.streams blank full × (after.files ≡ before.files)
+Breaks (Ok (time delays program layouts limit sites)) before after blank full =
+    BreaksTime (time_asked delays program layouts limit) before.files after.files blank full
+    × (after.streams ≡ before.streams)
 Breaks (Ok asked) before after blank full = ⊥
 Breaks (Err index) before after blank full = ⊥
 

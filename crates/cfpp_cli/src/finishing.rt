@@ -4,12 +4,13 @@ ghost use Rattle.std.specs.Prelude.{◌≡◌, [], false, IfOk, Ok};
 ghost use Rattle.cf_io.specs.Causes.{HasCause};
 ghost use Rattle.cf_closing.specs.Closing.{is_report_fault};
 ghost use Rattle.cf_run.specs.Reaching.{no_tally};
+ghost use Rattle.cf_run.specs.declared.answer.Scripted.TheVariants as scripted;
 ghost use Rattle.cli_files.specs.Causes.{files_answered};
 ghost use Rattle.cli_files.specs.Deciding.{files_decided};
-ghost use Rattle.cfpp_cli.specs.Deciding.{Closes};
+ghost use Rattle.cfpp_cli.specs.Deciding.{Closes, ClosesInRounds};
 ghost use Rattle.cfpp_cli.specs.Run.{status_of as status_for};
 
-use cf_closing::put_closing;
+use cf_closing::{put_closing, put_closing_in_rounds};
 use cf_core::Core;
 use cf_io::{Failed, Sink};
 use cf_report::Tally;
@@ -56,6 +57,29 @@ pub fn close<R: Sink>(
     ensures report { HasCause (R.faults report.old) (R.faults report.new) result }
 {
     match put_closing(core, limit, finish, tally, report) {
+        Ok(()) => Ok(Answer {
+            status: status_of(limit, tally.moves, finish),
+            closing: Page::new(),
+        }),
+        Err(_) => Err(Failed),
+    }
+}
+
+/// Puts the closing lines behind a run in so many rounds.
+pub fn close_in_rounds<R: Sink>(
+    core: &Core,
+    limit: u64,
+    finish: Ran,
+    rounds: u64,
+    tally: &Tally,
+    report: &mut R,
+) -> Result<Answer, Failed>
+    ensures closes { ClosesInRounds limit (scripted.Ran finish) rounds core.now tally.now (R.written report.old) (R.written report.new) result }
+    ensures files { files_decided result ≡ Ok tt }
+    ensures report { HasCause (R.faults report.old) (R.faults report.new) result }
+{
+    let finish = Scripted::Ran(finish);
+    match put_closing_in_rounds(core, limit, finish, rounds, tally, report) {
         Ok(()) => Ok(Answer {
             status: status_of(limit, tally.moves, finish),
             closing: Page::new(),

@@ -7,7 +7,13 @@ pub const HELP: &[u8] =
   cfpp run LAYOUT PROGRAM      runs the processor, by a fixed rule
   cfpp moves LAYOUT PROGRAM --script FILE
                                runs a script, and tells which moves can follow
+  cfpp debug LAYOUT PROGRAM    makes moves by command, and takes them back
+  cfpp rounds LAYOUT PROGRAM   runs the processor in clocked rounds
+  cfpp audit LAYOUT PROGRAM TRACE
+                               tells whether a recorded trace is that of a run
   cfpp machine PROGRAM         runs the sequential machine
+  cfpp time DELAYS PROGRAM LAYOUT ..
+                               compares the times of up to eight layouts
   cfpp check LAYOUT            writes the layout's one text, or why it is none
   cfpp asm SOURCE              writes the ELF file of an assembly source
   cfpp list PROGRAM            writes a listing of a program
@@ -16,13 +22,14 @@ pub const HELP: &[u8] =
   cfpp --version               writes the version
 
 LAYOUT is plain, the built-in layout, or the name of a TOML file. PROGRAM names
-an ELF file or a flat image. What a program writes, and what a command makes,
-goes to standard output; the report goes to standard error.
+an ELF file or a flat image, DELAYS a text with the delays of moves. What a
+program writes, and what a command makes, goes to standard output; the report
+goes to standard error.
 
 Options stand behind the names in any order, each once:
 
   --limit N       stops at N retired instructions, at most 1000000000 (run,
-                  moves, machine); without it at 10000000
+                  moves, rounds, machine, time); without it at 10000000
   --script FILE   makes the moves of a script (run, moves)
   --seed N        draws the moves from a seed, at most 4294967295 (run)
   --show report   shows the closing report alone, as without it (run, machine)
@@ -39,7 +46,8 @@ The process ends with the program's own status, or with one of these:
   122  the words are no command      128  a file or the input cannot be read
   123  the layout is refused         129  output or report cannot be written
   124  the program is refused        130  memory is refused
-  125  the script is refused         133  the words cannot be had
+  125  the script is refused         131  the delays are refused
+  132  the trace is refused          133  the words cannot be had
 
 README.md has a first tour, docs/FORMATS.md all words, files and reports,
 docs/ERRORS.md each refusal and how to mend it, docs/SEMANTICS.md the moves,

@@ -13,6 +13,7 @@ mod help;
 mod listing;
 mod machine;
 mod putting;
+mod rounds;
 mod run;
 mod running;
 mod standing;

@@ -15,12 +15,15 @@ use crate::help::{HELP, VERSION};
 use crate::listing::list_program;
 use crate::machine::run_program;
 use crate::putting::put_text;
+use crate::rounds::run_in_rounds;
 use crate::run::run_processor;
 use crate::standing::show_moves;
 use cf_io::{Failed, Files, Sink, Source, put_all};
 use cf_words::{Command, RunOptions, Show, read_words};
 use cli_audit::audit_trace;
+use cli_debug::debug_program;
 use cli_files::{Answer, Status, bad_words};
+use cli_time::compare_layouts;
 use std::alloc::Global;
 
 /// Carries out what the words ask, but for the closing lines of the report.
@@ -81,16 +84,38 @@ fn decide<F: Files, S: Source, K: Sink, R: Sink>(
         Ok(Command::Help) => Ok(put_text(HELP, output)),
         Ok(Command::Version) => Ok(put_text(VERSION, output)),
         Ok(
+            Command::Rounds {
+                layout,
+                program,
+                limit,
+            },
+        ) => run_in_rounds(alloc, layout, program, limit, files, input, output, report),
+        Ok(
             Command::Audit {
                 layout,
                 program,
                 trace,
             },
         ) => Ok(audit_trace(alloc, layout, program, trace, files, input)),
-        // These commands are not built, and no words ask for them.
-        Ok(Command::Rounds { .. }) => unreachable!(),
-        Ok(Command::Debug { .. }) => unreachable!(),
-        Ok(Command::Time { .. }) => unreachable!(),
+        Ok(Command::Debug { layout, program }) => {
+            debug_program(alloc, layout, program, files, input, output, report)
+        }
+        Ok(
+            Command::Time {
+                delays,
+                program,
+                layouts,
+                options,
+            },
+        ) => compare_layouts(
+            alloc,
+            delays,
+            program,
+            layouts,
+            options.limit,
+            files,
+            report,
+        ),
         Err(index) => Ok(Answer {
             status: Status::BadWords(index),
             closing: bad_words(index),
@@ -98,24 +123,29 @@ fn decide<F: Files, S: Source, K: Sink, R: Sink>(
     }
 }
 
-/// Does what the words say: `machine PROGRAM` runs a program's file on the sequential machine, `run LAYOUT PROGRAM` on the
-/// processor of a layout, by the moves of a script with `--script FILE`, by moves drawn from a seed with `--seed N`, and by
-/// a fixed rule without either; `moves LAYOUT PROGRAM --script FILE` does the same and tells behind it which moves can be
-/// made where the script ends. `check LAYOUT` writes a layout's one text to the output, `asm SOURCE` the ELF file that an
-/// assembly source stands for, `list PROGRAM` a program's listing, and `gen N` the text of a program that is drawn from a
-/// number, which `gen N --run` assembles and runs. `help`, `--help` and `--version` write what their names say.
+/// Does what the words say: `machine PROGRAM` runs a program's file on the sequential machine, `run LAYOUT PROGRAM` on
+/// the processor of a layout, by the moves of a script with `--script FILE`, by moves drawn from a seed with `--seed
+/// N`, and by a fixed rule without either; `moves LAYOUT PROGRAM --script FILE` does the same and tells behind it which
+/// moves can be made where the script ends. `rounds LAYOUT PROGRAM` runs the processor in rounds of moves that share no
+/// place, as a clocked one would, `debug LAYOUT PROGRAM` answers commands of the input, which make moves, show the
+/// processor and take moves back, `audit LAYOUT PROGRAM TRACE` tells whether a recorded trace is that of a run, and
+/// `time DELAYS PROGRAM LAYOUT ..` compares how long the program takes on up to eight layouts.
+/// `check LAYOUT` writes a layout's one text to the output, `asm SOURCE` the ELF file that an assembly source stands
+/// for, `list PROGRAM` a program's listing, and `gen N` the text of a program that is drawn from a number, which `gen N
+/// --run` assembles and runs. `help`, `--help` and `--version` write what their names say.
 ///
 /// The file is an ELF executable for RISC-V, whose segments are loaded, or else a flat image, which stands at
-/// 0x00010000 in one region that may be read, written and executed, and begins there; a zeroed stack of 1 MiB
-/// stands at 0x7f000000. `--limit N` sets the retired instructions at which the run stops, 10,000,000 without
-/// it; `--show retired` puts a line to the report for each instruction as it retires, and `--show report`,
-/// which is the default, none; under `run`, `--show moves` puts each move with the picture behind it; with `--mul`
-/// the machine multiplies and divides. `input` and `output` are the program's own.
+/// 0x00010000 in one region that may be read, written and executed, and begins there; a zeroed stack of 1 MiB stands at
+/// 0x7f000000. `--limit N` sets the retired instructions at which the run stops, 10,000,000 without it; `--show
+/// retired` puts a line to the report for each instruction as it retires, and `--show report`, which is the default,
+/// none; under `run`, `--show moves` puts each move with the picture behind it; with `--mul` the machine multiplies and
+/// divides. `input` and `output` are the program's own.
 ///
 /// The report closes with how the run finished, how many instructions retired, and what the registers hold; after a run
-/// of the processor the counts of its moves and the picture stand there too. Where nothing was run it is one line that says
-/// why, and after a command without a run that was carried out it is empty. After a report that failed nothing
-/// more is put to it, and the status is `WriteFault`.
+/// of the processor the counts of its moves and the picture stand there too, and of one in rounds their number. Where
+/// nothing was run it is one line that says why, after `audit` it tells the number of moves of the trace, and after any
+/// other command that was carried out it is empty. After a report that failed nothing more is put to it, and the status
+/// is `WriteFault`.
 pub fn cfpp<F: Files, S: Source, K: Sink, R: Sink>(
     alloc: Global,
     words: &[String],

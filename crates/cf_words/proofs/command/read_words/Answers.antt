@@ -2,7 +2,7 @@
 use Rattle.std.proofs.Common.{Result, ℕ, map, string_bytes, arith, subst, sym}
 use Rattle.cf_words.specs.declared.command.Command.{Command}
 use Rattle.cf_words.specs.Views.{state_of, asked_of}
-use Rattle.cf_words.proofs.Loop.{stops, goes-on, count-few, ends, Answers, answers-bounded, answers-built}
+use Rattle.cf_words.proofs.Loop.{stops, goes-on, count-few, ends, Answers, answers-bounded}
 use Rattle.cf_words.proofs.command.read_words.Goals as goal
 
 pub returns-in_default : goal.returns-in_default
@@ -11,7 +11,6 @@ returns-in_default c = record {
       (state_of c.loop-word.reading) c.as_str.result.now (omega arith) c.word-item.is
       c.loop-word.invariant.counted c.loop-word.invariant.read c.as_str.ensures.value c.in_default.ensures;
   bounded = tt;
-  built = tt;
 }
 
 pub overflow_add-index : goal.overflow_add-index
@@ -41,5 +40,4 @@ returns c =
     record {
       answers = a;
       bounded = answers-bounded (map string_bytes c.args.words.now) asked_of c.ok_or.result a;
-      built = answers-built (map string_bytes c.args.words.now) asked_of c.ok_or.result a;
     }

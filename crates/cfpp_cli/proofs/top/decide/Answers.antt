@@ -1,11 +1,14 @@
-use Rattle.std.proofs.Common.{◌≡◌, true, false, Ok, Err, refl, []}
+use Rattle.std.proofs.Common.{◌≡◌, true, false, map, Ok, Err, refl, []}
+use Rattle.std.specs.Prelude.{string_bytes}
 use Rattle.rv_machine.specs.Streams.{streams_of}
-use Rattle.cf_words.specs.Commands.{is_built}
-use Rattle.cf_words.specs.Words.{machine, run, moves, audit, check, asm, listing, gen, help, version}
+use Rattle.cf_words.specs.Words.{layout_in, machine, run, moves, rounds, debug, time, audit, check, asm, listing, gen, help, version}
 use Rattle.cf_words.specs.Views.{layout_of, schedule_view}
 use Rattle.cfpp_cli.specs.Drawn.{AnswersDrawn, BreaksDrawn}
+use Rattle.cli_files.specs.Causes.{input_answered, output_answered}
+use Rattle.cli_time.specs.Asked.{time_asked}
+use Rattle.cli_time.specs.Times.{AnswersTime, BreaksTime}
 use Rattle.cfpp_cli.proofs.Reports.{writes-nothing}
-use Rattle.cfpp_cli.proofs.RunFiles.{decides-beside}
+use Rattle.cfpp_cli.proofs.RunFiles.{decides-beside, untouched}
 use Rattle.cfpp_cli.proofs.top.decide.Goals as goal
 
 pub returns-in-Ok-Machine-clause-decided : goal.returns-in-Ok-Machine-clause-decided
@@ -103,6 +106,13 @@ returns-in-Ok-Version-clause-decided g c = record {
   );
 }
 
+pub returns-in-Ok-Rounds-clause-decided : goal.returns-in-Ok-Rounds-clause-decided
+returns-in-Ok-Rounds-clause-decided g c = record {
+  reading = Ok (rounds (layout_of c.in-Ok-Rounds.layout) c.in-Ok-Rounds.program.now c.in-Ok-Rounds.limit);
+  reads = rw c.in-Ok-Rounds.field-0-is at c.in-Ok-Rounds.ensures.answers;
+  decides = c.run_in_rounds.ensures.answers;
+}
+
 pub returns-in-Ok-Audit-clause-decided : goal.returns-in-Ok-Audit-clause-decided
 returns-in-Ok-Audit-clause-decided g c = record {
   reading = Ok (audit (layout_of c.in-Ok-Audit.layout) c.in-Ok-Audit.program.now c.in-Ok-Audit.trace.now);
@@ -110,18 +120,34 @@ returns-in-Ok-Audit-clause-decided g c = record {
   decides = ([], writes-nothing _, (c.audit_trace.ensures.answers, refl));
 }
 
--- no words ask for a command that is not built
-pub unreachable-requires : goal.unreachable-requires
-unfolding is_built
-unreachable-requires g c = cc (rw c.in-Ok-Rounds.field-0-is at c.in-Ok-Rounds.ensures.built)
+pub returns-in-Ok-Debug-clause-decided : goal.returns-in-Ok-Debug-clause-decided
+returns-in-Ok-Debug-clause-decided g c = record {
+  reading = Ok (debug (layout_of c.in-Ok-Debug.layout) c.in-Ok-Debug.program.now);
+  reads = rw c.in-Ok-Debug.field-0-is at c.in-Ok-Debug.ensures.answers;
+  decides = c.debug_program.ensures.answers;
+}
 
-pub unreachable-requires-in-Ok-Debug : goal.unreachable-requires-in-Ok-Debug
-unfolding is_built
-unreachable-requires-in-Ok-Debug g c = cc (rw c.in-Ok-Debug.field-0-is at c.in-Ok-Debug.ensures.built)
+pub returns-in-Ok-Time-clause-decided : goal.returns-in-Ok-Time-clause-decided
+returns-in-Ok-Time-clause-decided g c =
+    let o = c.in-Ok-Time.options in
+    let layouts = map layout_in (map string_bytes c.in-Ok-Time.layouts.now) in
+    let asked = time_asked c.in-Ok-Time.delays.now c.in-Ok-Time.program.now layouts o.limit in
+    let before = g.F.Files.told c.args.files.now in
+    let after = g.F.Files.told c.compare_layouts.new.files in
+    let streams = streams_of (g.S.Source.left c.args.input.now) (g.K.Sink.written c.args.output.now) in
+    record {
+      reading = Ok (time c.in-Ok-Time.delays.now c.in-Ok-Time.program.now layouts o.limit o.sites);
+      reads = rw c.in-Ok-Time.field-0-is at c.in-Ok-Time.ensures.answers;
+      decides = decides-beside (AnswersTime asked before after)
+          (BreaksTime asked before after (g.R.Sink.written c.args.report.now) (g.R.Sink.written c.compare_layouts.new.report))
+          (streams ≡ streams) _ _ _ refl c.compare_layouts.ensures.answers;
+    }
 
-pub unreachable-requires-in-Ok-Time : goal.unreachable-requires-in-Ok-Time
-unfolding is_built
-unreachable-requires-in-Ok-Time g c = cc (rw c.in-Ok-Time.field-0-is at c.in-Ok-Time.ensures.built)
+pub returns-in-Ok-Time-clause-input : goal.returns-in-Ok-Time-clause-input
+returns-in-Ok-Time-clause-input g c = untouched input_answered _ _ c.compare_layouts.ensures.input
+
+pub returns-in-Ok-Time-clause-output : goal.returns-in-Ok-Time-clause-output
+returns-in-Ok-Time-clause-output g c = untouched output_answered _ _ c.compare_layouts.ensures.output
 
 pub returns-in-Err-clause-decided : goal.returns-in-Err-clause-decided
 returns-in-Err-clause-decided g c = record {

@@ -1,0 +1,148 @@
+//! The command `rounds`.
+
+ghost use Rattle.std.specs.Prelude.{◌≡◌, ◌≤◌, [], IfOk, Ok};
+ghost use Rattle.cf_io.specs.Causes.{HasCause};
+ghost use Rattle.rv_machine.specs.Streams.{streams_of};
+ghost use Rattle.cf_words.specs.Views.{layout_of};
+ghost use Rattle.cf_core.specs.Processors.{opened};
+ghost use Rattle.cf_rounds.specs.Running.{ran_of as ran_for};
+ghost use Rattle.cf_run.specs.Policies.{IsOpened};
+ghost use Rattle.cli_files.specs.Causes.{input_answered, output_answered};
+ghost use Rattle.cli_files.specs.Deciding.{Counts, Decides, files_decided};
+ghost use Rattle.cli_files.specs.Outside.{outside_of};
+ghost use Rattle.cfpp_cli.specs.Rounds.{rounds_asked, RunsCoreInRounds, BreaksCoreInRounds, ComesInRounds, AnswersRounds, BreaksRounds};
+
+use crate::finishing::{close_in_rounds, no_moves};
+use cf_core::Core;
+use cf_index::Candidates;
+use cf_io::{Failed, Files, Sink, Source};
+use cf_rounds::{Clocked, run_rounds};
+use cf_run::Ran;
+use cf_words::LayoutWord;
+use cli_files::{Answer, Loaded, load, no_memory};
+use std::alloc::Global;
+
+/// How a run under a policy finishes that finishes so.
+fn ran_of(clocked: Clocked) -> Ran
+    ensures { result ≡ ran_for clocked }
+{
+    match clocked {
+        Clocked::Exit(status) => Ran::Exit(status),
+        Clocked::Trap { cause, pc, detail } => Ran::Trap { cause, pc, detail },
+        Clocked::Limit => Ran::Limit,
+        Clocked::ReadFault => Ran::ReadFault,
+        Clocked::WriteFault => Ran::WriteFault,
+    }
+}
+
+/// Runs the opened processor in rounds, and puts the closing lines.
+#[tactic(auto, using(cli_files::proofs::Opened::opened_cores))]
+fn run_core<S: Source, K: Sink, R: Sink>(
+    core: &mut Core,
+    candidates: &mut Candidates,
+    limit: u64,
+    input: &mut S,
+    output: &mut K,
+    report: &mut R,
+) -> Result<Answer, Failed>
+    requires limit { limit ≤ 1000000000 }
+    requires retired { core.old.state.retired ≤ limit }
+    requires opened { IsOpened core.old }
+    ensures runs { Decides
+        (RunsCoreInRounds limit core.old core.new
+        (streams_of (S.left input.old) (K.written output.old))
+        (streams_of (S.left input.new) (K.written output.new)))
+        (BreaksCoreInRounds limit core.old
+        (streams_of (S.left input.old) (K.written output.old))
+        (streams_of (S.left input.new) (K.written output.new)) (R.written report.old) (R.written report.new))
+        (R.written report.old) (R.written report.new) result }
+    ensures files { files_decided result ≡ Ok tt }
+    ensures input { Counts input_answered (S.faults input.old) (S.faults input.new) result }
+    ensures output { Counts output_answered (K.faults output.old) (K.faults output.new) result }
+    ensures report { HasCause (R.faults report.old) (R.faults report.new) result }
+{
+    let mut tally = no_moves();
+    let mut rounds = 0;
+    let clocked = run_rounds(
+        core,
+        candidates,
+        limit,
+        input,
+        output,
+        &mut tally,
+        &mut rounds,
+    );
+    close_in_rounds(core, limit, ran_of(clocked), rounds, &tally, report)
+}
+
+/// Opens the processor of the layout on the machine, and runs it in rounds.
+#[tactic(auto, using(cli_files::proofs::Opened::opened_cores))]
+fn run_loaded<S: Source, K: Sink, R: Sink>(
+    alloc: Global,
+    loaded: Loaded,
+    limit: u64,
+    input: &mut S,
+    output: &mut K,
+    report: &mut R,
+) -> Result<Answer, Failed>
+    requires limit { limit ≤ 1000000000 }
+    requires count { loaded.machine.retired ≡ 0 }
+    ensures comes { Decides
+        (ComesInRounds limit loaded.layout loaded.machine
+        (streams_of (S.left input.old) (K.written output.old))
+        (streams_of (S.left input.new) (K.written output.new)))
+        (BreaksCoreInRounds limit (opened loaded.layout loaded.machine)
+        (streams_of (S.left input.old) (K.written output.old))
+        (streams_of (S.left input.new) (K.written output.new)) (R.written report.old) (R.written report.new))
+        (R.written report.old) (R.written report.new) result }
+    ensures files { files_decided result ≡ Ok tt }
+    ensures input { Counts input_answered (S.faults input.old) (S.faults input.new) result }
+    ensures output { Counts output_answered (K.faults output.old) (K.faults output.new) result }
+    ensures report { HasCause (R.faults report.old) (R.faults report.new) result }
+{
+    let Ok(mut candidates) = Candidates::new(alloc) else {
+        return Ok(no_memory());
+    };
+    match Core::new(alloc, loaded.layout, loaded.machine) {
+        Ok(mut core) => run_core(&mut core, &mut candidates, limit, input, output, report),
+        Err(_) => Ok(no_memory()),
+    }
+}
+
+/// Carries out `rounds`: reads the layout and the program, in this order, runs the processor round after round, and puts how
+/// the run finished, how many instructions retired, how many rounds were made, the tally of their moves, the registers and the
+/// picture. A round whose call of the environment failed is not counted, nor its move. It fails where the report does, which
+/// is then put nothing more.
+pub fn run_in_rounds<F: Files, S: Source, K: Sink, R: Sink>(
+    alloc: Global,
+    layout: LayoutWord<'_>,
+    program: &str,
+    limit: u64,
+    files: &mut F,
+    input: &mut S,
+    output: &mut K,
+    report: &mut R,
+) -> Result<Answer, Failed>
+    requires { limit ≤ 1000000000 }
+    ensures answers { Decides
+        (AnswersRounds (rounds_asked (layout_of layout.entry) program.now limit)
+        (outside_of (F.told files.old) (F.faults files.old) (S.left input.old) (S.faults input.old)
+        (K.written output.old) (K.faults output.old))
+        (outside_of (F.told files.new) (F.faults files.new) (S.left input.new) (S.faults input.new)
+        (K.written output.new) (K.faults output.new)))
+        (BreaksRounds (rounds_asked (layout_of layout.entry) program.now limit)
+        (outside_of (F.told files.old) (F.faults files.old) (S.left input.old) (S.faults input.old)
+        (K.written output.old) (K.faults output.old))
+        (outside_of (F.told files.new) (F.faults files.new) (S.left input.new) (S.faults input.new)
+        (K.written output.new) (K.faults output.new)) (R.written report.old) (R.written report.new))
+        (R.written report.old) (R.written report.new) result }
+    ensures files { HasCause (F.faults files.old) (F.faults files.new) (files_decided result) }
+    ensures input { Counts input_answered (S.faults input.old) (S.faults input.new) result }
+    ensures output { Counts output_answered (K.faults output.old) (K.faults output.new) result }
+    ensures report { HasCause (R.faults report.old) (R.faults report.new) result }
+{
+    match load(alloc, layout, program, files) {
+        Ok(loaded) => run_loaded(alloc, loaded, limit, input, output, report),
+        Err(answer) => Ok(answer),
+    }
+}
