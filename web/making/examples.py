@@ -18,6 +18,12 @@ def lab_lines():
     return (TOP / "docs" / "LAB.md").read_text().replace("\\\n", "").replace("        --", "--").splitlines()
 
 
+def name_of(layout):
+    """A layout's name in the choice: the lab has a `one_adder` of its own."""
+    file = pathlib.Path(layout)
+    return f"lab/{file.stem}" if file.parent.name == "lab" else file.stem
+
+
 def first_sentence(script):
     """What a script shows, by the comment at its head."""
     comment = " ".join(line[1:].strip() for line in (TOP / script).read_text().splitlines() if line.startswith("#"))
@@ -46,7 +52,7 @@ def lessons():
         group = heading.group(1) if heading else group
         for layout, program, script in RUN.findall(line):
             report = PRINTS.search(behind)
-            about = {"group": group, "title": first_sentence(script), "layout": pathlib.Path(layout).stem, "script": (TOP / script).read_text()}
+            about = {"group": group, "title": first_sentence(script), "layout": name_of(layout), "script": (TOP / script).read_text()}
             if report and script not in found:
                 found[script] = about | {"name": script, "report": report.group(1)} | program_of(program.rsplit(".", 1)[0])
     return list(found.values())
@@ -63,7 +69,7 @@ def layouts():
     for line in lab_lines():
         named = [layout for layout, _, _ in RUN.findall(line)] + CHECK.findall(line)
         files += [TOP / name for name in named if name.endswith(".toml")]
-    return {file.stem: file.read_text() for file in files}
+    return {name_of(file): file.read_text() for file in files}
 
 
 def examples():

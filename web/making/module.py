@@ -10,7 +10,10 @@ from making import page, retarget
 PROGRAM = page.TOP / "crates" / "cfpp"
 BESIDE = ("heap", "system", "helpers")
 EXPORTS = ("page_main", "page_begin", "page_room", "page_word", "page_file", "page_input", "page_bytes", "page_size")
-STACK = 1 << 20
+# As much as Linux gives a process.
+STACK = 8 << 20
+# The program's status where it is called without words.
+WITHOUT_WORDS = 122
 TARGET = ("--target=wasm64-unknown-unknown", "-mcpu=lime1", "-ffunction-sections", "-fdata-sections", "--no-default-config", "-c")
 # Integers and conversions that WebAssembly has no instruction for become code in place of calls.
 EXPANDED = ("-mllvm", "-expand-div-rem-bits=64", "-mllvm", "-expand-fp-convert-bits=64")
@@ -51,11 +54,21 @@ def toolchain_that_keeps(folder):
     wrapper.chmod(0o755)
 
 
-def proved(folder):
-    """The LLVM module of the proved program. Of the same module the kit's clang makes the object that `rt run` links."""
+def build_program():
+    """Proves and builds the program, where that has not been done."""
     run(page.TOP / "tools" / "build")
+    # What it left may have been moved away since. Where it is there, this only runs the program, without words.
+    built = subprocess.run(["rt", "run"], cwd=PROGRAM, stdin=subprocess.DEVNULL, capture_output=True, text=True, check=False)
+    if built.returncode != WITHOUT_WORDS:
+        sys.exit(f"{built.stdout}{built.stderr}web/build: the program could not be built")
+
+
+def proved(folder):
+    """The LLVM module of the proved program, for a processor of which the code asks nothing."""
+    build_program()
     toolchain_that_keeps(folder)
-    run(kit() / "bin" / "rattle", "build", *words_of_build(), "--toolchain", folder, "-o", folder / "cfpp.o", cwd=PROGRAM)
+    words = [*words_of_build(), "--cpu", "x86-64", "--backend", "llvm", "--toolchain", folder]
+    run(kit() / "bin" / "rattle", "build", *words, "-o", folder / "cfpp.o", cwd=PROGRAM)
     return folder / "module.bc"
 
 
@@ -92,6 +105,14 @@ def said_by(*words):
     return subprocess.run(words, check=True, capture_output=True, text=True).stdout.strip()
 
 
+def git(*words):
+    return said_by("git", "-C", str(page.TOP), *words)
+
+
 def origin():
-    """What the module was made from."""
-    return {"commit": said_by("git", "-C", str(page.TOP), "rev-parse", "HEAD"), "kit": said_by("rt", "version"), "sources": page.sum_of_sources()}
+    """What the module was made from: the last commit that changed a source of it, the kit, and the checksum of the sources."""
+    sources = [str(path) for path in page.sources()]
+    commit = git("log", "-1", "--format=%H", "--", *sources)
+    if git("status", "--porcelain", "--", *sources):
+        commit += ", with changes"
+    return {"commit": commit, "kit": said_by("rt", "version"), "sources": page.sum_of_sources()}

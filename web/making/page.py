@@ -81,8 +81,13 @@ def policy(style, code):
     return "; ".join(parts)
 
 
-def assembled(module, built):
-    """The page, of the module as packed text and of what it was built from."""
+def shown():
+    """What the page shows of the repository's documents and examples."""
+    return {"explanations": explanations(), "examples": examples()}
+
+
+def assembled(module, built, shown):
+    """The page, of the module as packed text, of what it was built from, and of what it shows."""
     style = (SOURCE / "page.css").read_text()
     code = '"use strict";\n' + "".join(code_of(name) for name in modules_in_order())
     head = [
@@ -95,14 +100,14 @@ def assembled(module, built):
         (SOURCE / "page.html").read_text(),
         as_data("application/octet-stream", "module", module),
         as_json("built", built),
-        as_json("explanations", explanations()),
+        as_json("explanations", shown["explanations"]),
     ]
     # The code comes last: it runs when all that it reads stands there.
     end = [f"<script>{code}</script>\n</body>\n</html>\n"]
     size = len("".join(head + body + end).encode())
     if size > MOST:
         raise SystemExit(f"the page has {size} bytes without the examples, over {MOST}")
-    return "".join(head + body + [as_json("examples", examples())] + end)
+    return "".join(head + body + [as_json("examples", shown["examples"])] + end)
 
 
 def crates_below(program):
@@ -121,12 +126,15 @@ def crates_below(program):
     return found
 
 
-def sum_of_sources():
-    """The checksum of the code that the module was made of, and of the files beside it."""
+def sources():
+    """The code that the module is made of, and the files beside it."""
     files = [path for name in crates_below("cfpp") for path in (TOP / "crates" / name / "src").rglob("*.rt")]
-    files += [*(WEB / "wasm").glob("*.[ch]"), WEB / "making" / "retarget.py", WEB / "making" / "module.py"]
+    return sorted([*files, *(WEB / "wasm").glob("*.[ch]"), WEB / "making" / "retarget.py", WEB / "making" / "module.py"])
+
+
+def sum_of_sources():
     total = hashlib.sha256()
-    for path in sorted(files):
+    for path in sources():
         total.update(f"{path.relative_to(TOP)} {hashlib.sha256(path.read_bytes()).hexdigest()}\n".encode())
     return total.hexdigest()[:32]
 
@@ -136,8 +144,10 @@ def packed(module):
 
 
 def kept():
-    """The module of the page that is kept, as packed text, and what that page was built from."""
+    """The module of the page that is kept, as packed text, what that page was built from, and what it shows."""
     text = PAGE.read_text()
-    module = re.search(r'<script type="application/octet-stream" id="data-module">([^<]*)</script>', text).group(1)
-    built = re.search(r'<script type="application/json" id="data-built">([^<]*)</script>', text).group(1)
-    return module, json.loads(built)
+    module, built, *parts = (
+        re.search(f'id="data-{name}">([^<]*)</script>', text).group(1)
+        for name in ("module", "built", "explanations", "examples")
+    )
+    return module, json.loads(built), dict(zip(("explanations", "examples"), map(json.loads, parts)))

@@ -18,9 +18,9 @@ function registerCell(view, x, y, at) {
 }
 
 function registerFile(view, geometry) {
-  const x = geometry.instruction.x;
+  const x = geometry.label.x + 4;
   const width = geometry.width - x - 6;
-  const column = (width - 24) / 8;
+  const column = (width - 16) / 8;
   const cells = view.picture.registers.map((_, at) =>
     registerCell(view, x + 14 + Math.floor(at / 4) * column, 46 + (at % 4) * 19, at));
   return svg("g", { class: "register-file" },
@@ -79,21 +79,31 @@ function sidingCell(view, at, cell, box) {
     moves.map((move) => chip(move, box.x + box.width - chipWidth(move) - 2, isLow ? middle - 11 : middle + 2)));
 }
 
-// A siding: its cells from where it launches, below, to where it recovers, above.
-function siding(view, geometry, at) {
-  const { classes, launch, recover, cells } = view.layout.sidings[at];
-  const x = geometry.siding(at);
-  const width = geometry.sidingWidth;
-  const from = geometry.y(launch) + geometry.row / 2;
-  const to = geometry.y(recover) + geometry.row / 2;
-  const gap = 12;
-  const height = (from - to - 2 * gap) / cells;
+// Where a siding's cells stand: from where it launches, below, to where it recovers, above.
+function sidingPlace(view, geometry, at) {
+  const { launch, recover } = view.layout.sidings[at];
+  const middle = (stage) => geometry.y(stage) + geometry.row / 2;
+  return { x: geometry.siding(at), width: geometry.sidingWidth, from: middle(launch), to: middle(recover), gap: 12 };
+}
+
+// The ways between the pipe and a siding.
+function ways(view, geometry, at) {
+  const { x, width, from, to, gap } = sidingPlace(view, geometry, at);
   const side = geometry.label.x + 4;
+  const center = x + width / 2;
+  return svg("g", { class: "ways" },
+    svg("path", { d: `M ${side} ${from} H ${center} V ${from - gap}`, class: "way", "marker-end": "url(#arrow)" }),
+    svg("path", { d: `M ${center} ${to + gap} V ${to} H ${side}`, class: "way", "marker-end": "url(#arrow)" }));
+}
+
+// A siding's cells, and above them what it executes.
+function siding(view, geometry, at) {
+  const { classes, cells } = view.layout.sidings[at];
+  const { x, width, from, to, gap } = sidingPlace(view, geometry, at);
+  const height = (from - to - 2 * gap) / cells;
   const boxOf = (cell) => ({ x, width, y: from - gap - (cell + 1) * height + 1, height: height - 2 });
   const boxes = Array.from({ length: cells }, (_, cell) => boxOf(cell));
   return svg("g", { class: "siding" },
-    svg("path", { d: `M ${side} ${from} H ${x + width / 2} V ${from - gap}`, class: "way", "marker-end": "url(#arrow)" }),
-    svg("path", { d: `M ${x + width / 2} ${to + gap} V ${to} H ${side}`, class: "way", "marker-end": "url(#arrow)" }),
     svg("text", { x: x + width / 2, y: to - 6, class: "units center" }, classes.join(" ")),
     boxes.map((box, cell) => sidingCell(view, at, cell, box)));
 }
@@ -137,6 +147,16 @@ function arrowHead() {
   return svg("defs", {}, svg("marker", { id: "arrow", ...form }, head));
 }
 
+// Puts parts in the place of those that are shown. One that looks as before stays, so that the browser need not lay it out again.
+function replaceParts(into, parts) {
+  parts.forEach((part, at) => {
+    const shown = into.children[at];
+    if (!shown) into.append(part);
+    else if (!shown.isEqualNode(part)) shown.replaceWith(part);
+  });
+  while (into.children.length > parts.length) into.lastChild.remove();
+}
+
 // Draws into the element. `view` has the layout, the picture and the one before it, the texts, the last move with the names of its
 // meeting, and the selected stage.
 export function draw(into, view) {
@@ -146,13 +166,15 @@ export function draw(into, view) {
   into.style.setProperty("--row", `${geometry.row}px`);
   // The whole is to be seen at once, but no stage is to be lower than can be read.
   into.style.setProperty("--least", `${240 + 28 * view.layout.stages}px`);
-  into.replaceChildren(
+  replaceParts(into, [
     arrowHead(),
     registerFile(view, geometry),
     lane(view, geometry),
+    // A way passes behind the cells of the sidings that stand nearer to the pipe.
+    ...view.layout.sidings.map((_, at) => ways(view, geometry, at)),
     ...view.layout.sidings.map((_, at) => siding(view, geometry, at)),
     ...stages.map((stage) => stageGroup(view, geometry, stage)),
     fetch(view, geometry),
-    ...[cache(view, geometry)].filter((part) => part));
-  return geometry;
+    ...[cache(view, geometry)].filter((part) => part),
+  ]);
 }

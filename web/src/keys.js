@@ -34,7 +34,7 @@ function isTyping(target) {
 export function listenToKeys(actions) {
   document.addEventListener("keydown", (event) => {
     if (event.ctrlKey || event.altKey || event.metaKey || isTyping(event.target)) return;
-    const isButton = event.target.tagName === "BUTTON" && (event.key === " " || event.key === "Enter");
+    const isButton = ["BUTTON", "A", "SUMMARY"].includes(event.target.tagName) && (event.key === " " || event.key === "Enter");
     const name = event.shiftKey && event.key === "ArrowRight" ? "again" : event.key;
     const action = actions[name] ?? (MOVE_KEYS[name] && (() => actions.move(MOVE_KEYS[name])));
     if (isButton || !action) return;

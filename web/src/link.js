@@ -3,20 +3,23 @@
 import { bytesOfStream, fromBase64, toBase64 } from "./data.js";
 import { bytesOf, text } from "./program.js";
 
+// What a link holds has at most so many bytes, before it is packed.
 const MOST = 1 << 20;
 const FORM = /^#cfpp1\.([A-Za-z0-9_-]+)$/;
 
 function packed(bytes) {
-  return bytesOfStream(new Blob([bytes]).stream().pipeThrough(new CompressionStream("deflate-raw")), MOST);
+  return bytesOfStream(new Blob([bytes]).stream().pipeThrough(new CompressionStream("deflate-raw")), 2 * MOST);
 }
 
 function unpacked(bytes) {
   return bytesOfStream(new Blob([bytes]).stream().pipeThrough(new DecompressionStream("deflate-raw")), MOST);
 }
 
+// The fragment, or null where it would be too long.
 export async function fragmentOf({ layout, program, input, script }) {
-  const state = { layout, program: toBase64(program), input: toBase64(input), script };
-  const code = toBase64(await packed(bytesOf(JSON.stringify(state))));
+  const state = bytesOf(JSON.stringify({ layout, program: toBase64(program), input: toBase64(input), script }));
+  if (state.length > MOST) return null;
+  const code = toBase64(await packed(state));
   return `#cfpp1.${code.replaceAll("+", "-").replaceAll("/", "_").replaceAll("=", "")}`;
 }
 

@@ -21,6 +21,9 @@ import { namesOfMeeting, told } from "./telling.js";
 // The sequential machine and the random orders go no further than this many retired instructions.
 const LIMIT = 10000;
 
+// The choice that is shown where program or processor is none of the page's.
+const OWN = "own";
+
 class Page {
   constructor(bytes) {
     this.simulator = new Simulator(new Program(bytes));
@@ -192,6 +195,7 @@ class Page {
 
   reopen(changes) {
     const { layout, bytes, input } = this.session;
+    if (changes.bytes) byId("example").value = OWN;
     this.open({ layout, bytes, input, script: "", name: "", ...changes });
   }
 }
@@ -202,9 +206,10 @@ function fillChoices(page) {
     if (!groups.has(example.group)) groups.set(example.group, html("optgroup", { label: example.group }));
     groups.get(example.group).append(html("option", { value: at }, example.title));
   });
+  for (const id of ["example", "layout"]) byId(id).append(html("option", { value: OWN, hidden: true }, "your own"));
   byId("example").append(...groups.values());
   byId("layout").append(...Object.keys(page.examples.layouts).map((name) => html("option", { value: name }, name)));
-  byId("layout").value = "plain";
+  byId("example").value = "0";
 }
 
 function save(name, parts) {
@@ -236,7 +241,10 @@ function listenToSetup(page) {
     byId("edit").setAttribute("aria-expanded", String(!byId("editors").hidden));
   });
   byId("use-source").addEventListener("click", () => page.reopen({ bytes: page.editors.checkSource(), name: "your program" }));
-  byId("use-toml").addEventListener("click", () => page.openLayout("your processor"));
+  byId("use-toml").addEventListener("click", () => {
+    byId("layout").value = OWN;
+    page.openLayout("your processor");
+  });
   byId("use-input").addEventListener("click", () => page.reopen({ input: bytesOf(byId("input").value) }));
   byId("program-file").addEventListener("change", ({ target }) => target.files[0] && openProgramFile(page, target.files[0]));
 }
@@ -252,6 +260,7 @@ function listenToChoices() {
 function listenToControls(page) {
   for (const action of ["rewind", "back", "again", "forward", "step"]) byId(action).addEventListener("click", () => page[action]());
   byId("play").addEventListener("click", () => page.player.toggle());
+  byId("schedule").addEventListener("change", () => (byId("seed").disabled = byId("schedule").value === "rule"));
   byId("speed").addEventListener("input", () => (byId("speed-shown").textContent = byId("speed").value));
   byId("keys-button").addEventListener("click", () => byId("keys").showModal());
   byId("any-order").addEventListener("click", () => page.orders.toggle(page.session, page.machine));
@@ -273,7 +282,12 @@ function listenToScript(page) {
   });
   byId("share").addEventListener("click", async () => {
     const { layout, bytes, input, script } = page.session;
-    history.replaceState(null, "", await fragmentOf({ layout: layout.text, program: bytes, input, script }));
+    const fragment = await fragmentOf({ layout: layout.text, program: bytes, input, script });
+    if (fragment === null) {
+      byId("shared").textContent = "This is too long for a link: save script, program and layout.";
+      return;
+    }
+    history.replaceState(null, "", fragment);
     const copied = await navigator.clipboard?.writeText(location.href).then(() => true, () => false);
     byId("shared").textContent = copied ? "The link is copied; it is the page's address now." : "The link is the page's address now.";
   });
@@ -308,6 +322,7 @@ async function openFirst(page) {
     const layout = link && page.simulator.check(link.layout).layout;
     if (!layout) throw new Error("no link, or no layout in it");
     page.editors.fill("", link.layout);
+    byId("example").value = byId("layout").value = OWN;
     page.open({ layout, bytes: link.program, input: link.input, script: link.script, name: "what the link has" });
     page.forward();
   } catch (fault) {
@@ -326,8 +341,8 @@ async function begin() {
   listenToControls(page);
   listenToScript(page);
   listenToDrawing(page);
-  const { commit, kit } = built();
-  byId("built").textContent = `Built from commit ${commit} with ${kit}.`;
+  const { commit, kit, sources } = built();
+  byId("built").textContent = `The program is that of commit ${commit}, built with ${kit}. Its sources have the checksum ${sources}.`;
   await openFirst(page);
   document.body.dataset.ready = "yes";
 }

@@ -6,8 +6,10 @@ import { text } from "./program.js";
 import { firstDifference, readRetired } from "./sequential.js";
 import { instructionText, registerName, valueText } from "./values.js";
 
-const ROWS_ABOVE = 7;
-const ROWS = 22;
+const ROWS_ABOVE = 5;
+const ROWS = 14;
+// A browser lays out a long text anew at each change. The whole script is what Save saves.
+const STEPS_SHOWN = 300;
 
 export function showMoves(picture, make) {
   const buttons = picture.allowed.map((move) => {
@@ -15,7 +17,10 @@ export function showMoves(picture, make) {
     button.addEventListener("click", () => make(move));
     return button;
   });
+  const hadFocus = byId("moves").contains(document.activeElement);
   byId("moves").replaceChildren(...(buttons.length > 0 ? buttons : ["nothing"]));
+  // Who makes moves here by keys goes on here.
+  if (hadFocus) buttons[0]?.focus();
 }
 
 function movesAt(layout, stage) {
@@ -76,14 +81,17 @@ function showAgreement(machine, picture) {
 }
 
 export function showWritten(picture) {
-  byId("written-words").hidden = picture.output.length === 0;
+  byId("written-words").hidden = byId("written").hidden = picture.output.length === 0;
   byId("written").textContent = text(picture.output);
 }
 
 export function showScript(session) {
   const it = byId("script");
-  it.value = session.script;
-  it.scrollTop = it.scrollHeight;
+  const shown = session.steps.slice(-STEPS_SHOWN);
+  const before = session.steps.length - shown.length;
+  it.value = `${before > 0 ? `# ${before} moves before these\n` : ""}${session.scriptOf(shown)}`;
+  // Where its end stands is known once the page is laid out.
+  requestAnimationFrame(() => (it.scrollTop = it.scrollHeight));
 }
 
 export function showReport(picture) {

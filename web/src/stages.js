@@ -81,12 +81,13 @@ export function cut(text, letters) {
 function passengerLine(view, box, passenger, moves) {
   const used = moves.reduce((sum, move) => sum + chipWidth(move) + 5, 0);
   const text = cut(instructionText(view.texts, passenger.address), 24);
+  const more = [flagText(passenger), bindingsText(passenger)].filter((part) => part !== "").join("; ");
   const next = box.x + 26 + text.length * CODE_STRONG;
   const letters = Math.floor((box.x + box.width - next - used - 8) / CODE_SMALL);
   const y = box.y + box.height / 2 + 5;
   return [
     svg("text", { x: box.x + 16, y, class: "code strong" }, text),
-    letters > 3 && svg("text", { x: next, y, class: "code small" }, cut(`${flagText(passenger)} ${bindingsText(passenger)}`, letters)),
+    letters > 3 && svg("text", { x: next, y, class: "code small" }, cut(more, letters)),
   ];
 }
 
@@ -165,8 +166,8 @@ function labelOf(view, geometry, stage) {
   const touched = view.last !== null && stageOf(view.last) === stage ? " changed" : "";
   const number = (at) => svg("text", { x: right, y: at, class: `stage-number${touched}` }, String(stage));
   if (geometry.lines === 1) {
-    const short = units.map((unit) => unit.slice(0, 3)).join(" ");
-    return [number(y + geometry.row / 2 + 6), svg("text", { x: right - 25, y: y + geometry.row / 2 + 5, class: "units" }, cut(short, 15))];
+    const short = units.length === 1 ? units[0] : units.map((unit) => unit.slice(0, 3)).join(" ");
+    return [number(y + geometry.row / 2 + 6), svg("text", { x: right - 30, y: y + geometry.row / 2 + 5, class: "units" }, cut(short, 11))];
   }
   const lines = wrapped(units, 15).slice(0, geometry.row < 70 ? 2 : 4);
   const first = y + (geometry.row - 12 * lines.length) / 2 + 6;

@@ -1,4 +1,7 @@
-// Tests what the page does without its drawing: the lessons move by move, the schedules, what can be made next, and the reasons.
+// Tests what the page does without its drawing: the lessons move by move, what can be made next, the reasons, and the schedules, whose
+// moves are those of the native program.
+//
+//     node web/tests/session.mjs [--alone]     leaves out what needs the native program
 
 import fs from "node:fs";
 import path from "node:path";
@@ -132,7 +135,8 @@ function reasons() {
   for (const [table, reason] of REASONS) check(`${reason} is explained`, all.refusal(table, reason).includes(": "));
 }
 
-for (const part of [lessons, schedules, listed, orders, reasons]) part();
+const alone = [lessons, listed, orders, reasons];
+for (const part of process.argv.includes("--alone") ? alone : [...alone, schedules]) part();
 native.end();
 console.log(`session: ${passed} passed, ${failed} failed`);
 process.exitCode = failed === 0 ? 0 : 1;

@@ -27,7 +27,8 @@ static u8 *from_memory(u64 bytes) {
     u64 left = (u64)(end - fresh);
     if (left < bytes) {
         u64 pages = (bytes - left + 0xffff) >> 16;
-        if (__builtin_wasm_memory_grow(0, pages) == (u64)-1)
+        // Where it is refused: -1, of which the module with 32-bit memory has the low half.
+        if ((unsigned)__builtin_wasm_memory_grow(0, pages) == (unsigned)-1)
             return 0;
         end += pages << 16;
     }
