@@ -15,7 +15,7 @@ use Rattle.cf_semantics.specs.Drained.{IsStuck, is_drained}
 use Rattle.cf_semantics.specs.Determined.{Drains, EndAlike, EndsAs, KeepsRegisters, Rests}
 use Rattle.cf_semantics.specs.Sites.{AreIndependent, IsLocal}
 use Rattle.cf_semantics.specs.Stutters.{Stutters}
-use Rattle.cf_refinement.specs.Invariant.{HoldsAfter, HoldsAt, Sound}
+use Rattle.cf_refinement.proofs.invariant.Invariant.{HoldsAfter, HoldsAt, Sound}
 use Rattle.cf_refinement.proofs.layouts.Accepted.{accepted_suits}
 use Rattle.cf_refinement.proofs.claims.Runs.{holds_after}
 use Rattle.cf_refinement.proofs.claims.Stutters.{stutters}

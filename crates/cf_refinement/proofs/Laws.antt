@@ -26,7 +26,7 @@ use Rattle.cf_semantics.specs.Options.{on}
 use Rattle.cf_semantics.specs.Passengers.{finish, finished, fresh, fresh_end, fresh_fence, instruction, reg_in, trapped, value_in, with_value}
 use Rattle.cf_semantics.specs.Soundness.{Holds}
 use Rattle.cf_semantics.specs.Steps.{onward, served, stepped_as}
-use Rattle.cf_refinement.specs.Suited.{is_plain}
+use Rattle.cf_refinement.proofs.invariant.Suited.{is_plain}
 use Rattle.cf_refinement.proofs.instructions.Fetches.{fetched_alike}
 use Rattle.cf_refinement.proofs.instructions.Steps.{bad_step, fetched_is, l1, step_executes, step_is, step_keeps, straight_next, straight_trap, word_is}
 

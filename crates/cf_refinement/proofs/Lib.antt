@@ -1,3 +1,4 @@
+pub mod invariant
 pub mod column
 pub mod instructions
 pub mod layouts

@@ -10,7 +10,7 @@ use Rattle.cf_semantics.specs.Lines.{lines}
 use Rattle.cf_semantics.specs.Refines.{IsPrefix, Refines}
 use Rattle.cf_semantics.specs.Runs.{IsRun, run, start}
 use Rattle.cf_semantics.specs.SoundAfter.{IsSoundAfter}
-use Rattle.cf_refinement.specs.Invariant.{HoldsAfter}
+use Rattle.cf_refinement.proofs.invariant.Invariant.{HoldsAfter}
 use Rattle.cf_refinement.proofs.layouts.Accepted.{accepted_suits}
 use Rattle.cf_refinement.proofs.claims.Heeds as heeds
 use Rattle.cf_refinement.proofs.claims.Refines as refines

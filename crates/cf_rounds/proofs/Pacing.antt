@@ -20,7 +20,7 @@ use Rattle.cf_semantics.specs.State.{State, Moment}
 use Rattle.cf_semantics.specs.Weight.{is_issue}
 use Rattle.cf_confluence.proofs.Candidates.{HasShape}
 use Rattle.cf_refinement.proofs.layouts.Accepted.{accepted_suits}
-use Rattle.cf_untold.specs.Invariant.{HoldsAnew}
+use Rattle.cf_untold.proofs.Invariant.{HoldsAnew}
 use Rattle.cf_untold.specs.Paced.{PacesTo}
 use Rattle.cf_untold.proofs.Offered.{anew_shape, offered_held}
 use Rattle.cf_untold.proofs.Theorems.{anew_kept}

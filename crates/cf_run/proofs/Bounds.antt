@@ -12,7 +12,7 @@ use Rattle.cf_semantics.specs.Refines.{gained}
 use Rattle.cf_semantics.specs.Runs.{opened as opened_on, start as start_on}
 use Rattle.cf_semantics.specs.State.{Moment}
 use Rattle.cf_semantics.specs.Weight.{most_cells, moves_per_issue}
-use Rattle.cf_untold.specs.Invariant.{HoldsAnew}
+use Rattle.cf_untold.proofs.Invariant.{HoldsAnew}
 use Rattle.cf_untold.specs.Paced.{PacesTo}
 use Rattle.cf_untold.proofs.Offered.{offered_some}
 use Rattle.cf_untold.proofs.Pacing.{paces_leads, paced_bounded_anew}

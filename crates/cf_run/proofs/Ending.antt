@@ -29,7 +29,7 @@ use Rattle.cf_confluence.proofs.drains.Rested.{drained_is}
 use Rattle.cf_refinement.proofs.claims.Level.{retired_unserved}
 use Rattle.cf_refinement.proofs.Theorems.{run_refines}
 use Rattle.cf_untold.specs.Anew.{finding, GoesTo}
-use Rattle.cf_untold.specs.Invariant.{HoldsAnew}
+use Rattle.cf_untold.proofs.Invariant.{HoldsAnew}
 use Rattle.cf_untold.proofs.Theorems.{holds_anew, refines_held}
 use Rattle.cf_core.specs.Processors.{Processor, in_state, opened}
 use Rattle.cf_run.specs.declared.answer.Ran.{Ran as Answer}

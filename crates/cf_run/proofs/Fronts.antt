@@ -25,8 +25,8 @@ use Rattle.cf_semantics.specs.Options.{on, Where}
 use Rattle.cf_semantics.specs.Passengers.{instruction, kind}
 use Rattle.cf_semantics.specs.Refines.{Spoke, gained}
 use Rattle.cf_semantics.specs.State.{Moment, cell_at, put_cell}
-use Rattle.cf_refinement.specs.Invariant.{HoldsAfter, HoldsAt, Sound}
-use Rattle.cf_refinement.specs.Sure as sure
+use Rattle.cf_refinement.proofs.invariant.Invariant.{HoldsAfter, HoldsAt, Sound}
+use Rattle.cf_refinement.proofs.invariant.Sure as sure
 use Rattle.cf_refinement.proofs.layouts.Accepted.{accepted_suits}
 use Rattle.cf_refinement.proofs.moves.Rows.{bar_row}
 use Rattle.cf_refinement.proofs.claims.Output.{output_ahead}

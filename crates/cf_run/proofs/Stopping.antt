@@ -11,7 +11,7 @@ use Rattle.cf_semantics.specs.declared.event.Event.{Event}
 use Rattle.cf_semantics.specs.Bars.{bar}
 use Rattle.cf_semantics.specs.Lines.{Line}
 use Rattle.cf_semantics.specs.State.{State, Moment}
-use Rattle.cf_refinement.specs.Invariant.{HoldsAfter}
+use Rattle.cf_refinement.proofs.invariant.Invariant.{HoldsAfter}
 use Rattle.cf_core.specs.Processors.{Processor, in_state}
 use Rattle.cf_core.specs.Stepping.{FailsToRead, FailsToWrite}
 use Rattle.cf_report.proofs.Puttings.{front-again, writes-again}

@@ -16,7 +16,7 @@ use Rattle.cf_semantics.specs.State.{Moment}
 use Rattle.cf_semantics.specs.Weight.{issues, weight}
 use Rattle.cf_refinement.proofs.claims.Runs.{opened_retired}
 use Rattle.cf_untold.specs.Anew.{finding, GoesTo, LeadsTo}
-use Rattle.cf_untold.specs.Invariant.{HoldsAnew}
+use Rattle.cf_untold.proofs.Invariant.{HoldsAnew}
 use Rattle.cf_untold.proofs.Bounded.{drain_bounded_anew}
 use Rattle.cf_untold.proofs.Theorems.{holds_anew, left_open}
 use Rattle.cf_core.specs.Processors.{opened}

@@ -11,12 +11,12 @@ use Rattle.cf_semantics.specs.Moves.{next}
 use Rattle.cf_semantics.specs.Runs.{start}
 use Rattle.cf_semantics.specs.State.{Moment}
 use Rattle.cf_semantics.specs.Weight.{counts, is_issue, issues, moves_per_issue, weight}
-use Rattle.cf_refinement.specs.Invariant.{HoldsAfter}
-use Rattle.cf_refinement.specs.Suited.{Suits}
+use Rattle.cf_refinement.proofs.invariant.Invariant.{HoldsAfter}
+use Rattle.cf_refinement.proofs.invariant.Suited.{Suits}
 use Rattle.cf_refinement.proofs.layouts.Accepted.{accepted_suits}
 use Rattle.cf_confluence.proofs.weight.Bound.{costs, opened_weight, sound_at}
 use Rattle.cf_untold.specs.Anew.{LeadsTo, finding}
-use Rattle.cf_untold.specs.Invariant.{HoldsAnew}
+use Rattle.cf_untold.proofs.Invariant.{HoldsAnew}
 use Rattle.cf_untold.proofs.Found.{found}
 use Rattle.cf_untold.proofs.Rechosen.{over}
 use Rattle.cf_untold.proofs.Theorems.{anew_kept, anew_started, held_anew}

@@ -25,7 +25,7 @@ use Rattle.cf_refinement.proofs.moves.Recover.{in_dead, in_live}
 use Rattle.cf_refinement.proofs.moves.Serve.{Serves, next-serve, quit, serve_ready}
 use Rattle.cf_refinement.proofs.moves.Slide.{next-slide, slide_ready}
 use Rattle.cf_refinement.proofs.column.Spot.{spot}
-use Rattle.cf_refinement.specs.Invariant.{Sound}
+use Rattle.cf_refinement.proofs.invariant.Invariant.{Sound}
 use Rattle.cf_semantics.specs.Bars.{bar, row_bar}
 use Rattle.cf_semantics.specs.Column.{Down, Item, Up, column, column_from, packet_in, passenger_in}
 use Rattle.cf_semantics.specs.Instructions.{serve_of}
@@ -35,8 +35,7 @@ use Rattle.cf_semantics.specs.State.{Moment, State, put_cell, siding_at, with_ce
 use Rattle.rv_machine.specs.Call.{Called}
 use Rattle.rv_machine.specs.Call as called
 use Rattle.rv_machine.specs.Machine.{Machine}
-use Rattle.cf_untold.proofs.Clear.{clear_replaced, met_clear, packet_clear, quiet_clear, rider_clear}
-use Rattle.cf_untold.specs.Clear.{IsClear, awaits}
+use Rattle.cf_untold.proofs.Clear.{IsClear, awaits, clear_replaced, met_clear, packet_clear, quiet_clear, rider_clear}
 
 -- the two forms of a piece of the column
 regroup : (a r m k b : List Item) → a ++ ((r ++ (m ++ k)) ++ b) ≡ (a ++ r) ++ (m ++ (k ++ b))

@@ -17,8 +17,8 @@ use Rattle.cf_refinement.proofs.column.Fold.{fit_append, fit_back, fit_front, wa
 use Rattle.cf_refinement.proofs.moves.Issue.{issue_ready, next-issue}
 use Rattle.cf_refinement.proofs.moves.Rows.{bar_row}
 use Rattle.cf_refinement.proofs.moves.Leave.{leave_ready, next-leave}
-use Rattle.cf_refinement.specs.Invariant.{Sound}
-use Rattle.cf_refinement.specs.Suited.{Suits}
+use Rattle.cf_refinement.proofs.invariant.Invariant.{Sound}
+use Rattle.cf_refinement.proofs.invariant.Suited.{Suits}
 use Rattle.cf_semantics.specs.Bars.{bar}
 use Rattle.cf_semantics.specs.Column.{Down, Item, Up, column, column_from, items, packet_in, passenger_in}
 use Rattle.cf_semantics.specs.Instructions.{fetched}
@@ -29,7 +29,7 @@ use Rattle.cf_semantics.specs.Path.{has_reg}
 use Rattle.cf_semantics.specs.Runs.{empty_cell, opened}
 use Rattle.cf_semantics.specs.State.{State, put_cell}
 use Rattle.cf_semantics.specs.Walks.{Everywhere, walk}
-use Rattle.cf_untold.specs.Clear.{Ends, Fits, IsClear, awaits, none_awaited, past}
+use Rattle.cf_untold.proofs.Clear.{Ends, Fits, IsClear, awaits, none_awaited, past}
 
 -- cells in which nothing stands have an empty column
 empty_column : (i n : ℕ) → column_from i (replicate n empty_cell) ≡ []

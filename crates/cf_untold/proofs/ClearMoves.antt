@@ -3,8 +3,8 @@ use Rattle.std.proofs.Common.{◌≡◌, None}
 use Rattle.cf_bind.specs.declared.moves.Move.{Move}
 use Rattle.cf_bind.specs.declared.moves.Move.TheVariants.{Access, Climb, Emit, Execute, Exit, Fall, Issue, Launch, Leave, Meet, Recover, Send, Serve, Slide}
 use Rattle.cf_layout.specs.Layout.{Plan}
-use Rattle.cf_refinement.specs.Invariant.{Sound}
-use Rattle.cf_refinement.specs.Suited.{Suits}
+use Rattle.cf_refinement.proofs.invariant.Invariant.{Sound}
+use Rattle.cf_refinement.proofs.invariant.Suited.{Suits}
 use Rattle.cf_semantics.specs.Bars.{bar}
 use Rattle.cf_semantics.specs.Moves.{next}
 use Rattle.cf_semantics.specs.State.{Moment}
@@ -12,7 +12,7 @@ use Rattle.rv_machine.specs.Machine.{Machine}
 use Rattle.cf_untold.proofs.ClearChanged.{access_clear, climb_clear, execute_clear, fall_clear, launch_clear, meet_clear, recover_clear, serve_clear, slide_clear}
 use Rattle.cf_untold.proofs.ClearEnds.{emit_clear, exit_clear, issue_clear, leave_clear}
 use Rattle.cf_untold.proofs.ClearSend.{send_clear}
-use Rattle.cf_untold.specs.Clear.{IsClear}
+use Rattle.cf_untold.proofs.Clear.{IsClear}
 
 -- every move that is allowed keeps it
 pub clear_kept : (l : Plan) (m : Moment) (x : Machine) (mv : Move) → Suits l → bar l m.state mv ≡ None → Sound l m.state m.rest m.output x → IsClear m.state → IsClear (next l m mv).state

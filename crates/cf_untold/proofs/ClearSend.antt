@@ -12,16 +12,16 @@ use Rattle.cf_refinement.proofs.column.Column.{column-at, place}
 use Rattle.cf_refinement.proofs.column.Fold.{fit_append, fit_back, fit_front, walk-append}
 use Rattle.cf_refinement.proofs.moves.Rows.{bar_row}
 use Rattle.cf_refinement.proofs.moves.Send.{alone, next-send, send_ready}
-use Rattle.cf_refinement.specs.Invariant.{Sound}
-use Rattle.cf_refinement.specs.Lone as lone
-use Rattle.cf_refinement.specs.Suited.{Suits}
+use Rattle.cf_refinement.proofs.invariant.Invariant.{Sound}
+use Rattle.cf_refinement.proofs.invariant.Lone as lone
+use Rattle.cf_refinement.proofs.invariant.Suited.{Suits}
 use Rattle.cf_semantics.specs.Bars.{bar}
 use Rattle.cf_semantics.specs.Column.{Down, Item, Up, column, column_from}
 use Rattle.cf_semantics.specs.Moves.{moved}
 use Rattle.cf_semantics.specs.State.{State, put_cell}
 use Rattle.cf_semantics.specs.Walks.{Everywhere, walk}
 use Rattle.cf_untold.proofs.ClearEnds.{fits_up}
-use Rattle.cf_untold.specs.Clear.{Ends, Fits, IsClear, none_awaited, past}
+use Rattle.cf_untold.proofs.Clear.{Ends, Fits, IsClear, none_awaited, past}
 
 -- where something may follow, it may above, too
 past_shut : (l : Plan) (i : Item) (b : Bool) → lone.past l i b ≡ false → b ≡ false

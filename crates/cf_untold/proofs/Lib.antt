@@ -4,6 +4,7 @@ pub mod ClearEnds
 pub mod ClearSend
 pub mod ClearMoves
 pub mod Rechosen
+pub mod Invariant
 pub mod Goes
 pub mod Found
 pub mod Theorems

@@ -17,16 +17,16 @@ use Rattle.cf_semantics.specs.Right.{Way, begin, past, way}
 use Rattle.cf_semantics.specs.State.{Moment, State}
 use Rattle.cf_semantics.specs.Walks.{walk}
 use Rattle.cf_semantics.specs.Weight.{is_issue}
-use Rattle.cf_refinement.specs.Invariant.{HoldsAfter, Sound}
-use Rattle.cf_refinement.specs.Suited.{Suits}
-use Rattle.cf_refinement.specs.Sure as sure
+use Rattle.cf_refinement.proofs.invariant.Invariant.{HoldsAfter, Sound}
+use Rattle.cf_refinement.proofs.invariant.Suited.{Suits}
+use Rattle.cf_refinement.proofs.invariant.Sure as sure
 use Rattle.cf_refinement.proofs.moves.Rows.{bar_row}
 use Rattle.cf_refinement.proofs.moves.Serve.{Scene, Serves, scene, serve_ready}
 use Rattle.cf_confluence.proofs.drains.Apart.{Reaching, all_retired, first_move, move_keeps, only_issue, past_first, past_grows}
 use Rattle.cf_confluence.proofs.weight.Bound.{sound_at}
 use Rattle.cf_confluence.proofs.drains.Rested.{retired_is}
 use Rattle.cf_untold.specs.Anew.{finding}
-use Rattle.cf_untold.specs.Invariant.{HoldsAnew}
+use Rattle.cf_untold.proofs.Invariant.{HoldsAnew}
 use Rattle.cf_untold.proofs.Found.{found}
 use Rattle.cf_untold.proofs.Rechosen.{over}
 use Rattle.cf_untold.proofs.Theorems.{held_anew, rebased}

@@ -14,12 +14,12 @@ use Rattle.cf_semantics.specs.Lines.{Line}
 use Rattle.cf_semantics.specs.Options.{is_some}
 use Rattle.cf_semantics.specs.State.{Moment, State}
 use Rattle.cf_semantics.specs.Weight.{is_issue}
-use Rattle.cf_refinement.specs.Invariant.{HoldsAt, Sound}
+use Rattle.cf_refinement.proofs.invariant.Invariant.{HoldsAt, Sound}
 use Rattle.cf_refinement.proofs.layouts.Accepted.{accepted_suits}
 use Rattle.cf_confluence.proofs.Candidates.{HasShape, has_some, held_stuck, kept_passes, some_pick}
 use Rattle.cf_confluence.proofs.drains.Rested.{Rested, rested}
 use Rattle.cf_untold.specs.Anew.{finding}
-use Rattle.cf_untold.specs.Invariant.{HoldsAnew}
+use Rattle.cf_untold.proofs.Invariant.{HoldsAnew}
 
 -- a candidate is allowed
 candidate_allowed : (plan : Plan) (s : State) (k : ℕ) (mv : Move) → slice_get (candidates plan s) k ≡ Some mv → bar plan s mv ≡ None

@@ -19,13 +19,13 @@ use Rattle.cf_semantics.specs.Refines.{gained}
 use Rattle.cf_semantics.specs.Runs.{opened, run, start}
 use Rattle.cf_semantics.specs.State.{Moment}
 use Rattle.cf_semantics.specs.Weight.{counts, is_issue, issues, moves_per_issue}
-use Rattle.cf_refinement.specs.Suited.{Suits}
+use Rattle.cf_refinement.proofs.invariant.Suited.{Suits}
 use Rattle.cf_refinement.proofs.layouts.Accepted.{accepted_suits}
 use Rattle.cf_refinement.proofs.claims.Runs.{going, opened_retired}
 use Rattle.cf_confluence.proofs.drains.Rested.{drained_is, rested}
 use Rattle.cf_confluence.proofs.drains.Retiring.{retires_so}
 use Rattle.cf_untold.specs.Anew.{LeadsTo, finding}
-use Rattle.cf_untold.specs.Invariant.{HoldsAnew}
+use Rattle.cf_untold.proofs.Invariant.{HoldsAnew}
 use Rattle.cf_untold.specs.Paced.{PacesTo}
 use Rattle.cf_untold.proofs.Bounded.{run_bounded_anew}
 use Rattle.cf_untold.proofs.Nearing.{Nearing, nearing_first, nearing_kept, nearing_retired}

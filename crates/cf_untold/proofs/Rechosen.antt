@@ -22,16 +22,16 @@ use Rattle.cf_semantics.specs.Walks.{Everywhere, walk}
 use Rattle.cf_semantics.specs.Ahead as ahead
 use Rattle.cf_semantics.specs.Path as trail
 use Rattle.cf_semantics.specs.Soundness.{HasValue}
-use Rattle.cf_refinement.specs.Invariant.{Sound}
-use Rattle.cf_refinement.specs.Port as dock
-use Rattle.cf_refinement.specs.Stands.{Blank}
-use Rattle.cf_refinement.specs.Sure as sure
+use Rattle.cf_refinement.proofs.invariant.Invariant.{Sound}
+use Rattle.cf_refinement.proofs.invariant.Port as dock
+use Rattle.cf_refinement.proofs.invariant.Stands.{Blank}
+use Rattle.cf_refinement.proofs.invariant.Sure as sure
 use Rattle.cf_refinement.proofs.moves.Rows.{bar_row}
 use Rattle.cf_refinement.proofs.walks.Quiet.{Unchanged}
 use Rattle.cf_refinement.proofs.moves.Serve.{Idle, Scene, Serves, scene, serve_ready}
 use Rattle.cf_refinement.proofs.instructions.Steps.{sure_keeps}
-use Rattle.cf_untold.specs.Clear as clear
-use Rattle.cf_untold.specs.Clear.{IsClear, none_awaited}
+use Rattle.cf_untold.proofs.Clear as clear
+use Rattle.cf_untold.proofs.Clear.{IsClear, none_awaited}
 
 -- the machine, with this left of its input
 abbrev pub over : List ℕ → Machine → Machine

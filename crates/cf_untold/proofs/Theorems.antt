@@ -14,8 +14,8 @@ use Rattle.cf_semantics.specs.Moves.{next}
 use Rattle.cf_semantics.specs.Refines.{Refines, gained}
 use Rattle.cf_semantics.specs.Runs.{IsRun, opened, run, start}
 use Rattle.cf_semantics.specs.State.{Moment}
-use Rattle.cf_refinement.specs.Invariant.{HoldsAfter, HoldsAt, Sound}
-use Rattle.cf_refinement.specs.Suited.{Suits}
+use Rattle.cf_refinement.proofs.invariant.Invariant.{HoldsAfter, HoldsAt, Sound}
+use Rattle.cf_refinement.proofs.invariant.Suited.{Suits}
 use Rattle.cf_refinement.proofs.layouts.Accepted.{accepted_suits}
 use Rattle.cf_refinement.proofs.claims.Lines.{lines_after}
 use Rattle.cf_refinement.proofs.claims.Refines.{refined}
@@ -23,8 +23,8 @@ use Rattle.cf_refinement.proofs.claims.Runs.{going, kept, opened_retired, starte
 use Rattle.cf_confluence.proofs.drains.Rested.{after_gained, gained_is, retired_is}
 use Rattle.cf_confluence.proofs.drains.Tidy.{IsTidy, tidy_next, tidy_opened}
 use Rattle.cf_untold.specs.Anew.{GoesTo, LeadsTo, RefinesAnew, finding}
-use Rattle.cf_untold.specs.Clear.{IsClear}
-use Rattle.cf_untold.specs.Invariant.{HoldsAnew}
+use Rattle.cf_untold.proofs.Clear.{IsClear}
+use Rattle.cf_untold.proofs.Invariant.{HoldsAnew}
 use Rattle.cf_untold.proofs.ClearEnds.{clear_opened}
 use Rattle.cf_untold.proofs.ClearMoves.{clear_kept}
 use Rattle.cf_untold.proofs.Found.{found}

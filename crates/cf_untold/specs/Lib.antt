@@ -1,4 +1,2 @@
 pub mod Anew
-pub mod Clear
-pub mod Invariant
 pub mod Paced

@@ -26,9 +26,9 @@ use Rattle.cf_semantics.specs.Walks.{walk}
 use Rattle.cf_semantics.specs.Weight.{cell_weight, cells_weight, counts, is_issue, most_cells, moves_per_issue, op_weight, siding_weight, sidings_weight, weight}
 use Rattle.cf_semantics.specs.Drained.{is_drained, is_empty, is_occupied}
 use Rattle.cf_semantics.specs.Path as trail
-use Rattle.cf_refinement.specs.Invariant.{HoldsAfter, Sound}
-use Rattle.cf_refinement.specs.Suited.{Suits}
-use Rattle.cf_refinement.specs.Sure as sure
+use Rattle.cf_refinement.proofs.invariant.Invariant.{HoldsAfter, Sound}
+use Rattle.cf_refinement.proofs.invariant.Suited.{Suits}
+use Rattle.cf_refinement.proofs.invariant.Sure as sure
 use Rattle.cf_refinement.proofs.column.Fold.{walk-append, walk_follows}
 use Rattle.cf_refinement.proofs.walks.Fresh.{fresh_is}
 use Rattle.cf_refinement.proofs.moves.Issue.{Issues, issue_ready, next-issue}

@@ -14,7 +14,7 @@ use Rattle.cf_semantics.specs.Right.{right, way}
 use Rattle.cf_semantics.specs.Runs.{IsRun, run, opened}
 use Rattle.cf_semantics.specs.Drained.{is_drained}
 use Rattle.cf_semantics.specs.Determined.{Drains, EndAlike, EndsAs, EndsAt, IsDrainedAt, IsEndedAt, IsSame, KeepsRegisters}
-use Rattle.cf_refinement.specs.Invariant.{HoldsAfter, HoldsAt, Sound}
+use Rattle.cf_refinement.proofs.invariant.Invariant.{HoldsAfter, HoldsAt, Sound}
 use Rattle.cf_refinement.proofs.claims.Level.{empty_column}
 use Rattle.cf_refinement.proofs.claims.Runs.{going}
 use Rattle.cf_confluence.proofs.drains.Determined.{some_same}

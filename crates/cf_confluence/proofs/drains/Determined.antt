@@ -22,8 +22,8 @@ use Rattle.cf_refinement.proofs.moves.Leave.{Leaves, at_top, dead_path, leave_ke
 use Rattle.cf_confluence.proofs.drains.Right.{Fits, Follows, past_path, way_walk}
 use Rattle.cf_confluence.proofs.drains.Steadies.{access_steady, climb_steady, execute_steady, fall_steady, launch_steady, meet_steady, recover_steady, send_steady, serve_steady, slide_steady}
 use Rattle.cf_confluence.proofs.drains.Ways.{Steady, fits_way}
-use Rattle.cf_refinement.specs.Invariant.{HoldsAfter, HoldsAt, IsOver, Sound}
-use Rattle.cf_refinement.specs.Suited.{Suits}
+use Rattle.cf_refinement.proofs.invariant.Invariant.{HoldsAfter, HoldsAt, IsOver, Sound}
+use Rattle.cf_refinement.proofs.invariant.Suited.{Suits}
 use Rattle.cf_semantics.specs.Ahead.{one}
 use Rattle.cf_semantics.specs.Bars.{bar}
 use Rattle.cf_semantics.specs.Column.{Down, Item, Up, column, column_from, packet_in, passenger_in}
@@ -43,7 +43,7 @@ use Rattle.rv_machine.specs.After.{after}
 use Rattle.rv_machine.specs.Machine.{Machine}
 use Rattle.cf_refinement.proofs.walks.Path as paths
 use Rattle.cf_refinement.proofs.claims.Runs as runs
-use Rattle.cf_refinement.specs.Sure as sure
+use Rattle.cf_refinement.proofs.invariant.Sure as sure
 use Rattle.cf_semantics.specs.Path as trail
 
 -- Emit

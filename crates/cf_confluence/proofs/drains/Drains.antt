@@ -14,9 +14,9 @@ use Rattle.cf_refinement.proofs.moves.Serve.{is_serial-is}
 use Rattle.cf_refinement.proofs.column.Sidings.{flown_range}
 use Rattle.cf_refinement.proofs.column.Sorted.{Riders, Sorted, riders_more, sorted}
 use Rattle.cf_confluence.proofs.drains.Stuck.{Barred, Head, bar_is, first_clear, held_top, known, lane_none, no_packet, owes_none, row_slide, slides, stops_here, top_of}
-use Rattle.cf_refinement.specs.Invariant.{Sound}
-use Rattle.cf_refinement.specs.Stands.{Each, Stands}
-use Rattle.cf_refinement.specs.Suited.{Suits, is_plain}
+use Rattle.cf_refinement.proofs.invariant.Invariant.{Sound}
+use Rattle.cf_refinement.proofs.invariant.Stands.{Each, Stands}
+use Rattle.cf_refinement.proofs.invariant.Suited.{Suits, is_plain}
 use Rattle.cf_semantics.specs.Bars.{bar, climb_bar, emit_bar, execute_bar, is_taken, last_op, launch_bar, leave_bar, recover_bar, row_bar, send_bar, serve_bar, stops_at}
 use Rattle.cf_semantics.specs.Column.{Item, Up, column}
 use Rattle.cf_semantics.specs.Drained.{IsStuck}
@@ -32,7 +32,7 @@ use Rattle.rv_inst.specs.declared.classes.Class.TheVariants.{Serial}
 use Rattle.rv_inst.specs.declared.isa.Isa.{Isa}
 use Rattle.rv_machine.specs.Machine.{Machine}
 use Rattle.std.specs.Prelude.{slice_get}
-use Rattle.cf_refinement.specs.Sure as sure
+use Rattle.cf_refinement.proofs.invariant.Sure as sure
 use Rattle.cf_semantics.specs.Path as trail
 use Rattle.cf_semantics.specs.Soundness.{in_siding, operations_in, operations_of}
 

@@ -23,10 +23,10 @@ use Rattle.cf_semantics.specs.Drained.{is_drained, is_occupied, IsStuck}
 use Rattle.cf_semantics.specs.Determined.{IsSame, IsDrainedAt, KeepsRegisters}
 use Rattle.cf_semantics.specs.Path as trail
 use Rattle.cf_semantics.specs.Soundness.{as_launched, operations_in}
-use Rattle.cf_refinement.specs.Invariant.{HoldsAfter, HoldsAt, Sound}
-use Rattle.cf_refinement.specs.Suited.{Suits}
-use Rattle.cf_refinement.specs.Port as dock
-use Rattle.cf_refinement.specs.Sure as sure
+use Rattle.cf_refinement.proofs.invariant.Invariant.{HoldsAfter, HoldsAt, Sound}
+use Rattle.cf_refinement.proofs.invariant.Suited.{Suits}
+use Rattle.cf_refinement.proofs.invariant.Port as dock
+use Rattle.cf_refinement.proofs.invariant.Sure as sure
 use Rattle.cf_refinement.proofs.column.Sidings.{cells_in}
 use Rattle.cf_confluence.proofs.drains.Counted.{after_counts}
 use Rattle.cf_confluence.proofs.drains.Drains.{IsEmpty, stuck_empty}

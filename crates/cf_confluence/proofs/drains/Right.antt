@@ -8,7 +8,7 @@ use Rattle.cf_semantics.specs.Passengers.{is_place}
 use Rattle.cf_semantics.specs.Right.{Way, follows, past, past_passenger, stops}
 use Rattle.rv_inst.specs.declared.isa.Isa.{Isa}
 use Rattle.cf_refinement.proofs.walks.Path as paths
-use Rattle.cf_refinement.specs.Sure as sure
+use Rattle.cf_refinement.proofs.invariant.Sure as sure
 use Rattle.cf_semantics.specs.Path as trail
 
 -- the next sure passenger would be on the path

@@ -35,9 +35,9 @@ use Rattle.cf_refinement.proofs.column.Sidings.{last_answer, plain_last}
 use Rattle.cf_refinement.proofs.moves.Slide.{next-slide, slide_ready}
 use Rattle.cf_refinement.proofs.column.Spot.{Spot, spot}
 use Rattle.cf_confluence.proofs.drains.Ways.{Steady, finished_way, follows_self, meet_way, packet_relabel, rider_relabel, send_way, walk_way, way_changed}
-use Rattle.cf_refinement.specs.Invariant.{Sound}
-use Rattle.cf_refinement.specs.Stands.{Stands}
-use Rattle.cf_refinement.specs.Suited.{Suits}
+use Rattle.cf_refinement.proofs.invariant.Invariant.{Sound}
+use Rattle.cf_refinement.proofs.invariant.Stands.{Stands}
+use Rattle.cf_refinement.proofs.invariant.Suited.{Suits}
 use Rattle.cf_semantics.specs.Bars.{bar}
 use Rattle.cf_semantics.specs.Column.{Down, Item, Up, column, column_from, packet_in, passenger_in}
 use Rattle.cf_semantics.specs.Instructions.{Stops, access_trap, behind, is_memory, serve_of, step_at}
@@ -54,10 +54,10 @@ use Rattle.rv_machine.specs.Call.{Called}
 use Rattle.rv_machine.specs.Call as called
 use Rattle.rv_machine.specs.Machine.{Machine}
 use Rattle.cf_semantics.specs.Ahead as ahead
-use Rattle.cf_refinement.specs.Port as dock
+use Rattle.cf_refinement.proofs.invariant.Port as dock
 use Rattle.cf_refinement.proofs.walks.PathMeet as pathmeet
 use Rattle.cf_refinement.proofs.walks.Path as paths
-use Rattle.cf_refinement.specs.Sure as sure
+use Rattle.cf_refinement.proofs.invariant.Sure as sure
 use Rattle.cf_semantics.specs.Path as trail
 use Rattle.cf_semantics.specs.Soundness.{IsAnswer}
 

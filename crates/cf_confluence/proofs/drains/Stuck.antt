@@ -15,7 +15,7 @@ use Rattle.cf_semantics.specs.Passengers.{missing}
 use Rattle.cf_semantics.specs.State.{State, cell_at, siding_at}
 use Rattle.cf_semantics.specs.Weight.{is_issue}
 use Rattle.cf_semantics.specs.Soundness.{as_launched, operations_in}
-use Rattle.cf_refinement.specs.Sure as sure
+use Rattle.cf_refinement.proofs.invariant.Sure as sure
 
 -- the row alone bars
 pub bar_is : (l : Plan) (s : State) (m : Move) → s.ending ≡ None → s.failed ≡ false → bar l s m ≡ row_bar l s m

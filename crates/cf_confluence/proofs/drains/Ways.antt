@@ -17,7 +17,7 @@ use Rattle.rv_inst.specs.declared.isa.Isa.{Isa}
 use Rattle.rv_machine.specs.Machine.{Machine}
 use Rattle.cf_refinement.proofs.walks.PathMeet as pathmeet
 use Rattle.cf_refinement.proofs.walks.Path as paths
-use Rattle.cf_refinement.specs.Sure as sure
+use Rattle.cf_refinement.proofs.invariant.Sure as sure
 use Rattle.cf_semantics.specs.Path as trail
 
 pub record Steady (w v : Way) : Type 0 where

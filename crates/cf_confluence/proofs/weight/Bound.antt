@@ -15,9 +15,9 @@ use Rattle.cf_refinement.proofs.claims.Runs.{going, holds_after, kept}
 use Rattle.cf_refinement.proofs.moves.Serve.{serial_aboard}
 use Rattle.cf_refinement.proofs.column.Spot.{spot}
 use Rattle.cf_refinement.proofs.walks.Stands.{each_back}
-use Rattle.cf_refinement.specs.Invariant.{HoldsAfter, HoldsAt, Sound}
-use Rattle.cf_refinement.specs.Stands.{Each, Stands}
-use Rattle.cf_refinement.specs.Suited.{Suits}
+use Rattle.cf_refinement.proofs.invariant.Invariant.{HoldsAfter, HoldsAt, Sound}
+use Rattle.cf_refinement.proofs.invariant.Stands.{Each, Stands}
+use Rattle.cf_refinement.proofs.invariant.Suited.{Suits}
 use Rattle.cf_semantics.specs.Bars.{bar}
 use Rattle.cf_semantics.specs.Column.{Up}
 use Rattle.cf_semantics.specs.Instructions.{fetched}

@@ -30,8 +30,8 @@ use Rattle.cf_refinement.proofs.moves.Serve.{Serves, next-serve, serve_ready}
 use Rattle.cf_refinement.proofs.column.Sidings.{berthed, set_last_size, some_cells}
 use Rattle.cf_refinement.proofs.moves.Slide.{next-slide, slide_ready, slide_size}
 use Rattle.cf_confluence.proofs.weight.Weighs.{cell_weighs, last_weighs, pair_weighs, siding_weighs, slide_weight}
-use Rattle.cf_refinement.specs.Invariant.{Sound}
-use Rattle.cf_refinement.specs.Suited.{Suits}
+use Rattle.cf_refinement.proofs.invariant.Invariant.{Sound}
+use Rattle.cf_refinement.proofs.invariant.Suited.{Suits}
 use Rattle.cf_semantics.specs.Bars.{bar, is_full, last_op}
 use Rattle.cf_semantics.specs.Column.{column}
 use Rattle.cf_semantics.specs.Instructions.{answer_of, is_memory, kind_of, serve_of}

@@ -12,9 +12,9 @@ use Rattle.cf_refinement.proofs.instructions.Memory.{is_memory-is}
 use Rattle.cf_refinement.proofs.walks.Order.{past_path}
 use Rattle.cf_refinement.proofs.walks.Port.{ported_calm}
 use Rattle.cf_refinement.proofs.column.Sorted.{Riders, Sorted, riders_more, sorted}
-use Rattle.cf_refinement.specs.Invariant.{Sound}
-use Rattle.cf_refinement.specs.Stands.{Each, Stands}
-use Rattle.cf_refinement.specs.Suited.{Suits}
+use Rattle.cf_refinement.proofs.invariant.Invariant.{Sound}
+use Rattle.cf_refinement.proofs.invariant.Stands.{Each, Stands}
+use Rattle.cf_refinement.proofs.invariant.Suited.{Suits}
 use Rattle.cf_semantics.specs.Column.{Down, Item, Up, column}
 use Rattle.cf_semantics.specs.Instructions.{Goes, behind, is_memory, step_at, step_here}
 use Rattle.cf_semantics.specs.Layouts.{isa_of, port}
@@ -26,8 +26,8 @@ use Rattle.rv_inst.specs.declared.isa.Isa.{Isa}
 use Rattle.rv_machine.specs.After.{after}
 use Rattle.rv_machine.specs.Machine.{Machine}
 use Rattle.cf_semantics.specs.Ahead as ahead
-use Rattle.cf_refinement.specs.Port as dock
-use Rattle.cf_refinement.specs.Sure as sure
+use Rattle.cf_refinement.proofs.invariant.Port as dock
+use Rattle.cf_refinement.proofs.invariant.Sure as sure
 use Rattle.cf_semantics.specs.Path as trail
 
 -- the machine so far is on the sequential path, t.live steps behind m's n-th

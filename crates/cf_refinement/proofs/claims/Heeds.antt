@@ -21,9 +21,9 @@ use Rattle.cf_refinement.proofs.column.Sorted.{Riders, Sorted, over, sorted}
 use Rattle.cf_refinement.proofs.walks.Stands.{each_front}
 use Rattle.cf_semantics.specs.Heeds.{Acted, Heeds, NoneFlies, OnWay, Unmoved, as_launched}
 use Rattle.cf_semantics.specs.Refines.{gained}
-use Rattle.cf_refinement.specs.Invariant.{HoldsAt, Sound}
-use Rattle.cf_refinement.specs.Stands.{Each}
-use Rattle.cf_refinement.specs.Suited.{Suits}
+use Rattle.cf_refinement.proofs.invariant.Invariant.{HoldsAt, Sound}
+use Rattle.cf_refinement.proofs.invariant.Stands.{Each}
+use Rattle.cf_refinement.proofs.invariant.Suited.{Suits}
 use Rattle.cf_semantics.specs.Bars.{bar}
 use Rattle.cf_semantics.specs.Column.{Down, Item, Up, column, column_from, packet_in}
 use Rattle.cf_semantics.specs.Instructions.{Goes, behind, is_memory, step_at}
@@ -37,10 +37,10 @@ use Rattle.cf_semantics.specs.Walks.{Everywhere, walk}
 use Rattle.rv_inst.specs.declared.isa.Isa.{Isa}
 use Rattle.rv_machine.specs.After.{after}
 use Rattle.rv_machine.specs.Machine.{Machine}
-use Rattle.cf_refinement.specs.Port as dock
+use Rattle.cf_refinement.proofs.invariant.Port as dock
 use Rattle.cf_refinement.proofs.walks.Order as order
 use Rattle.cf_semantics.specs.Right as right
-use Rattle.cf_refinement.specs.Sure as sure
+use Rattle.cf_refinement.proofs.invariant.Sure as sure
 use Rattle.cf_semantics.specs.Path as trail
 
 way_path : (isa : Isa) (i : Item) (w : right.Way) → (right.past isa i w).path ≡ trail.past isa i w.path

@@ -6,8 +6,8 @@ use Rattle.cf_bind.specs.declared.passenger.End.{End}
 use Rattle.cf_layout.specs.Layout.{Plan}
 use Rattle.cf_refinement.proofs.moves.Leave.{Left, leave_kept}
 use Rattle.cf_refinement.proofs.claims.Runs.{Counts, access_counts, climb_counts, emit_counts, execute_counts, exit_counts, fall_counts, going, issue_counts, kept, launch_counts, meet_counts, opened_retired, recover_counts, send_counts, serve_counts, slide_counts, started}
-use Rattle.cf_refinement.specs.Invariant.{HoldsAfter, HoldsAt, IsOver, Sound}
-use Rattle.cf_refinement.specs.Suited.{Suits}
+use Rattle.cf_refinement.proofs.invariant.Invariant.{HoldsAfter, HoldsAt, IsOver, Sound}
+use Rattle.cf_refinement.proofs.invariant.Suited.{Suits}
 use Rattle.cf_semantics.specs.Bars.{bar}
 use Rattle.cf_semantics.specs.Instructions.{Goes, step_here}
 use Rattle.cf_semantics.specs.Layouts.{isa_of}

@@ -16,8 +16,8 @@ use Rattle.cf_refinement.proofs.moves.Serve.{Idle}
 use Rattle.cf_refinement.proofs.column.Sorted.{Riders, riders_append, riders_below, riders_front}
 use Rattle.cf_refinement.proofs.column.Spot.{spot}
 use Rattle.cf_refinement.proofs.walks.Stands.{each_back}
-use Rattle.cf_refinement.specs.Invariant.{Sound}
-use Rattle.cf_refinement.specs.Stands.{Each, Stands}
+use Rattle.cf_refinement.proofs.invariant.Invariant.{Sound}
+use Rattle.cf_refinement.proofs.invariant.Stands.{Each, Stands}
 use Rattle.cf_semantics.specs.Ahead.{served_count}
 use Rattle.cf_semantics.specs.Column.{Down, Item, Up, column, column_from, in_order, items, packet_in, passenger_in}
 use Rattle.cf_semantics.specs.Instructions.{Goes, behind, step_at, step_here}
@@ -29,8 +29,8 @@ use Rattle.rv_inst.specs.declared.isa.Isa.{Isa}
 use Rattle.rv_machine.specs.After.{after}
 use Rattle.rv_machine.specs.Machine.{Machine}
 use Rattle.cf_semantics.specs.Ahead as ahead
-use Rattle.cf_refinement.specs.Port as dock
-use Rattle.cf_refinement.specs.Sure as sure
+use Rattle.cf_refinement.proofs.invariant.Port as dock
+use Rattle.cf_refinement.proofs.invariant.Sure as sure
 use Rattle.cf_semantics.specs.Path as trail
 
 pub record Mute (w v : dock.Dock) : Type 0 where

@@ -13,8 +13,8 @@ use Rattle.cf_semantics.specs.Lines.{Line, lines, sequence}
 use Rattle.cf_semantics.specs.Refines.{IsPrefix, Refines, gained}
 use Rattle.cf_semantics.specs.Runs.{IsRun, run, start}
 use Rattle.cf_semantics.specs.State.{Moment}
-use Rattle.cf_refinement.specs.Invariant.{HoldsAt}
-use Rattle.cf_refinement.specs.Suited.{Suits}
+use Rattle.cf_refinement.proofs.invariant.Invariant.{HoldsAt}
+use Rattle.cf_refinement.proofs.invariant.Suited.{Suits}
 use Rattle.cf_refinement.proofs.claims.Ahead.{memory_ahead}
 use Rattle.cf_refinement.proofs.instructions.Bases.{one_sequence}
 use Rattle.cf_refinement.proofs.claims.Level.{drained_level}

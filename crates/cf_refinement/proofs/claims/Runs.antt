@@ -21,8 +21,8 @@ use Rattle.cf_semantics.specs.Passengers.{cached}
 use Rattle.cf_semantics.specs.Runs.{IsRun, empty_cell, empty_siding, opened, run, start}
 use Rattle.cf_semantics.specs.State.{State, Moment, siding_at}
 use Rattle.cf_semantics.specs.Soundness.{AreUnanswered, LastAnswered, operations_in}
-use Rattle.cf_refinement.specs.Invariant.{HoldsAfter, HoldsAt, IsOver, Sound}
-use Rattle.cf_refinement.specs.Suited.{Suits}
+use Rattle.cf_refinement.proofs.invariant.Invariant.{HoldsAfter, HoldsAt, IsOver, Sound}
+use Rattle.cf_refinement.proofs.invariant.Suited.{Suits}
 use Rattle.cf_refinement.proofs.moves.Access.{access_kept}
 use Rattle.cf_refinement.proofs.moves.Emit.{emit_kept}
 use Rattle.cf_refinement.proofs.moves.Execute.{execute_kept}

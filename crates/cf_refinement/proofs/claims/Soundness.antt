@@ -9,8 +9,8 @@ use Rattle.cf_semantics.specs.Runs.{IsRun, run, start}
 use Rattle.cf_semantics.specs.SoundAfter.{IsSoundAfter}
 use Rattle.cf_semantics.specs.Soundness.{CacheAgrees, FetchesOn, IsSound}
 use Rattle.cf_semantics.specs.State.{State}
-use Rattle.cf_refinement.specs.Invariant.{HoldsAt, Sound}
-use Rattle.cf_refinement.specs.Suited.{Suits}
+use Rattle.cf_refinement.proofs.invariant.Invariant.{HoldsAt, Sound}
+use Rattle.cf_refinement.proofs.invariant.Suited.{Suits}
 use Rattle.cf_refinement.proofs.claims.Lines.{gained_is}
 use Rattle.cf_refinement.proofs.claims.Runs.{holds_after}
 use Rattle.cf_refinement.proofs.claims.SoundnessLone.{high_barriers, no_follower}

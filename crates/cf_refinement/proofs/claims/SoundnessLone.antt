@@ -13,8 +13,8 @@ use Rattle.cf_semantics.specs.Places.{IsHarmless}
 use Rattle.cf_semantics.specs.Soundness.{HighBarriers, NoFollower, is_lone}
 use Rattle.cf_semantics.specs.State.{State}
 use Rattle.cf_semantics.specs.Walks.{Everywhere, walk}
-use Rattle.cf_refinement.specs.Invariant.{Sound}
-use Rattle.cf_refinement.specs.Lone as lone
+use Rattle.cf_refinement.proofs.invariant.Invariant.{Sound}
+use Rattle.cf_refinement.proofs.invariant.Lone as lone
 use Rattle.cf_refinement.proofs.layouts.Accepted.{launch_is}
 use Rattle.cf_refinement.proofs.column.Fold.{fit_back, walk-append}
 

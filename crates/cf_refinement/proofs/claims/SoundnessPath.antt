@@ -20,8 +20,8 @@ use Rattle.cf_semantics.specs.Places.{known}
 use Rattle.cf_semantics.specs.Soundness.{FirstBarrier, HasValues, Holds, IsFirstBarrier, IsOnItsWay, IsPath, OwesValue, PacketHasValue, SourcesCome, Values, brings_value, owes_value}
 use Rattle.cf_semantics.specs.State.{State}
 use Rattle.cf_semantics.specs.Walks.{Everywhere, walk}
-use Rattle.cf_refinement.specs.Invariant.{Sound}
-use Rattle.cf_refinement.specs.Sure as sure
+use Rattle.cf_refinement.proofs.invariant.Invariant.{Sound}
+use Rattle.cf_refinement.proofs.invariant.Sure as sure
 use Rattle.cf_refinement.proofs.column.Change.{here}
 use Rattle.cf_refinement.proofs.column.Fold.{fit_front}
 use Rattle.cf_refinement.proofs.walks.Order.{nowhere_packet, nowhere_rider}

@@ -18,8 +18,8 @@ use Rattle.cf_semantics.specs.Places.{machine_behind}
 use Rattle.cf_semantics.specs.Soundness.{MemoryOrder, PortAgrees, may_turn}
 use Rattle.cf_semantics.specs.State.{State}
 use Rattle.cf_semantics.specs.Walks.{Everywhere, walk}
-use Rattle.cf_refinement.specs.Invariant.{Sound}
-use Rattle.cf_refinement.specs.Port as dock
+use Rattle.cf_refinement.proofs.invariant.Invariant.{Sound}
+use Rattle.cf_refinement.proofs.invariant.Port as dock
 use Rattle.cf_refinement.proofs.walks.Answering.{walk_risky}
 use Rattle.cf_refinement.proofs.claims.Ahead.{docked_of, open_of, risk_past}
 use Rattle.cf_refinement.proofs.column.Change.{here, past_safe}

@@ -15,9 +15,9 @@ use Rattle.cf_semantics.specs.Places.{Standing, known}
 use Rattle.cf_semantics.specs.Soundness.{IsAnswer, NoneFlies, SidingsAgree, StopsInTime}
 use Rattle.cf_semantics.specs.State.{State}
 use Rattle.cf_semantics.specs.Walks.{walk}
-use Rattle.cf_refinement.specs.Invariant.{Sound}
-use Rattle.cf_refinement.specs.Port as dock
-use Rattle.cf_refinement.specs.Stands.{Stands}
+use Rattle.cf_refinement.proofs.invariant.Invariant.{Sound}
+use Rattle.cf_refinement.proofs.invariant.Port as dock
+use Rattle.cf_refinement.proofs.invariant.Stands.{Stands}
 use Rattle.cf_refinement.proofs.column.Change.{here}
 
 -- (e) stops

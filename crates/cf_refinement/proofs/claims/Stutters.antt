@@ -21,11 +21,11 @@ use Rattle.cf_semantics.specs.Stutters.{NothingRetires, OneStored, StepsRetired,
 use Rattle.cf_semantics.specs.Walks.{Everywhere, walk}
 use Rattle.cf_semantics.specs.Ahead as ahead
 use Rattle.cf_semantics.specs.Path as trail
-use Rattle.cf_refinement.specs.Invariant.{HoldsAfter, HoldsAt, IsOver, Sound}
-use Rattle.cf_refinement.specs.Stands.{Each}
-use Rattle.cf_refinement.specs.Suited.{Suits}
-use Rattle.cf_refinement.specs.Port as dock
-use Rattle.cf_refinement.specs.Sure as sure
+use Rattle.cf_refinement.proofs.invariant.Invariant.{HoldsAfter, HoldsAt, IsOver, Sound}
+use Rattle.cf_refinement.proofs.invariant.Stands.{Each}
+use Rattle.cf_refinement.proofs.invariant.Suited.{Suits}
+use Rattle.cf_refinement.proofs.invariant.Port as dock
+use Rattle.cf_refinement.proofs.invariant.Sure as sure
 use Rattle.cf_refinement.proofs.walks.Answering.{walk_risky}
 use Rattle.cf_refinement.proofs.moves.Access.{access_scene, next-access}
 use Rattle.cf_refinement.proofs.claims.Ahead.{OnPath, dead_on, live_on, result_past, sure_pc}

@@ -8,9 +8,9 @@ use Rattle.cf_layout.specs.Layout.{Plan}
 use Rattle.cf_refinement.proofs.column.Fold.{Replaces, fit_back, fit_front, replaced}
 use Rattle.cf_refinement.proofs.walks.Stands.{each_append, each_back, each_front}
 use Rattle.cf_refinement.proofs.instructions.Steps.{step_wide}
-use Rattle.cf_refinement.specs.Invariant.{Sound}
-use Rattle.cf_refinement.specs.Operations.{IsMoored}
-use Rattle.cf_refinement.specs.Stands.{Each}
+use Rattle.cf_refinement.proofs.invariant.Invariant.{Sound}
+use Rattle.cf_refinement.proofs.invariant.Operations.{IsMoored}
+use Rattle.cf_refinement.proofs.invariant.Stands.{Each}
 use Rattle.cf_semantics.specs.Column.{Down, Item, Up, column, column_from}
 use Rattle.cf_semantics.specs.Layouts.{isa_of}
 use Rattle.cf_semantics.specs.Moves.{operation}
@@ -19,12 +19,12 @@ use Rattle.cf_semantics.specs.State.{State}
 use Rattle.cf_semantics.specs.Walks.{Everywhere, walk}
 use Rattle.rv_inst.specs.declared.isa.Isa.{Isa}
 use Rattle.rv_machine.specs.Machine.{Machine}
-use Rattle.cf_refinement.specs.Port as dock
-use Rattle.cf_refinement.specs.Lone as lone
+use Rattle.cf_refinement.proofs.invariant.Port as dock
+use Rattle.cf_refinement.proofs.invariant.Lone as lone
 use Rattle.cf_refinement.proofs.walks.Lone as lones
 use Rattle.cf_refinement.proofs.walks.Path as paths
 use Rattle.cf_refinement.proofs.walks.Port as ports
-use Rattle.cf_refinement.specs.Sure as sure
+use Rattle.cf_refinement.proofs.invariant.Sure as sure
 use Rattle.cf_semantics.specs.Path as trail
 use Rattle.cf_semantics.specs.Soundness.{in_siding, operations_of}
 

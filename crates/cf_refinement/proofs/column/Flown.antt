@@ -4,7 +4,7 @@ use Rattle.std.specs.Prelude.{slice_get, slice_set}
 use Rattle.cf_bind.specs.declared.cell.Op.{Op}
 use Rattle.cf_bind.specs.declared.passenger.Passenger.{Passenger}
 use Rattle.cf_layout.specs.Layout.{Plan, launch_stage, siding_of}
-use Rattle.cf_refinement.specs.Stands.{Each, Stands}
+use Rattle.cf_refinement.proofs.invariant.Stands.{Each, Stands}
 use Rattle.cf_semantics.specs.Bars.{last_op}
 use Rattle.cf_semantics.specs.Column.{Down, Item, Up}
 use Rattle.cf_semantics.specs.Moves.{set_last}

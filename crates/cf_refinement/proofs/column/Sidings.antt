@@ -5,9 +5,9 @@ use Rattle.cf_bind.specs.declared.cell.Op.{Op}
 use Rattle.cf_bind.specs.declared.passenger.Passenger.{Passenger}
 use Rattle.cf_layout.specs.Layout.{Plan, cells_of, launch_stage, recover_stage, siding_of}
 use Rattle.cf_refinement.proofs.column.Sorted.{Riders}
-use Rattle.cf_refinement.specs.Operations.{IsMoored}
-use Rattle.cf_refinement.specs.Stands.{Each, Stands}
-use Rattle.cf_refinement.specs.Suited.{Suits}
+use Rattle.cf_refinement.proofs.invariant.Operations.{IsMoored}
+use Rattle.cf_refinement.proofs.invariant.Stands.{Each, Stands}
+use Rattle.cf_refinement.proofs.invariant.Suited.{Suits}
 use Rattle.cf_semantics.specs.Bars.{last_op}
 use Rattle.cf_semantics.specs.Column.{Down, Item, Up}
 use Rattle.cf_semantics.specs.Layouts.{port}
@@ -17,7 +17,7 @@ use Rattle.cf_semantics.specs.Passengers.{kind}
 use Rattle.cf_semantics.specs.State.{State, siding_at}
 use Rattle.cf_semantics.specs.Soundness.{AreUnanswered, IsUnanswered, LastAnswered, in_siding, operations_in, operations_of}
 use Rattle.rv_machine.specs.Machine.{Machine}
-use Rattle.cf_refinement.specs.Port as dock
+use Rattle.cf_refinement.proofs.invariant.Port as dock
 
 -- the cells of siding k
 abbrev pub cells_in : List (List (Option Op)) → ℕ → List (Option Op)

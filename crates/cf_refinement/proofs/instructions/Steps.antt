@@ -49,8 +49,8 @@ use Rattle.cf_semantics.specs.Steps.{onward, served, stepped_as}
 use Rattle.cf_semantics.specs.Path.{is_trap, has_reg}
 use Rattle.cf_semantics.specs.Fetches.{area_text, code_of}
 use Rattle.cf_semantics.specs.Soundness.{Holds}
-use Rattle.cf_refinement.specs.Sure.{IsSure}
-use Rattle.cf_refinement.specs.Suited.{is_plain}
+use Rattle.cf_refinement.proofs.invariant.Sure.{IsSure}
+use Rattle.cf_refinement.proofs.invariant.Suited.{is_plain}
 
 -- what was fetched: the word there, which is read as the instruction
 pub record IsFetched (isa : Isa) (mem : Memory) (pc : ℕ) (i : Instr) : Type 0 where

@@ -11,8 +11,8 @@ use Rattle.cf_layout.specs.Accepted.{IsAccepted, IsSiding, IsStage, memory_launc
 use Rattle.cf_semantics.specs.Instructions.{is_control, is_memory}
 use Rattle.cf_semantics.specs.Layouts.{port}
 use Rattle.cf_semantics.specs.Options.{is_some, on}
-use Rattle.cf_refinement.specs.Lone.{is_high}
-use Rattle.cf_refinement.specs.Suited.{Suits, is_extra, is_plain}
+use Rattle.cf_refinement.proofs.invariant.Lone.{is_high}
+use Rattle.cf_refinement.proofs.invariant.Suited.{Suits, is_extra, is_plain}
 use Rattle.cf_refinement.proofs.layouts.Layouts.{computed, homes_are, memory_only, none_or_some, of_any, of_sided, sided_for, sided_is, sidings_of, unit_home, unit_stages, unplaced}
 
 -- the stage from which memory is reached

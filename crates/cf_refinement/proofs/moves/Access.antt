@@ -24,9 +24,9 @@ use Rattle.cf_refinement.proofs.column.Sidings.{berthed, front_set_last, last_an
 use Rattle.cf_refinement.proofs.column.Sorted.{Riders, Sorted, over, sorted, under}
 use Rattle.cf_refinement.proofs.walks.Stands.{each_back, each_front}
 use Rattle.cf_refinement.proofs.instructions.Steps.{sure_dst_below}
-use Rattle.cf_refinement.specs.Invariant.{Sound}
-use Rattle.cf_refinement.specs.Stands.{Each, Stands}
-use Rattle.cf_refinement.specs.Suited.{Suits}
+use Rattle.cf_refinement.proofs.invariant.Invariant.{Sound}
+use Rattle.cf_refinement.proofs.invariant.Stands.{Each, Stands}
+use Rattle.cf_refinement.proofs.invariant.Suited.{Suits}
 use Rattle.cf_semantics.specs.Bars.{access_bar, bar, last_op, row_bar}
 use Rattle.cf_semantics.specs.Column.{Down, Item, Up, column}
 use Rattle.cf_semantics.specs.Instructions.{Goes, Stepped, access_trap, answer_of, behind, dst_of, is_memory, mem_after, step_at, value_written}
@@ -41,8 +41,8 @@ use Rattle.rv_inst.specs.declared.classes.Class.TheVariants.{Memory}
 use Rattle.rv_inst.specs.declared.isa.Isa.{Isa}
 use Rattle.rv_machine.specs.Machine.{Machine}
 use Rattle.cf_semantics.specs.Ahead as ahead
-use Rattle.cf_refinement.specs.Port as dock
-use Rattle.cf_refinement.specs.Sure as sure
+use Rattle.cf_refinement.proofs.invariant.Port as dock
+use Rattle.cf_refinement.proofs.invariant.Sure as sure
 use Rattle.cf_semantics.specs.Path as trail
 use Rattle.cf_semantics.specs.Soundness.{IsAnswer, in_siding, operations_in, operations_of}
 

@@ -9,7 +9,7 @@ use Rattle.cf_refinement.proofs.column.Change.{changed}
 use Rattle.cf_refinement.proofs.column.Column.{climb_is, climb_was, column-pair, pair}
 use Rattle.cf_refinement.proofs.column.Fold.{Replaces}
 use Rattle.cf_refinement.proofs.walks.Stands.{climb_stands}
-use Rattle.cf_refinement.specs.Invariant.{Sound}
+use Rattle.cf_refinement.proofs.invariant.Invariant.{Sound}
 use Rattle.cf_semantics.specs.Bars.{bar, climb_bar, is_full, row_bar, stops_at}
 use Rattle.cf_semantics.specs.Column.{Item, Up, column, column_from, packet_in}
 use Rattle.cf_semantics.specs.Layouts.{isa_of}
@@ -18,11 +18,11 @@ use Rattle.cf_semantics.specs.Options.{is_some, on}
 use Rattle.cf_semantics.specs.State.{State, cell_at, put_cell}
 use Rattle.rv_inst.specs.declared.isa.Isa.{Isa}
 use Rattle.rv_machine.specs.Machine.{Machine}
-use Rattle.cf_refinement.specs.Port as dock
+use Rattle.cf_refinement.proofs.invariant.Port as dock
 use Rattle.cf_refinement.proofs.walks.Lone as lones
 use Rattle.cf_refinement.proofs.walks.Path as paths
 use Rattle.cf_refinement.proofs.walks.Port as ports
-use Rattle.cf_refinement.specs.Sure as sure
+use Rattle.cf_refinement.proofs.invariant.Sure as sure
 use Rattle.cf_semantics.specs.Path as trail
 use Rattle.cf_refinement.proofs.moves.Rows.{bar_row, put_size}
 

@@ -11,7 +11,7 @@ use Rattle.cf_refinement.proofs.column.Change.{ends_path, ends_port, keeps_path}
 use Rattle.cf_refinement.proofs.column.Column.{top_cell}
 use Rattle.cf_refinement.proofs.column.Fold.{fit_follows, walk_follows}
 use Rattle.cf_refinement.proofs.moves.Rows.{bar_row, put_size}
-use Rattle.cf_refinement.specs.Invariant.{Sound}
+use Rattle.cf_refinement.proofs.invariant.Invariant.{Sound}
 use Rattle.cf_semantics.specs.Bars.{bar, emit_bar, row_bar}
 use Rattle.cf_semantics.specs.Column.{Down, Item, column, column_from, in_order, passenger_in}
 use Rattle.cf_semantics.specs.Layouts.{isa_of}
@@ -21,11 +21,11 @@ use Rattle.cf_semantics.specs.State.{State, cell_at, put_cell}
 use Rattle.cf_semantics.specs.Walks.{Everywhere, walk}
 use Rattle.rv_inst.specs.declared.isa.Isa.{Isa}
 use Rattle.rv_machine.specs.Machine.{Machine}
-use Rattle.cf_refinement.specs.Port as dock
-use Rattle.cf_refinement.specs.Lone as lone
+use Rattle.cf_refinement.proofs.invariant.Port as dock
+use Rattle.cf_refinement.proofs.invariant.Lone as lone
 use Rattle.cf_refinement.proofs.walks.Path as paths
 use Rattle.cf_refinement.proofs.walks.Port as ports
-use Rattle.cf_refinement.specs.Sure as sure
+use Rattle.cf_refinement.proofs.invariant.Sure as sure
 use Rattle.cf_semantics.specs.Path as trail
 
 pub record Emits (l : Plan) (s : State) : Type 0 where

@@ -10,9 +10,9 @@ use Rattle.cf_refinement.proofs.column.Column.{column-at, place}
 use Rattle.cf_refinement.proofs.walks.Finishing.{execute_finishes, finish_is_out, finish_lone, finish_port, finish_risks, finish_shuts, finish_stands}
 use Rattle.cf_refinement.proofs.moves.Rows.{bar_row, put_size}
 use Rattle.cf_refinement.proofs.walks.PathFinish.{Finishes, finish_fits, finish_walk}
-use Rattle.cf_refinement.specs.Invariant.{Sound}
-use Rattle.cf_refinement.specs.Stands.{Stands}
-use Rattle.cf_refinement.specs.Suited.{Suits, is_plain}
+use Rattle.cf_refinement.proofs.invariant.Invariant.{Sound}
+use Rattle.cf_refinement.proofs.invariant.Stands.{Stands}
+use Rattle.cf_refinement.proofs.invariant.Suited.{Suits, is_plain}
 use Rattle.cf_semantics.specs.Bars.{bar, execute_bar, row_bar}
 use Rattle.cf_semantics.specs.Column.{Item, Up, column, column_from, in_order, packet_in}
 use Rattle.cf_semantics.specs.Instructions.{is_control, step_at}
@@ -24,8 +24,8 @@ use Rattle.cf_semantics.specs.State.{State, cell_at, put_cell, with_cell}
 use Rattle.rv_inst.specs.declared.classes.Class.{Class}
 use Rattle.rv_inst.specs.declared.isa.Isa.{Isa}
 use Rattle.rv_machine.specs.Machine.{Machine}
-use Rattle.cf_refinement.specs.Lone as lone
-use Rattle.cf_refinement.specs.Sure as sure
+use Rattle.cf_refinement.proofs.invariant.Lone as lone
+use Rattle.cf_refinement.proofs.invariant.Sure as sure
 use Rattle.cf_semantics.specs.Path as trail
 
 pub record Runs (l : Plan) (s : State) (i : ℕ) : Type 0 where

@@ -13,8 +13,8 @@ use Rattle.cf_refinement.proofs.column.Change.{flown-append}
 use Rattle.cf_refinement.proofs.column.Fold.{fit_back, fit_front, walk-append}
 use Rattle.cf_refinement.proofs.moves.Rows.{bar_row}
 use Rattle.cf_refinement.proofs.walks.Stands.{each_front}
-use Rattle.cf_refinement.specs.Invariant.{Sound}
-use Rattle.cf_refinement.specs.Operations.{IsMoored}
+use Rattle.cf_refinement.proofs.invariant.Invariant.{Sound}
+use Rattle.cf_refinement.proofs.invariant.Operations.{IsMoored}
 use Rattle.cf_semantics.specs.Bars.{bar, exit_bar, is_full, row_bar}
 use Rattle.cf_semantics.specs.Column.{Down, Item, column, column_from, items, passenger_in}
 use Rattle.cf_semantics.specs.Layouts.{isa_of}
@@ -23,9 +23,9 @@ use Rattle.cf_semantics.specs.Options.{When, on}
 use Rattle.cf_semantics.specs.State.{State, cell_at}
 use Rattle.rv_inst.specs.declared.isa.Isa.{Isa}
 use Rattle.rv_machine.specs.Machine.{Machine}
-use Rattle.cf_refinement.specs.Port as dock
-use Rattle.cf_refinement.specs.Lone as lone
-use Rattle.cf_refinement.specs.Sure as sure
+use Rattle.cf_refinement.proofs.invariant.Port as dock
+use Rattle.cf_refinement.proofs.invariant.Lone as lone
+use Rattle.cf_refinement.proofs.invariant.Sure as sure
 use Rattle.cf_semantics.specs.Path as trail
 use Rattle.cf_semantics.specs.Soundness.{operations_of}
 

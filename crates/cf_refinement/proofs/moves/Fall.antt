@@ -9,7 +9,7 @@ use Rattle.cf_refinement.proofs.column.Change.{changed}
 use Rattle.cf_refinement.proofs.column.Column.{column-pair, fall_is, fall_was, pair}
 use Rattle.cf_refinement.proofs.column.Fold.{Replaces}
 use Rattle.cf_refinement.proofs.moves.Rows.{bar_row, put_size}
-use Rattle.cf_refinement.specs.Invariant.{Sound}
+use Rattle.cf_refinement.proofs.invariant.Invariant.{Sound}
 use Rattle.cf_semantics.specs.Bars.{bar, fall_bar, is_full, row_bar}
 use Rattle.cf_semantics.specs.Column.{Down, Item, column, column_from, passenger_in}
 use Rattle.cf_semantics.specs.Layouts.{isa_of}
@@ -18,11 +18,11 @@ use Rattle.cf_semantics.specs.Options.{on}
 use Rattle.cf_semantics.specs.State.{State, cell_at, put_cell}
 use Rattle.rv_inst.specs.declared.isa.Isa.{Isa}
 use Rattle.rv_machine.specs.Machine.{Machine}
-use Rattle.cf_refinement.specs.Port as dock
+use Rattle.cf_refinement.proofs.invariant.Port as dock
 use Rattle.cf_refinement.proofs.walks.Lone as lones
 use Rattle.cf_refinement.proofs.walks.Path as paths
 use Rattle.cf_refinement.proofs.walks.Port as ports
-use Rattle.cf_refinement.specs.Sure as sure
+use Rattle.cf_refinement.proofs.invariant.Sure as sure
 use Rattle.cf_semantics.specs.Path as trail
 
 -- to the stage i from the one above it

@@ -5,7 +5,7 @@ use Rattle.cf_semantics.specs.Instructions.{Fetched, Got, Bad, kind_of}
 use Rattle.rv_inst.specs.declared.classes.Class.TheVariants.{Free}
 use Rattle.rv_inst.specs.declared.instruction.Instr.{Instr}
 use Rattle.cf_layout.specs.Layout.{is_homed}
-use Rattle.cf_refinement.specs.Suited.{is_plain}
+use Rattle.cf_refinement.proofs.invariant.Suited.{is_plain}
 use Rattle.cf_refinement.proofs.instructions.Fetches.{fetched_alike}
 use Rattle.cf_refinement.proofs.instructions.Homes.{fetched_homed}
 use Rattle.cf_semantics.specs.Fetches.{code_of}
@@ -30,10 +30,10 @@ use Rattle.cf_refinement.proofs.moves.Rows.{bar_row}
 use Rattle.cf_refinement.proofs.walks.Program.{code_fresh}
 use Rattle.cf_refinement.proofs.walks.Stands.{each_append}
 use Rattle.cf_refinement.proofs.instructions.Steps.{sure_keeps}
-use Rattle.cf_refinement.specs.Invariant.{Sound}
-use Rattle.cf_refinement.specs.Operations.{IsMoored}
-use Rattle.cf_refinement.specs.Stands.{Blank, Low, Stands}
-use Rattle.cf_refinement.specs.Suited.{Suits}
+use Rattle.cf_refinement.proofs.invariant.Invariant.{Sound}
+use Rattle.cf_refinement.proofs.invariant.Operations.{IsMoored}
+use Rattle.cf_refinement.proofs.invariant.Stands.{Blank, Low, Stands}
+use Rattle.cf_refinement.proofs.invariant.Suited.{Suits}
 use Rattle.cf_semantics.specs.Bars.{bar, issue_bar, may_guess, row_bar}
 use Rattle.cf_semantics.specs.Column.{Item, Up, column, column_from, items}
 use Rattle.cf_semantics.specs.Instructions.{behind, dst_of, fetched, is_control, is_free, is_serial, step_at}
@@ -46,11 +46,11 @@ use Rattle.cf_semantics.specs.Walks.{walk}
 use Rattle.rv_inst.specs.declared.isa.Isa.{Isa}
 use Rattle.rv_machine.specs.Machine.{Machine}
 use Rattle.cf_semantics.specs.Ahead as ahead
-use Rattle.cf_refinement.specs.Port as dock
-use Rattle.cf_refinement.specs.Lone as lone
+use Rattle.cf_refinement.proofs.invariant.Port as dock
+use Rattle.cf_refinement.proofs.invariant.Lone as lone
 use Rattle.cf_refinement.proofs.walks.Path as paths
 use Rattle.cf_refinement.proofs.walks.Port as ports
-use Rattle.cf_refinement.specs.Sure as sure
+use Rattle.cf_refinement.proofs.invariant.Sure as sure
 use Rattle.cf_semantics.specs.Path as trail
 use Rattle.cf_semantics.specs.Soundness.{is_lone, operations_of, waits}
 

@@ -26,9 +26,9 @@ use Rattle.cf_refinement.proofs.column.Sorted.{riders_more}
 use Rattle.cf_refinement.proofs.column.Spot.{Spot, spot}
 use Rattle.cf_refinement.proofs.walks.Stands.{each_back, each_front}
 use Rattle.cf_refinement.proofs.instructions.Steps.{access_traps}
-use Rattle.cf_refinement.specs.Invariant.{Sound}
-use Rattle.cf_refinement.specs.Stands.{Each, Stands}
-use Rattle.cf_refinement.specs.Suited.{Suits}
+use Rattle.cf_refinement.proofs.invariant.Invariant.{Sound}
+use Rattle.cf_refinement.proofs.invariant.Stands.{Each, Stands}
+use Rattle.cf_refinement.proofs.invariant.Suited.{Suits}
 use Rattle.cf_semantics.specs.Bars.{bar, first, is_full, is_taken, launch_bar, row_bar, source_bar}
 use Rattle.cf_semantics.specs.Column.{Down, Item, Up, column}
 use Rattle.cf_semantics.specs.Instructions.{access_trap, is_memory, step_at}
@@ -43,11 +43,11 @@ use Rattle.rv_inst.specs.declared.isa.Isa.{Isa}
 use Rattle.rv_machine.specs.Machine.{Machine}
 use Rattle.std.specs.Prelude.{slice_get}
 use Rattle.cf_semantics.specs.Ahead as ahead
-use Rattle.cf_refinement.specs.Port as dock
-use Rattle.cf_refinement.specs.Lone as lone
+use Rattle.cf_refinement.proofs.invariant.Port as dock
+use Rattle.cf_refinement.proofs.invariant.Lone as lone
 use Rattle.cf_refinement.proofs.walks.Lone as lones
 use Rattle.cf_refinement.proofs.walks.Path as paths
-use Rattle.cf_refinement.specs.Sure as sure
+use Rattle.cf_refinement.proofs.invariant.Sure as sure
 use Rattle.cf_semantics.specs.Path as trail
 use Rattle.cf_semantics.specs.Soundness.{AreUnanswered, LastAnswered, in_siding, operations_in, operations_of}
 

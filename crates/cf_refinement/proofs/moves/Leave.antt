@@ -21,8 +21,8 @@ use Rattle.cf_refinement.proofs.walks.Port.{ported_calm}
 use Rattle.cf_refinement.proofs.walks.Quiet.{Unchanged, quiet}
 use Rattle.cf_refinement.proofs.instructions.OwnLines.{got, own_line}
 use Rattle.cf_refinement.proofs.instructions.Steps.{step_wide, step_writes, sure_dst_below, sure_leaves, word_is}
-use Rattle.cf_refinement.specs.Invariant.{IsOver, Sound}
-use Rattle.cf_refinement.specs.Stands.{Stands}
+use Rattle.cf_refinement.proofs.invariant.Invariant.{IsOver, Sound}
+use Rattle.cf_refinement.proofs.invariant.Stands.{Stands}
 use Rattle.cf_semantics.specs.Bars.{bar, is_full, leave_bar, row_bar}
 use Rattle.cf_semantics.specs.Column.{Down, Item, Up, column, column_from, packet_in}
 use Rattle.cf_semantics.specs.Instructions.{Bad, Fetched, Goes, Got, Stepped, Stops, behind, dst_of, fetched, is_memory, is_serial, step_at, step_here, value_written}
@@ -36,12 +36,12 @@ use Rattle.cf_semantics.specs.Walks.{Everywhere, walk}
 use Rattle.rv_inst.specs.declared.isa.Isa.{Isa}
 use Rattle.rv_machine.specs.Machine.{Machine}
 use Rattle.cf_semantics.specs.Ahead as ahead
-use Rattle.cf_refinement.specs.Port as dock
-use Rattle.cf_refinement.specs.Lone as lone
+use Rattle.cf_refinement.proofs.invariant.Port as dock
+use Rattle.cf_refinement.proofs.invariant.Lone as lone
 use Rattle.cf_refinement.proofs.walks.Lone as lones
 use Rattle.cf_refinement.proofs.walks.Path as paths
 use Rattle.cf_refinement.proofs.walks.Port as ports
-use Rattle.cf_refinement.specs.Sure as sure
+use Rattle.cf_refinement.proofs.invariant.Sure as sure
 use Rattle.cf_semantics.specs.Path as trail
 use Rattle.cf_semantics.specs.Soundness.{HasValue, Holds, IsKnown, in_siding, operations_of}
 

@@ -20,9 +20,9 @@ use Rattle.cf_refinement.proofs.walks.PathFinish.{Finishes, finish_fits, finish_
 use Rattle.cf_refinement.proofs.moves.Recovering.{Recovers, back_moored, hauls, next-recover, recover_ready}
 use Rattle.cf_refinement.proofs.column.Sidings.{last_answer, last_set, plain_last, put_here, put_other}
 use Rattle.cf_refinement.proofs.column.Spot.{spot}
-use Rattle.cf_refinement.specs.Invariant.{Sound}
-use Rattle.cf_refinement.specs.Stands.{Behind, Stands}
-use Rattle.cf_refinement.specs.Suited.{Suits, is_plain}
+use Rattle.cf_refinement.proofs.invariant.Invariant.{Sound}
+use Rattle.cf_refinement.proofs.invariant.Stands.{Behind, Stands}
+use Rattle.cf_refinement.proofs.invariant.Suited.{Suits, is_plain}
 use Rattle.cf_semantics.specs.Bars.{bar}
 use Rattle.cf_semantics.specs.Column.{Down, Item, Up}
 use Rattle.cf_semantics.specs.Instructions.{access_trap, behind, is_control, is_free, is_memory, is_serial, step_at}
@@ -36,12 +36,12 @@ use Rattle.mem_regions.specs.Access.{bounds_of}
 use Rattle.rv_inst.specs.declared.isa.Isa.{Isa}
 use Rattle.rv_machine.specs.Machine.{Machine}
 use Rattle.cf_semantics.specs.Ahead as ahead
-use Rattle.cf_refinement.specs.Port as dock
-use Rattle.cf_refinement.specs.Lone as lone
+use Rattle.cf_refinement.proofs.invariant.Port as dock
+use Rattle.cf_refinement.proofs.invariant.Lone as lone
 use Rattle.cf_refinement.proofs.walks.Lone as lones
 use Rattle.cf_refinement.proofs.walks.Path as paths
 use Rattle.cf_refinement.proofs.walks.Port as ports
-use Rattle.cf_refinement.specs.Sure as sure
+use Rattle.cf_refinement.proofs.invariant.Sure as sure
 use Rattle.cf_semantics.specs.Path as trail
 use Rattle.cf_semantics.specs.Soundness.{IsAnswer, in_siding, operations_of}
 

@@ -13,9 +13,9 @@ use Rattle.cf_refinement.proofs.column.Sidings.{berthed, flown_range, front_set_
 use Rattle.cf_refinement.proofs.column.Sorted.{riders_more}
 use Rattle.cf_refinement.proofs.column.Spot.{Spot}
 use Rattle.cf_refinement.proofs.walks.Stands.{each_front}
-use Rattle.cf_refinement.specs.Invariant.{Sound}
-use Rattle.cf_refinement.specs.Operations.{IsMoored}
-use Rattle.cf_refinement.specs.Suited.{Suits}
+use Rattle.cf_refinement.proofs.invariant.Invariant.{Sound}
+use Rattle.cf_refinement.proofs.invariant.Operations.{IsMoored}
+use Rattle.cf_refinement.proofs.invariant.Suited.{Suits}
 use Rattle.cf_semantics.specs.Bars.{first, last_op, recover_bar, row_bar}
 use Rattle.cf_semantics.specs.Column.{Item, Up, column}
 use Rattle.cf_semantics.specs.Instructions.{is_memory}

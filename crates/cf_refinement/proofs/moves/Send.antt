@@ -11,7 +11,7 @@ use Rattle.cf_refinement.proofs.column.Column.{column-at, place}
 use Rattle.cf_refinement.proofs.column.Fold.{Replaces}
 use Rattle.cf_refinement.proofs.moves.Rows.{bar_row, put_size}
 use Rattle.cf_refinement.proofs.walks.Stands.{send_stands}
-use Rattle.cf_refinement.specs.Invariant.{Sound}
+use Rattle.cf_refinement.proofs.invariant.Invariant.{Sound}
 use Rattle.cf_semantics.specs.Bars.{bar, row_bar, send_bar}
 use Rattle.cf_semantics.specs.Column.{Down, Item, Up, column, column_from, in_order}
 use Rattle.cf_semantics.specs.Layouts.{isa_of}
@@ -21,12 +21,12 @@ use Rattle.cf_semantics.specs.State.{State, cell_at, put_cell, with_cell}
 use Rattle.cf_semantics.specs.Walks.{Everywhere}
 use Rattle.rv_inst.specs.declared.isa.Isa.{Isa}
 use Rattle.rv_machine.specs.Machine.{Machine}
-use Rattle.cf_refinement.specs.Port as dock
+use Rattle.cf_refinement.proofs.invariant.Port as dock
 use Rattle.cf_refinement.proofs.walks.Lone as lones
 use Rattle.cf_refinement.proofs.walks.Path as paths
 use Rattle.cf_refinement.proofs.walks.PortMoves as portmoves
 use Rattle.cf_refinement.proofs.walks.Port as ports
-use Rattle.cf_refinement.specs.Sure as sure
+use Rattle.cf_refinement.proofs.invariant.Sure as sure
 use Rattle.cf_semantics.specs.Path as trail
 
 pub record Sends (s : State) (i : ℕ) : Type 0 where

@@ -7,7 +7,7 @@ use Rattle.cf_layout.specs.Layout.{Plan}
 use Rattle.cf_refinement.proofs.column.Flown.{operations-slide}
 use Rattle.cf_refinement.proofs.moves.Rows.{bar_row}
 use Rattle.cf_refinement.proofs.column.Sidings.{answer_here, front_cons, last_answer, last_cons, rehung, some_cells, top_same}
-use Rattle.cf_refinement.specs.Invariant.{Sound}
+use Rattle.cf_refinement.proofs.invariant.Invariant.{Sound}
 use Rattle.cf_semantics.specs.Bars.{bar, row_bar, slide_bar}
 use Rattle.cf_semantics.specs.Column.{column}
 use Rattle.cf_semantics.specs.Layouts.{isa_of}
@@ -17,7 +17,7 @@ use Rattle.cf_semantics.specs.State.{State, siding_at, with_siding}
 use Rattle.cf_semantics.specs.Walks.{Everywhere, walk}
 use Rattle.cf_semantics.specs.Soundness.{AreUnanswered, IsUnanswered, LastAnswered}
 use Rattle.rv_machine.specs.Machine.{Machine}
-use Rattle.cf_refinement.specs.Port as dock
+use Rattle.cf_refinement.proofs.invariant.Port as dock
 
 pub record Slides (s : State) (k c : ℕ) : Type 0 where
   pub what : Op

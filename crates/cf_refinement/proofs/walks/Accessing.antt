@@ -7,7 +7,7 @@ use Rattle.cf_bind.specs.declared.passenger.Passenger.{Passenger}
 use Rattle.cf_refinement.proofs.walks.Answering.{Landed, fit_landed, past_mem, walk_landed}
 use Rattle.cf_refinement.proofs.column.Fold.{fit_append, fit_back, fit_front, walk-append}
 use Rattle.cf_refinement.proofs.instructions.Steps.{step_is}
-use Rattle.cf_refinement.specs.Port.{Dock, DockedAt, Fits, past}
+use Rattle.cf_refinement.proofs.invariant.Port.{Dock, DockedAt, Fits, past}
 use Rattle.cf_semantics.specs.Ahead.{flies, has_ported}
 use Rattle.cf_semantics.specs.Column.{Down, Item, Up}
 use Rattle.cf_semantics.specs.Instructions.{Goes, Got, Stops, access_trap, behind, fetched, kind_of, mem_after, src1_of, src2_of, step_at, value_read}

@@ -6,7 +6,7 @@ use Rattle.cf_bind.specs.declared.packet.Packet.{Packet}
 use Rattle.cf_bind.specs.declared.passenger.End.{End}
 use Rattle.cf_bind.specs.declared.passenger.Passenger.{Passenger}
 use Rattle.cf_refinement.proofs.instructions.Steps.{step_is}
-use Rattle.cf_refinement.specs.Port.{Dock, DockedAt, Fits, past}
+use Rattle.cf_refinement.proofs.invariant.Port.{Dock, DockedAt, Fits, past}
 use Rattle.cf_semantics.specs.Ahead.{flies, has_ported}
 use Rattle.cf_semantics.specs.Column.{Down, Item, Up}
 use Rattle.cf_semantics.specs.Instructions.{Bad, Fetched, Goes, Got, Stepped, Stops, at_pc, behind, fetched, finish_trap, free_trap, is_memory, is_serial, kind_of, src1_of, src2_of, step_at, value_read}
@@ -18,7 +18,7 @@ use Rattle.rv_inst.specs.declared.classes.Class.{Class}
 use Rattle.rv_inst.specs.declared.classes.Class.TheVariants.{Free, Memory, Serial}
 use Rattle.rv_inst.specs.declared.isa.Isa.{Isa}
 use Rattle.rv_machine.specs.Machine.{Machine}
-use Rattle.cf_refinement.specs.Sure as sure
+use Rattle.cf_refinement.proofs.invariant.Sure as sure
 use Rattle.cf_semantics.specs.Path as trail
 use Rattle.cf_semantics.specs.Soundness.{Holds}
 

@@ -4,7 +4,7 @@ use Rattle.std.proofs.Common.{◌≡◌, ℕ, List, [], ◌∷◌, Bool, true, f
 use Rattle.std.specs.Prelude.{if◌then◌else◌}
 use Rattle.cf_layout.specs.Layout.{Plan}
 use Rattle.cf_refinement.proofs.instructions.Steps.{step_bounds}
-use Rattle.cf_refinement.specs.Invariant.{Sound}
+use Rattle.cf_refinement.proofs.invariant.Invariant.{Sound}
 use Rattle.cf_semantics.specs.Column.{Down, Item, Up, column}
 use Rattle.cf_semantics.specs.Instructions.{behind, step_at}
 use Rattle.cf_semantics.specs.Layouts.{isa_of}
@@ -14,7 +14,7 @@ use Rattle.mem_regions.specs.Access.{Bounds, bounds_of}
 use Rattle.rv_inst.specs.declared.isa.Isa.{Isa}
 use Rattle.rv_machine.specs.Machine.{Machine}
 use Rattle.cf_semantics.specs.Ahead as ahead
-use Rattle.cf_refinement.specs.Port as dock
+use Rattle.cf_refinement.proofs.invariant.Port as dock
 use Rattle.cf_semantics.specs.Path as trail
 
 past_path_bounds : (isa : Isa) (i : Item) (w : trail.Walk) → bounds_of (trail.past isa i w).machine.hart.mem ≡ bounds_of w.machine.hart.mem

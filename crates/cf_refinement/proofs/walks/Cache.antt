@@ -1,7 +1,7 @@
 -- The register cache: part (l) at Exit and at Issue.
 use Rattle.std.proofs.Common.{◌≡◌, ◌≢◌, ℕ, zero, suc, List, [], ◌∷◌, Option, Some, None, refl, sym, ap, ◌∙◌, arith, ◌⊎◌, inl, inr}
 use Rattle.std.specs.Prelude.{slice_index, slice_set}
-use Rattle.cf_refinement.specs.Sure.{AreRegisters}
+use Rattle.cf_refinement.proofs.invariant.Sure.{AreRegisters}
 use Rattle.cf_semantics.specs.Passengers.{cached, cleared, forgets}
 
 -- what is kept of q once r was set

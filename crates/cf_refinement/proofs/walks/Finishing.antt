@@ -11,8 +11,8 @@ use Rattle.cf_refinement.proofs.column.Change.{walk_path, walk_safe}
 use Rattle.cf_refinement.proofs.column.Fold.{Replaces}
 use Rattle.cf_refinement.proofs.walks.PathFinish.{Finishes, source_read}
 use Rattle.cf_refinement.proofs.instructions.Steps.{l1, straight_next, straight_trap}
-use Rattle.cf_refinement.specs.Stands.{Stands}
-use Rattle.cf_refinement.specs.Suited.{is_plain}
+use Rattle.cf_refinement.proofs.invariant.Stands.{Stands}
+use Rattle.cf_refinement.proofs.invariant.Suited.{is_plain}
 use Rattle.cf_semantics.specs.Column.{Up}
 use Rattle.cf_semantics.specs.Instructions.{Bad, Fetched, Goes, Got, Stops, dst_of, fetched, finish_trap, is_control, is_free, is_memory, is_serial, kind_of, src1_of, src2_of, step_at, value_written}
 use Rattle.cf_semantics.specs.Options.{on}
@@ -25,12 +25,12 @@ use Rattle.rv_inst.specs.declared.isa.Isa.{Isa}
 use Rattle.rv_machine.specs.Machine.{Machine}
 use Rattle.rv_mul.specs.Values.{value_of}
 use Rattle.cf_semantics.specs.Ahead as ahead
-use Rattle.cf_refinement.specs.Port as dock
-use Rattle.cf_refinement.specs.Lone as lone
+use Rattle.cf_refinement.proofs.invariant.Port as dock
+use Rattle.cf_refinement.proofs.invariant.Lone as lone
 use Rattle.cf_refinement.proofs.walks.Lone as lones
 use Rattle.cf_refinement.proofs.walks.Path as paths
 use Rattle.cf_refinement.proofs.walks.Port as ports
-use Rattle.cf_refinement.specs.Sure as sure
+use Rattle.cf_refinement.proofs.invariant.Sure as sure
 use Rattle.cf_semantics.specs.Path as trail
 use Rattle.cf_semantics.specs.Soundness.{Holds, is_lone, operations_of, steers}
 

@@ -6,7 +6,7 @@ use Rattle.cf_bind.specs.declared.passenger.End.{End}
 use Rattle.cf_bind.specs.declared.passenger.Guess.{Guess}
 use Rattle.cf_bind.specs.declared.passenger.Passenger.{Passenger}
 use Rattle.cf_refinement.proofs.instructions.Steps.{bad_step, free_bare, step_is}
-use Rattle.cf_refinement.specs.Sure.{AreRegisters, Comes, IsSure, SureAt}
+use Rattle.cf_refinement.proofs.invariant.Sure.{AreRegisters, Comes, IsSure, SureAt}
 use Rattle.cf_semantics.specs.Instructions.{Bad, Fetched, Goes, Got, Stops, at_pc, behind, dst_of, fetched, free_trap, is_free, kind_of, src1_of, src2_of, step_at, value_read, word_after}
 use Rattle.cf_semantics.specs.Options.{is_some, on}
 use Rattle.cf_semantics.specs.Passengers.{both, destination, fresh, fresh_as, fresh_end, fresh_fence, fresh_undone, goto, instruction, kind, missing, reg_in, requests, source}

@@ -6,8 +6,8 @@ use Rattle.cf_bind.specs.declared.passenger.Passenger.{Passenger}
 use Rattle.cf_layout.specs.Layout.{Plan}
 use Rattle.cf_refinement.proofs.instructions.Memory.{after_access, l2}
 use Rattle.cf_refinement.proofs.instructions.Steps.{kind_is, l1, straight_next, straight_trap}
-use Rattle.cf_refinement.specs.Stands.{Stands}
-use Rattle.cf_refinement.specs.Suited.{is_plain}
+use Rattle.cf_refinement.proofs.invariant.Stands.{Stands}
+use Rattle.cf_refinement.proofs.invariant.Suited.{is_plain}
 use Rattle.cf_semantics.specs.Instructions.{at_pc, Bad, Fetched, Goes, Got, Stepped, Stops, access_trap, behind, dst_of, fetched, is_control, is_free, is_memory, is_serial, kind_of, src1_of, src2_of, step_at, value_read, value_written, word_after}
 use Rattle.cf_semantics.specs.Layouts.{isa_of}
 use Rattle.cf_semantics.specs.Options.{on}
@@ -20,8 +20,8 @@ use Rattle.rv_inst.specs.declared.isa.Isa.{Isa}
 use Rattle.rv_machine.specs.Machine.{Machine}
 use Rattle.rv_mul.specs.Values.{value_of}
 use Rattle.cf_semantics.specs.Ahead as ahead
-use Rattle.cf_refinement.specs.Port as dock
-use Rattle.cf_refinement.specs.Sure as sure
+use Rattle.cf_refinement.proofs.invariant.Port as dock
+use Rattle.cf_refinement.proofs.invariant.Sure as sure
 use Rattle.cf_semantics.specs.Path as trail
 use Rattle.cf_semantics.specs.Soundness.{Holds}
 

@@ -15,9 +15,9 @@ use Rattle.cf_semantics.specs.Passengers.{finish, goto_undone, guessed, instruct
 use Rattle.mem_regions.specs.Access.{bounds_of}
 use Rattle.rv_inst.specs.declared.isa.Isa.{Isa}
 use Rattle.rv_machine.specs.Machine.{Machine}
-use Rattle.cf_refinement.specs.Port as dock
-use Rattle.cf_refinement.specs.Lone as lone
-use Rattle.cf_refinement.specs.Sure as sure
+use Rattle.cf_refinement.proofs.invariant.Port as dock
+use Rattle.cf_refinement.proofs.invariant.Lone as lone
+use Rattle.cf_refinement.proofs.invariant.Sure as sure
 use Rattle.cf_semantics.specs.Path as trail
 use Rattle.cf_semantics.specs.Soundness.{IsAnswer}
 

@@ -6,8 +6,8 @@ use Rattle.cf_bind.specs.declared.passenger.Passenger.{Passenger}
 use Rattle.cf_layout.specs.Layout.{Plan}
 use Rattle.cf_refinement.proofs.column.Fold.{Is_walk, Replaces}
 use Rattle.cf_refinement.proofs.walks.PathMeet.{met_items}
-use Rattle.cf_refinement.specs.Lone.{Fits, past}
-use Rattle.cf_refinement.specs.Stands.{Stands}
+use Rattle.cf_refinement.proofs.invariant.Lone.{Fits, past}
+use Rattle.cf_refinement.proofs.invariant.Stands.{Stands}
 use Rattle.cf_semantics.specs.Column.{Down, Item, Up}
 use Rattle.cf_semantics.specs.Options.{is_some}
 

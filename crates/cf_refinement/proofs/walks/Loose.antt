@@ -5,8 +5,8 @@ use Rattle.cf_layout.specs.Layout.{Plan, launch_stage, siding_of}
 use Rattle.cf_refinement.proofs.column.Change.{past_safe}
 use Rattle.cf_refinement.proofs.instructions.Memory.{is_memory-is}
 use Rattle.cf_refinement.proofs.column.Sorted.{Riders}
-use Rattle.cf_refinement.specs.Stands.{Each, Stands}
-use Rattle.cf_refinement.specs.Suited.{Suits}
+use Rattle.cf_refinement.proofs.invariant.Stands.{Each, Stands}
+use Rattle.cf_refinement.proofs.invariant.Suited.{Suits}
 use Rattle.cf_semantics.specs.Column.{Down, Item, Up}
 use Rattle.cf_semantics.specs.Instructions.{is_memory}
 use Rattle.cf_semantics.specs.Layouts.{port}
@@ -14,7 +14,7 @@ use Rattle.cf_semantics.specs.Passengers.{kind}
 use Rattle.cf_semantics.specs.Walks.{Everywhere, walk}
 use Rattle.rv_inst.specs.declared.isa.Isa.{Isa}
 use Rattle.cf_semantics.specs.Ahead as ahead
-use Rattle.cf_refinement.specs.Port as dock
+use Rattle.cf_refinement.proofs.invariant.Port as dock
 use Rattle.cf_refinement.proofs.walks.Path as paths
 use Rattle.cf_semantics.specs.Path as trail
 

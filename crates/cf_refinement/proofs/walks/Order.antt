@@ -4,8 +4,8 @@ use Rattle.cf_bind.specs.declared.cell.Cell.{Cell}
 use Rattle.cf_bind.specs.declared.packet.Packet.{Packet}
 use Rattle.cf_bind.specs.declared.passenger.Passenger.{Passenger}
 use Rattle.cf_layout.specs.Layout.{Plan, launch_stage, siding_of}
-use Rattle.cf_refinement.specs.Stands.{Each, Stands}
-use Rattle.cf_refinement.specs.Suited.{Suits}
+use Rattle.cf_refinement.proofs.invariant.Stands.{Each, Stands}
+use Rattle.cf_refinement.proofs.invariant.Suited.{Suits}
 use Rattle.cf_semantics.specs.Column.{Down, Item, Up, column_from, in_order, items, packet_in, passenger_in}
 use Rattle.cf_semantics.specs.Instructions.{is_control, is_serial}
 use Rattle.cf_semantics.specs.Layouts.{isa_of, port}
@@ -13,9 +13,9 @@ use Rattle.cf_semantics.specs.Options.{is_some}
 use Rattle.cf_semantics.specs.Passengers.{kind}
 use Rattle.cf_semantics.specs.Walks.{Everywhere, walk}
 use Rattle.rv_inst.specs.declared.isa.Isa.{Isa}
-use Rattle.cf_refinement.specs.Port as dock
-use Rattle.cf_refinement.specs.Lone as lone
-use Rattle.cf_refinement.specs.Sure as sure
+use Rattle.cf_refinement.proofs.invariant.Port as dock
+use Rattle.cf_refinement.proofs.invariant.Lone as lone
+use Rattle.cf_refinement.proofs.invariant.Sure as sure
 use Rattle.cf_semantics.specs.Path as trail
 use Rattle.cf_semantics.specs.Soundness.{is_lone, steers}
 

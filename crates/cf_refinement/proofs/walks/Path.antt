@@ -4,7 +4,7 @@ use Rattle.cf_bind.specs.declared.binding.Binding.{Binding}
 use Rattle.cf_bind.specs.declared.packet.Packet.{Packet}
 use Rattle.cf_bind.specs.declared.passenger.Passenger.{Passenger}
 use Rattle.cf_refinement.proofs.column.Fold.{Is_walk}
-use Rattle.cf_refinement.specs.Sure.{Comes, Fits, IsSourced, SureAt}
+use Rattle.cf_refinement.proofs.invariant.Sure.{Comes, Fits, IsSourced, SureAt}
 use Rattle.cf_semantics.specs.Column.{Down, Item, Up}
 use Rattle.cf_semantics.specs.Path.{Walk, is_sure, past, past_packet, past_passenger}
 use Rattle.cf_semantics.specs.Walks.{Everywhere, walk}

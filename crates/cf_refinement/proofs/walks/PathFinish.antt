@@ -9,7 +9,7 @@ use Rattle.cf_bind.specs.declared.passenger.End.{End}
 use Rattle.cf_bind.specs.declared.passenger.Passenger.{Passenger}
 use Rattle.cf_refinement.proofs.walks.Path.{Follows}
 use Rattle.cf_refinement.proofs.instructions.Steps.{sure_dst_below, finish_traps}
-use Rattle.cf_refinement.specs.Sure.{Fits, IsSure, Owed, SureAt}
+use Rattle.cf_refinement.proofs.invariant.Sure.{Fits, IsSure, Owed, SureAt}
 use Rattle.cf_semantics.specs.Column.{Up}
 use Rattle.cf_semantics.specs.Instructions.{Bad, Fetched, Goes, Got, Stepped, Stops, behind, dst_of, fetched, finish_trap, step_at, value_read, value_written}
 use Rattle.cf_semantics.specs.Options.{on}

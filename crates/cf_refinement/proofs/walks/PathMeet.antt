@@ -8,7 +8,7 @@ use Rattle.cf_bind.specs.declared.packet.Packet.TheVariants.{Halt, Turn, Value}
 use Rattle.cf_bind.specs.declared.passenger.Passenger.{Passenger}
 use Rattle.cf_refinement.proofs.walks.Path.{Follows}
 use Rattle.cf_refinement.proofs.instructions.Steps.{sure_keeps}
-use Rattle.cf_refinement.specs.Sure.{Comes, Fits, IsSourced, IsSure, Owed, SureAt}
+use Rattle.cf_refinement.proofs.invariant.Sure.{Comes, Fits, IsSourced, IsSure, Owed, SureAt}
 use Rattle.cf_semantics.specs.Column.{Down, Item, Up}
 use Rattle.cf_semantics.specs.Instructions.{Stepped, behind, step_at}
 use Rattle.cf_semantics.specs.Passengers.{reg_in}

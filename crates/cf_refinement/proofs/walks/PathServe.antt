@@ -18,7 +18,7 @@ use Rattle.rv_inst.specs.declared.isa.Isa.{Isa}
 use Rattle.rv_machine.specs.Call.{Answer, Called}
 use Rattle.rv_machine.specs.Call as called
 use Rattle.rv_machine.specs.Machine.{Machine}
-use Rattle.cf_refinement.specs.Sure as sure
+use Rattle.cf_refinement.proofs.invariant.Sure as sure
 
 -- the step of a passenger of class Serial
 pub l3 : (isa : Isa) (p : Passenger) (x : Machine) (g : Option ℕ) → kind p ≡ Serial → sure.IsSure isa p x (step_at isa x p.pc) g → (i : Instr) × (p.what ≡ Some i) × (kind_of i ≡ Serial) × (step_at isa x p.pc ≡ served (serve_of i x.hart.regs x.hart.mem x.rest) (dst_of i) (at_pc x p.pc))

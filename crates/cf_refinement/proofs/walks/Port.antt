@@ -5,7 +5,7 @@ use Rattle.cf_bind.specs.declared.packet.Packet.{Packet}
 use Rattle.cf_bind.specs.declared.passenger.Passenger.{Passenger}
 use Rattle.cf_refinement.proofs.column.Fold.{Is_walk}
 use Rattle.cf_semantics.specs.Fetches.{code_of}
-use Rattle.cf_refinement.specs.Port.{Dock, DockedAt, Fits, past, past_passenger, risks}
+use Rattle.cf_refinement.proofs.invariant.Port.{Dock, DockedAt, Fits, past, past_passenger, risks}
 use Rattle.cf_semantics.specs.Ahead.{flies, has_ported, has_served}
 use Rattle.cf_semantics.specs.Column.{Down, Item, Up}
 use Rattle.cf_semantics.specs.Instructions.{behind, is_memory, step_at}

@@ -6,7 +6,7 @@ use Rattle.cf_bind.specs.declared.packet.Packet.{Packet}
 use Rattle.cf_bind.specs.declared.passenger.Passenger.{Passenger}
 use Rattle.cf_refinement.proofs.walks.PathMeet.{met_items}
 use Rattle.cf_refinement.proofs.walks.Port.{Follows}
-use Rattle.cf_refinement.specs.Port.{Dock, DockedAt, Fits, past}
+use Rattle.cf_refinement.proofs.invariant.Port.{Dock, DockedAt, Fits, past}
 use Rattle.cf_semantics.specs.Column.{Down, Up}
 use Rattle.cf_semantics.specs.Passengers.{missing}
 use Rattle.cf_semantics.specs.Walks.{Everywhere, walk}

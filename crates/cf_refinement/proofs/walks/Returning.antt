@@ -6,7 +6,7 @@ use Rattle.cf_bind.specs.declared.packet.Packet.TheVariants.{Halt, Turn, Value}
 use Rattle.cf_bind.specs.declared.passenger.Passenger.{Passenger}
 use Rattle.cf_layout.specs.Layout.{Plan}
 use Rattle.cf_refinement.proofs.walks.Finishing.{finish_dead, finish_done, finish_flags, finish_kind}
-use Rattle.cf_refinement.specs.Stands.{Behind, Stands}
+use Rattle.cf_refinement.proofs.invariant.Stands.{Behind, Stands}
 use Rattle.cf_semantics.specs.Column.{Up}
 use Rattle.cf_semantics.specs.Instructions.{Bad, Fetched, Got, fetched, is_free, is_memory, is_serial}
 use Rattle.cf_semantics.specs.Passengers.{finish, goto, goto_done, goto_undone, kind}
@@ -14,9 +14,9 @@ use Rattle.rv_inst.specs.declared.classes.Class.{Class}
 use Rattle.rv_inst.specs.declared.classes.Class.TheVariants.{Serial}
 use Rattle.rv_inst.specs.declared.isa.Isa.{Isa}
 use Rattle.cf_semantics.specs.Ahead as ahead
-use Rattle.cf_refinement.specs.Port as dock
-use Rattle.cf_refinement.specs.Lone as lone
-use Rattle.cf_refinement.specs.Sure as sure
+use Rattle.cf_refinement.proofs.invariant.Port as dock
+use Rattle.cf_refinement.proofs.invariant.Lone as lone
+use Rattle.cf_refinement.proofs.invariant.Sure as sure
 use Rattle.cf_semantics.specs.Path as trail
 use Rattle.cf_semantics.specs.Soundness.{Holds}
 

@@ -4,7 +4,7 @@ use Rattle.cf_bind.specs.Meeting.{meeting}
 use Rattle.cf_bind.specs.declared.packet.Packet.{Packet}
 use Rattle.cf_bind.specs.declared.passenger.Passenger.{Passenger}
 use Rattle.cf_layout.specs.Layout.{Plan}
-use Rattle.cf_refinement.specs.Stands.{Behind, Between, Each, Low, Stands}
+use Rattle.cf_refinement.proofs.invariant.Stands.{Behind, Between, Each, Low, Stands}
 use Rattle.cf_semantics.specs.Bars.{stops_at}
 use Rattle.cf_semantics.specs.Column.{Down, Item, Up}
 use Rattle.cf_semantics.specs.Passengers.{kind}

@@ -6,10 +6,10 @@ use Rattle.cf_semantics.specs.Layouts.{isa_of}
 use Rattle.cf_semantics.specs.Lines.{Line}
 use Rattle.cf_semantics.specs.Refines.{gained}
 use Rattle.cf_semantics.specs.State.{Moment}
-use Rattle.cf_refinement.specs.Invariant.{HoldsAfter}
+use Rattle.cf_refinement.proofs.invariant.Invariant.{HoldsAfter}
 use Rattle.cf_confluence.proofs.drains.Tidy.{IsTidy}
 use Rattle.cf_untold.specs.Anew.{GoesTo, finding}
-use Rattle.cf_untold.specs.Clear.{IsClear}
+use Rattle.cf_untold.proofs.Clear.{IsClear}
 
 -- steps that each find some input lead to a machine, as many as have retired; with some input left the moment is sound over that machine, or ended by its next step; and no value stands below a call that is still to give it
 pub record HoldsAnew (plan : Plan) (start : Machine) (written : List Line) (m : Moment) : Type 0 where

@@ -11,11 +11,11 @@ use Rattle.cf_semantics.specs.Layouts.{isa_of}
 use Rattle.cf_semantics.specs.Walks.{walk, Everywhere}
 use Rattle.cf_semantics.specs.Path as trail
 use Rattle.cf_semantics.specs.Ahead.{served_count, ported_count}
-use Rattle.cf_refinement.specs.Sure as sure
-use Rattle.cf_refinement.specs.Port as dock
-use Rattle.cf_refinement.specs.Lone as lone
-use Rattle.cf_refinement.specs.Stands.{Each}
-use Rattle.cf_refinement.specs.Operations.{IsMoored}
+use Rattle.cf_refinement.proofs.invariant.Sure as sure
+use Rattle.cf_refinement.proofs.invariant.Port as dock
+use Rattle.cf_refinement.proofs.invariant.Lone as lone
+use Rattle.cf_refinement.proofs.invariant.Stands.{Each}
+use Rattle.cf_refinement.proofs.invariant.Operations.{IsMoored}
 
 -- the state is sound over the sequential machine as far as it has retired, beside the rest of the input and the output so far
 pub record Sound (plan : Plan) (s : State) (rest out : List ℕ) (x : Machine) : Type 0 where

@@ -10,7 +10,7 @@ use Rattle.cf_semantics.specs.Instructions.{is_control, is_memory, is_serial, is
 use Rattle.cf_semantics.specs.Column.{Item, Up, Down}
 use Rattle.cf_semantics.specs.Passengers.{kind, missing}
 use Rattle.cf_semantics.specs.Ahead.{has_served}
-use Rattle.cf_refinement.specs.Suited.{is_plain}
+use Rattle.cf_refinement.proofs.invariant.Suited.{is_plain}
 
 -- at or below the last unit stage, or the siding's launch stage
 abbrev pub Low : Plan → Class → ℕ → Type 0

@@ -5,7 +5,7 @@ use Rattle.rv_inst.specs.declared.classes.Class.TheVariants.{Memory, Serial, Fre
 use Rattle.cf_layout.specs.Layout.{Plan, siding_of, unit_at, launch_stage, recover_stage, last_stage, cells_of, is_homed}
 use Rattle.cf_semantics.specs.Instructions.{is_control, is_memory}
 use Rattle.cf_semantics.specs.Layouts.{port}
-use Rattle.cf_refinement.specs.Lone.{is_high}
+use Rattle.cf_refinement.proofs.invariant.Lone.{is_high}
 
 -- it finishes at a unit or in a siding other than Memory's
 abbrev pub is_plain : Class → Bool

@@ -1,3 +1,4 @@
+-- What every move keeps: all that soundness claims, and what the induction needs besides.
 pub mod Sure
 pub mod Port
 pub mod Lone
