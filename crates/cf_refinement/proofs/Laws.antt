@@ -19,7 +19,7 @@ use Rattle.cf_bind.specs.declared.binding.Binding.{Binding}
 use Rattle.cf_bind.specs.declared.passenger.End.{End}
 use Rattle.cf_bind.specs.declared.passenger.Guess.{Guess}
 use Rattle.cf_bind.specs.declared.passenger.Passenger.{Passenger}
-use Rattle.cf_semantics.specs.Instructions.{Bad, Fetched, Goes, Got, Stepped, Stops, access_trap, answer_of, behind, dst_of, fetched, finish_trap, free_trap, is_control, is_free, is_memory, is_serial, kind_of, mem_after, serve_of, src1_of, src2_of, step_here, value_read, value_written, word_after}
+use Rattle.cf_semantics.specs.Instructions.{Bad, Fetched, Goes, Got, Stepped, Stops, access_trap, answer_of, behind, dst_of, fetched, finish_trap, free_trap, is_control, is_free, is_serial, kind_of, mem_after, serve_of, src1_of, src2_of, step_here, value_read, value_written, word_after}
 use Rattle.cf_semantics.specs.Laws.{AccessesAsLaunched, ComputesAsFinished, IsReady, ReadsAsIssued, ServesAndPasses, computes, departed, replied, returned}
 use Rattle.cf_semantics.specs.Moves.{written}
 use Rattle.cf_semantics.specs.Options.{on}
@@ -29,6 +29,7 @@ use Rattle.cf_semantics.specs.Steps.{onward, served, stepped_as}
 use Rattle.cf_refinement.proofs.invariant.Suited.{is_plain}
 use Rattle.cf_refinement.proofs.instructions.Fetches.{fetched_alike}
 use Rattle.cf_refinement.proofs.instructions.Steps.{bad_step, fetched_is, l1, step_executes, step_is, step_keeps, straight_next, straight_trap, word_is}
+use Rattle.cf_refinement.proofs.instructions.Classes.{free_is, memory_is, serial_is}
 
 -- a destination with its value, written
 written_is : (o : Option Binding) (d : Option ℕ) (v : ℕ) (regs : List ℕ) → reg_in o ≡ d → written regs (with_value v o) ≡ value_written regs d v
@@ -69,9 +70,6 @@ pub computes_as_finished : ComputesAsFinished
 computes_as_finished isa x i p f c h = l1 isa x x.hart.pc i f (plain_is (kind_of i) c) ∙ sym (finish_departs p i x None x.hart.mem h)
 
 -- second law
-memory_is : (c : Class) → is_memory c ≡ true → c ≡ MemoryClass
-memory_is c e = grind arith
-
 pub accesses_as_launched : AccessesAsLaunched
 accesses_as_launched isa x i p f c h =
     let is = word_is p i h.what in
@@ -95,12 +93,6 @@ accesses_as_launched isa x i p f c h =
     ∙ ap (λ (o : Option End). on o (returned p x) Stops) (sym trap)
 
 -- third law
-serial_is : (c : Class) → is_serial c ≡ true → c ≡ Serial
-serial_is c e = grind arith
-
-free_is : (c : Class) → is_free c ≡ true → c ≡ Free
-free_is c e = grind arith
-
 serves : (isa : Isa) (x : Machine) (i : Instr) (p : Passenger) → fetched isa x.hart.mem x.hart.pc ≡ Got i → is_serial (kind_of i) ≡ true → IsReady p i x → step_here isa x ≡ replied p x (serve_of (instruction p) x.hart.regs x.hart.mem x.rest)
 serves isa x i p f c h =
     let is = word_is p i h.what in

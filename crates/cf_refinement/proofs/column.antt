@@ -1,5 +1,6 @@
 -- The column and the sidings as lists, and how a change in the middle carries over to a walk.
 pub mod Column
+pub mod Stretch
 pub mod Fold
 pub mod Change
 pub mod Sorted

@@ -1,4 +1,5 @@
 -- What is used of single instructions, of what is fetched and of memory.
+pub mod Classes
 pub mod Steps
 pub mod Fetches
 pub mod Homes

@@ -16,6 +16,7 @@ pub mod Cache
 pub mod Goes
 pub mod Fresh
 pub mod Finishing
+pub mod Marked
 pub mod Launching
 pub mod Answering
 pub mod Accessing

@@ -1,8 +1,7 @@
 -- The moves that leave the column, or replace a stretch of it, keep what is still to be answered clear.
-use Rattle.std.proofs.Common.{◌≡◌, ℕ, zero, suc, List, [], ◌∷◌, ◌++◌, Option, Some, None, Bool, true, false, refl, ap, ◌∙◌, arith, add-one, sub-one, append_assoc}
+use Rattle.std.proofs.Common.{◌≡◌, ℕ, zero, suc, List, [], ◌∷◌, Option, Some, None, Bool, true, false, refl, arith, add-one, sub-one}
 use Rattle.std.specs.Prelude.{slice_set}
 use Rattle.cf_bind.specs.Meeting.{meeting}
-use Rattle.cf_bind.specs.declared.cell.Cell.{Cell}
 use Rattle.cf_bind.specs.declared.moves.Move.TheVariants.{Access, Climb, Execute, Fall, Launch, Meet, Recover, Serve, Slide}
 use Rattle.cf_bind.specs.declared.passenger.End.{End}
 use Rattle.cf_bind.specs.declared.passenger.Passenger.{Passenger}
@@ -10,12 +9,11 @@ use Rattle.cf_layout.specs.Layout.{Plan}
 use Rattle.cf_refinement.proofs.moves.Access.{access_ready, next-access}
 use Rattle.cf_refinement.proofs.walks.Returning.{back}
 use Rattle.cf_refinement.proofs.column.Change.{here}
-use Rattle.cf_refinement.proofs.column.Column.{climb_is, climb_was, column-at, column-pair, fall_is, fall_was, pair, place}
 use Rattle.cf_refinement.proofs.walks.Finishing.{finish_done}
 use Rattle.cf_refinement.proofs.moves.Execute.{execute_ready, next-execute}
-use Rattle.cf_refinement.proofs.moves.Fall.{fall_ready, next-fall, no_fall}
-use Rattle.cf_refinement.proofs.moves.Climb.{climb_ready, next-climb}
-use Rattle.cf_refinement.proofs.moves.Meet.{items_met, meet_ready, next-meet}
+use Rattle.cf_refinement.proofs.moves.Fall.{cells_fallen, fall_ready, fall_stretch, next-fall, no_fall}
+use Rattle.cf_refinement.proofs.moves.Climb.{cells_climbed, climb_ready, climb_stretch, next-climb}
+use Rattle.cf_refinement.proofs.moves.Meet.{meet_ready, meet_stretch, next-meet}
 use Rattle.cf_refinement.proofs.moves.Rows.{bar_row}
 use Rattle.cf_refinement.proofs.walks.Launching.{sent_out}
 use Rattle.cf_refinement.proofs.moves.Launch.{Launches, launch_ready, launched_out, launched_trap, next-launch}
@@ -27,53 +25,29 @@ use Rattle.cf_refinement.proofs.moves.Slide.{next-slide, slide_ready}
 use Rattle.cf_refinement.proofs.column.Spot.{spot}
 use Rattle.cf_refinement.proofs.invariant.Invariant.{Sound}
 use Rattle.cf_semantics.specs.Bars.{bar, row_bar}
-use Rattle.cf_semantics.specs.Column.{Down, Item, Up, column, column_from, packet_in, passenger_in}
+use Rattle.cf_semantics.specs.Column.{Down, Item, Up}
 use Rattle.cf_semantics.specs.Instructions.{serve_of}
-use Rattle.cf_semantics.specs.Moves.{answered, back_in, cell_met, launch_trap, launched, moved, next, operation, served, set_last, with_passenger, without_packet, without_passenger}
+use Rattle.cf_semantics.specs.Moves.{answered, back_in, cell_met, launch_trap, launched, moved, next, operation, served, set_last, with_passenger}
 use Rattle.cf_semantics.specs.Passengers.{finish, instruction, trapped}
-use Rattle.cf_semantics.specs.State.{Moment, State, put_cell, siding_at, with_cell, with_siding}
+use Rattle.cf_semantics.specs.State.{Moment, State, siding_at, with_cell, with_siding}
 use Rattle.rv_machine.specs.Call.{Called}
 use Rattle.rv_machine.specs.Call as called
 use Rattle.rv_machine.specs.Machine.{Machine}
 use Rattle.cf_untold.proofs.Clear.{IsClear, awaits, clear_replaced, met_clear, packet_clear, quiet_clear, rider_clear}
 
--- the two forms of a piece of the column
-regroup : (a r m k b : List Item) → a ++ ((r ++ (m ++ k)) ++ b) ≡ (a ++ r) ++ (m ++ (k ++ b))
-regroup a r m k b = rw (append_assoc r (m ++ k) b, append_assoc m k b, append_assoc a r (m ++ (k ++ b)))
-
 -- Climb: a passenger stands one stage higher
 pub climb_clear : (l : Plan) (s : State) (i : ℕ) → bar l s (Climb i) ≡ None → IsClear s → IsClear (moved l s (Climb i))
 climb_clear l s i e h =
     let r = climb_ready l s i (bar_row l s (Climb i) e) in
-    let p = pair s.cells i r.low r.high r.at_low r.at_high in
-    let c : Cell = without_passenger r.low in
-    let d : Cell = record r.high { passenger = r.low.passenger; met = false } in
-    let up = column_from (suc (suc i)) p.above in
-    let under = column_from 1 p.below in
-    let rs = packet_in (suc i) r.high.packet in
-    let ks = packet_in i r.low.packet in
-    let was : column s ≡ (up ++ rs) ++ (Up i r.who ∷ [] ++ (ks ++ under)) =
-    ap (column_from 1) p.split ∙ column-pair i p.below p.above r.low r.high p.number ∙ ap (λ (m : List Item). up ++ (m ++ under)) (climb_was i (suc i) r.low r.high r.who r.sits r.empty r.clear) ∙ regroup up rs (Up i r.who ∷ []) ks under in
-    let is : column_from 1 (put_cell (put_cell s.cells i c) (suc i) d) ≡ (up ++ rs) ++ (Up (suc i) r.who ∷ [] ++ (ks ++ under)) =
-    ap (column_from 1) (p.set c d) ∙ column-pair i p.below p.above c d p.number ∙ ap (λ (m : List Item). up ++ (m ++ under)) (climb_is i (suc i) r.low r.high r.who r.sits r.empty r.clear) ∙ regroup up rs (Up (suc i) r.who ∷ []) ks under in
-    rw (next-climb l s i r.low r.high r.at_low r.at_high, add-one) (clear_replaced s (record s { cells = put_cell (put_cell s.cells i c) (suc i) d }) (up ++ rs) (Up i r.who ∷ []) (Up (suc i) r.who ∷ []) (ks ++ under) was is refl (rider_clear i (suc i) r.who r.who _ (λ n g. g)) h)
+    let q = climb_stretch l s i r in
+    rw (next-climb l s i r.low r.high r.at_low r.at_high, add-one) (clear_replaced s (record s { cells = cells_climbed s i r.low r.high }) q.above (Up i r.who ∷ []) (Up (suc i) r.who ∷ []) q.below q.was q.is refl (rider_clear i (suc i) r.who r.who _ (λ n g. g)) h)
 
 -- Fall to the stage i, from the one above it
 fall_above : (l : Plan) (s : State) (i : ℕ) → row_bar l s (Fall (suc i)) ≡ None → IsClear s → IsClear (moved l s (Fall (suc i)))
 fall_above l s i e h =
     let r = fall_ready l s i e in
-    let p = pair s.cells i r.low r.high r.at_low r.at_high in
-    let c : Cell = record r.low { packet = r.high.packet; met = false } in
-    let d : Cell = without_packet r.high in
-    let up = column_from (suc (suc i)) p.above in
-    let under = column_from 1 p.below in
-    let rs = passenger_in (suc i) r.high.passenger in
-    let ks = passenger_in i r.low.passenger in
-    let was : column s ≡ (up ++ rs) ++ (Down (suc i) r.what ∷ [] ++ (ks ++ under)) =
-    ap (column_from 1) p.split ∙ column-pair i p.below p.above r.low r.high p.number ∙ ap (λ (m : List Item). up ++ (m ++ under)) (fall_was i (suc i) r.low r.high r.what r.lies r.empty r.clear) ∙ regroup up rs (Down (suc i) r.what ∷ []) ks under in
-    let is : column_from 1 (put_cell (put_cell s.cells (suc i) d) i c) ≡ (up ++ rs) ++ (Down i r.what ∷ [] ++ (ks ++ under)) =
-    ap (column_from 1) (p.set_down c d) ∙ column-pair i p.below p.above c d p.number ∙ ap (λ (m : List Item). up ++ (m ++ under)) (fall_is i (suc i) r.low r.high r.what r.lies r.empty r.clear) ∙ regroup up rs (Down i r.what ∷ []) ks under in
-    rw (next-fall l s i r.high r.low r.at_high r.at_low, sub-one) (clear_replaced s (record s { cells = put_cell (put_cell s.cells (suc i) d) i c }) (up ++ rs) (Down (suc i) r.what ∷ []) (Down i r.what ∷ []) (ks ++ under) was is refl (packet_clear (suc i) i r.what _) h)
+    let q = fall_stretch s i r in
+    rw (next-fall l s i r.high r.low r.at_high r.at_low, sub-one) (clear_replaced s (record s { cells = cells_fallen s i r.low r.high }) q.above (Down (suc i) r.what ∷ []) (Down i r.what ∷ []) q.below q.was q.is refl (packet_clear (suc i) i r.what _) h)
 
 -- Fall: a packet stands one stage lower
 pub fall_clear : (l : Plan) (s : State) (i : ℕ) → bar l s (Fall i) ≡ None → IsClear s → IsClear (moved l s (Fall i))
@@ -84,18 +58,11 @@ fall_clear l s (suc i) e h = fall_above l s i (bar_row l s (Fall (suc i)) e) h
 pub meet_clear : {rest out : List ℕ} (l : Plan) (s : State) (x : Machine) (i : ℕ) → bar l s (Meet i) ≡ None → Sound l s rest out x → IsClear s → IsClear (moved l s (Meet i))
 meet_clear {rest} {out} l s x i e h n =
     let r = meet_ready l s i (bar_row l s (Meet i) e) in
-    let p = place s.cells i r.here r.at_here in
-    let d : Cell = cell_met r.here r.who r.what in
-    let up = column_from (suc i) p.above in
-    let under = column_from 1 p.below in
-    let q = (meeting r.who r.what).passenger in
-    let o = (meeting r.who r.what).packet in
-    let was : column s ≡ up ++ ((Down i r.what ∷ Up i r.who ∷ []) ++ under) =
-    ap (column_from 1) p.split ∙ column-at i p.below p.above r.here p.number ∙ rw (r.sits, r.lies, r.apart) in
-    let is : column_from 1 (put_cell s.cells i d) ≡ up ++ (met_items i q o ++ under) =
-    ap (column_from 1) (p.set d) ∙ column-at i p.below p.above d p.number ∙ ap (λ (m : List Item). up ++ (m ++ under)) (items_met i q o) in
-    let k = here l s x up (Down i r.what ∷ Up i r.who ∷ []) under was h in
-    rw (next-meet l s i r.here r.who r.what r.at_here r.sits r.lies) (clear_replaced s (with_cell s i d) up (Down i r.what ∷ Up i r.who ∷ []) (met_items i q o) under was is refl (met_clear i r.who r.what _ k.stands.0.blank) n)
+    let p = meet_stretch s i r in
+    let old : List Item = Down i r.what ∷ Up i r.who ∷ [] in
+    let new = met_items i (meeting r.who r.what).passenger (meeting r.who r.what).packet in
+    let k = here l s x p.above old p.below p.was h in
+    rw (next-meet l s i r.here r.who r.what r.at_here r.sits r.lies) (clear_replaced s (with_cell s i (cell_met r.here r.who r.what)) p.above old new p.below p.was p.is refl (met_clear i r.who r.what _ k.stands.0.blank) n)
 
 -- what is executed is not waited for
 done_quiet : (p : Passenger) → p.done ≡ true → awaits p ≡ false

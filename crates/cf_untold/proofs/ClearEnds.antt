@@ -1,6 +1,6 @@
 -- What is waited for, at both ends of the processor: where it starts, and at Leave, Emit, Issue and Exit.
-use Rattle.std.proofs.Common.{◌≡◌, ◌≢◌, ℕ, zero, suc, List, [], ◌∷◌, ◌++◌, Option, Some, None, Bool, true, false, ◌==◌, ◌&&◌, ◌||◌, refl, sym, ap, subst, ◌∙◌, arith, append_assoc, ◌⊎◌, inl, inr}
-use Rattle.std.specs.Prelude.{replicate, slice_index, slice_set}
+use Rattle.std.proofs.Common.{◌≡◌, ◌≢◌, ℕ, List, [], ◌∷◌, ◌++◌, Option, Some, None, Bool, true, false, ◌==◌, ◌&&◌, ◌||◌, refl, sym, ap, subst, ◌∙◌, arith, append_assoc, ◌⊎◌, inl, inr}
+use Rattle.std.specs.Prelude.{slice_index, slice_set}
 use Rattle.rv_machine.specs.Machine.{Machine}
 use Rattle.cf_bind.specs.declared.binding.Binding.{Binding}
 use Rattle.cf_bind.specs.declared.cell.Cell.{Cell}
@@ -11,30 +11,27 @@ use Rattle.cf_bind.specs.declared.passenger.Guess.{Guess}
 use Rattle.cf_bind.specs.declared.passenger.Passenger.{Passenger}
 use Rattle.cf_layout.specs.Layout.{Plan}
 use Rattle.cf_refinement.proofs.column.Column.{rider_first, rider_gone, top_cell}
-use Rattle.cf_refinement.proofs.moves.Emit.{alone, emit_ready, next-emit}
-use Rattle.cf_refinement.proofs.moves.Exit.{exit_items, exit_ready, next-exit}
+use Rattle.cf_refinement.proofs.moves.Emit.{emit_is, emit_ready, next-emit}
+use Rattle.cf_refinement.proofs.moves.Exit.{above_exit, exit_ready, exit_was, next-exit}
 use Rattle.cf_refinement.proofs.column.Fold.{fit_append, fit_back, fit_front, walk-append}
-use Rattle.cf_refinement.proofs.moves.Issue.{issue_ready, next-issue}
+use Rattle.cf_refinement.proofs.moves.Issue.{issue_items, issue_ready, next-issue}
 use Rattle.cf_refinement.proofs.moves.Rows.{bar_row}
-use Rattle.cf_refinement.proofs.moves.Leave.{leave_ready, next-leave}
+use Rattle.cf_refinement.proofs.moves.Leave.{leave_ready, left_cells, next-leave}
 use Rattle.cf_refinement.proofs.invariant.Invariant.{Sound}
 use Rattle.cf_refinement.proofs.invariant.Suited.{Suits}
 use Rattle.cf_semantics.specs.Bars.{bar}
-use Rattle.cf_semantics.specs.Column.{Down, Item, Up, column, column_from, items, packet_in, passenger_in}
+use Rattle.cf_semantics.specs.Column.{Down, Item, Up, column, column_from, items, packet_in}
 use Rattle.cf_semantics.specs.Instructions.{fetched}
 use Rattle.cf_semantics.specs.Layouts.{isa_of}
 use Rattle.cf_semantics.specs.Moves.{fetch_at, keeps, left, moved, turned, without_packet, without_passenger}
 use Rattle.cf_semantics.specs.Passengers.{cached, cleared, forgets, fresh, goto, reg_in, requests}
 use Rattle.cf_semantics.specs.Path.{has_reg}
-use Rattle.cf_semantics.specs.Runs.{empty_cell, opened}
+use Rattle.cf_semantics.specs.Runs.{opened}
 use Rattle.cf_semantics.specs.State.{State, put_cell}
 use Rattle.cf_semantics.specs.Walks.{Everywhere, walk}
 use Rattle.cf_untold.proofs.Clear.{Ends, Fits, IsClear, awaits, none_awaited, past}
-
--- cells in which nothing stands have an empty column
-empty_column : (i n : ℕ) → column_from i (replicate n empty_cell) ≡ []
-empty_column i zero = refl
-empty_column i (suc n) = rw (empty_column (suc i) n) refl
+use Rattle.cf_refinement.proofs.walks.Cache.{cached-cleared, set_cached}
+use Rattle.cf_refinement.proofs.claims.Runs.{empty_column}
 
 -- where the processor starts nothing is waited for
 pub clear_opened : (l : Plan) (x : Machine) → IsClear (opened l x)
@@ -55,10 +52,6 @@ settled p f = go p.dead refl
 past_settled : (n : ℕ) (p : Passenger) (w : ℕ → Bool) → awaits p ≡ false → past (Up n p) w ≡ w
 unfolding past
 past_settled n p w e = ap {B = ℕ → Bool} (λ (b : Bool). λ (r : ℕ). (b && has_reg p.dst r) || w r) e
-
--- the cells after Leave
-left_cells : (s : State) (n : ℕ) (c : Cell) (p : Passenger) → (left s n c p).cells ≡ put_cell s.cells n (without_passenger c)
-left_cells s n c p = grind arith
 
 -- the cache stays at Leave
 left_cache : (s : State) (n : ℕ) (c : Cell) (p : Passenger) → (left s n c p).cache ≡ s.cache
@@ -102,12 +95,10 @@ pub emit_clear : {rest out : List ℕ} (l : Plan) (s : State) (x : Machine) → 
 emit_clear l s x acc e h k =
     let r = emit_ready l s (bar_row l s Emit e) in
     let n = l.stages in
-    let p = top_cell s.cells n r.here h.size r.at_here in
     let what : Packet = Value r.asked (slice_index s.regs r.asked) in
     let d : Cell = record r.here { packet = Some what; met = false } in
     let t : State = record s { cells = put_cell s.cells n d; lane = r.others } in
-    let was : column s ≡ passenger_in n r.here.passenger ++ column_from 1 p.below = p.was ∙ rw (r.free, alone r.here.met (passenger_in n r.here.passenger)) in
-    let is : column t ≡ Down n what ∷ column s = p.set d ∙ ap (λ (m : List Item). Down n what ∷ m) (sym was) in
+    let is : column t ≡ Down n what ∷ column s = emit_is l s r what h.size in
     let same = sym (past_down n what none_awaited) in
     rw (next-emit l s r.here r.asked r.others r.at_here r.lane) (record {
       fit = rw is (fits_first n what, subst (λ (w : ℕ → Bool). Everywhere Fits past (column s) w) same k.fit);
@@ -115,18 +106,6 @@ emit_clear l s x acc e h k =
     })
 
 -- What is kept at the bottom
-
--- what is kept for q once r was set
-set_cached : (c : List (Option ℕ)) (r q v : ℕ) (o : Option ℕ) → cached (slice_set c r o) q ≡ Some v → ((q ≡ r) × (o ≡ Some v)) ⊎ ((q ≢ r) × (cached c q ≡ Some v))
-set_cached [] r q v o e = absurd (grind arith)
-set_cached (a ∷ c) zero zero v o e = inl (refl, e)
-set_cached (a ∷ c) zero (suc q) v o e = inr (λ z. absurd (omega arith), e)
-set_cached (a ∷ c) (suc r) zero v o e = inr (λ z. absurd (omega arith), e)
-set_cached (a ∷ c) (suc r) (suc q) v o e = go (set_cached c r q v o e)
-  where
-    go : ((q ≡ r) × (o ≡ Some v)) ⊎ ((q ≢ r) × (cached c q ≡ Some v)) → ((suc q ≡ suc r) × (o ≡ Some v)) ⊎ ((suc q ≢ suc r) × (cached c q ≡ Some v))
-    go (inl h) = inl (ap suc h.0, h.1)
-    go (inr h) = inr (λ z. h.0 (omega arith), h.1)
 
 -- a value may be kept of a register that is not waited for
 keep_ends : (w : ℕ → Bool) (c : List (Option ℕ)) (r v : ℕ) → w r ≡ false → Ends w c → Ends w (slice_set c r (Some v))
@@ -138,12 +117,7 @@ keep_ends w c r v e h q u f = go (set_cached c r q u (Some v) f)
 
 -- where all is cleared no value is kept
 cleared_ends : (w : ℕ → Bool) (c : List (Option ℕ)) → Ends w (cleared c)
-cleared_ends w c r v e = absurd (go c r e)
-  where
-    go : (c : List (Option ℕ)) (r : ℕ) → cached (cleared c) r ≡ Some v → ⊥
-    go [] r e = cc
-    go (o ∷ c) zero e = cc
-    go (o ∷ c) (suc r) e = go c r e
+cleared_ends w c r v e = let z = cached-cleared c r in absurd (cc)
 
 -- the new destination is forgotten: it is waited for besides what was
 forget_ends : (i : ℕ) (p : Passenger) (w : ℕ → Bool) (c : List (Option ℕ)) → Ends w c → Ends (past (Up i p) w) (forgets (reg_in p.dst) c)
@@ -166,10 +140,6 @@ forget_ends i p w c h = of p.dst refl
         go (inr a) = rw (other b q a.0, h q v a.1) (grind arith)
 
 -- Issue
-
--- in its stage the new passenger stands lowest
-issue_items : (c : Cell) (p : Passenger) → c.passenger ≡ None → items 1 (record c { passenger = Some p; met = false }) ≡ items 1 c ++ Up 1 p ∷ []
-issue_items c p e = grind arith
 
 -- a passenger fits anywhere
 pub fits_up : (i : ℕ) (p : Passenger) (w : ℕ → Bool) → Fits (Up i p) w
@@ -208,8 +178,8 @@ exit_clear l s x acc e h k =
     let r = exit_ready l s (bar_row l s Exit e) in
     let what = r.what in
     let last = Down 1 what ∷ [] in
-    let upper = column_from 2 r.others ++ passenger_in 1 r.here.passenger in
-    let was : column s ≡ upper ++ last = ap (column_from 1) r.cells ∙ ap (λ (m : List Item). column_from 2 r.others ++ m) (exit_items r.here what r.lies r.clear) ∙ sym (append_assoc (column_from 2 r.others) (passenger_in 1 r.here.passenger) last) in
+    let upper = above_exit r in
+    let was = exit_was s r in
     let t : State = record s { cells = without_packet r.here ∷ r.others; fetch = turned s.fetch what; cache = keeps l.cache s.cache what } in
     let fit = rw was at k.fit in
     let w = walk past upper none_awaited in

@@ -1,5 +1,5 @@
 -- What is waited for, at Send: above a passenger nothing is, so that what it owes fits below it.
-use Rattle.std.proofs.Common.{◌≡◌, ℕ, suc, List, [], ◌∷◌, ◌++◌, Some, None, Bool, true, false, refl, ap, subst, ◌∙◌, arith}
+use Rattle.std.proofs.Common.{◌≡◌, ℕ, List, [], ◌∷◌, ◌++◌, Some, None, Bool, true, false, refl, subst, arith}
 use Rattle.rv_machine.specs.Machine.{Machine}
 use Rattle.cf_bind.specs.declared.cell.Cell.{Cell}
 use Rattle.cf_bind.specs.declared.moves.Move.TheVariants.{Send}
@@ -8,42 +8,32 @@ use Rattle.cf_bind.specs.declared.packet.Packet.TheVariants.{Halt, Turn, Value}
 use Rattle.cf_bind.specs.declared.passenger.Passenger.{Passenger}
 use Rattle.cf_layout.specs.Layout.{Plan}
 use Rattle.cf_refinement.proofs.column.Change.{here}
-use Rattle.cf_refinement.proofs.column.Column.{column-at, place}
 use Rattle.cf_refinement.proofs.column.Fold.{fit_append, fit_back, fit_front, walk-append}
 use Rattle.cf_refinement.proofs.moves.Rows.{bar_row}
-use Rattle.cf_refinement.proofs.moves.Send.{alone, next-send, send_ready}
+use Rattle.cf_refinement.proofs.moves.Send.{next-send, send_ready, send_stretch}
 use Rattle.cf_refinement.proofs.invariant.Invariant.{Sound}
 use Rattle.cf_refinement.proofs.invariant.Lone as lone
 use Rattle.cf_refinement.proofs.invariant.Suited.{Suits}
 use Rattle.cf_semantics.specs.Bars.{bar}
-use Rattle.cf_semantics.specs.Column.{Down, Item, Up, column, column_from}
+use Rattle.cf_semantics.specs.Column.{Down, Item, Up, column}
 use Rattle.cf_semantics.specs.Moves.{moved}
 use Rattle.cf_semantics.specs.State.{State, put_cell}
 use Rattle.cf_semantics.specs.Walks.{Everywhere, walk}
 use Rattle.cf_untold.proofs.ClearEnds.{fits_up}
 use Rattle.cf_untold.proofs.Clear.{Ends, Fits, IsClear, none_awaited, past}
-
--- where something may follow, it may above, too
-past_shut : (l : Plan) (i : Item) (b : Bool) → lone.past l i b ≡ false → b ≡ false
-unfolding lone.past
-past_shut l (Up i p) b e = grind arith
-past_shut l (Down i k) b e = grind arith
+use Rattle.cf_refinement.proofs.walks.Lone.{lone_open}
+use Rattle.cf_refinement.proofs.walks.Order.{past_open}
 
 -- an item below which something may follow waits for nothing
 past_unawaited : (l : Plan) (i : Item) (b : Bool) (w : ℕ → Bool) (r : ℕ) → lone.past l i b ≡ false → (b ≡ false → w r ≡ false) → past i w r ≡ false
 unfolding lone.past past
-past_unawaited l (Up i p) b w r e f = let z : b ≡ false = past_shut l (Up i p) b e in let u = f z in grind arith
-past_unawaited l (Down i k) b w r e f = f (past_shut l (Down i k) b e)
+past_unawaited l (Up i p) b w r e f = let z : b ≡ false = past_open l (Up i p) b e in let u = f z in grind arith
+past_unawaited l (Down i k) b w r e f = f (past_open l (Down i k) b e)
 
 -- where something may follow, nothing above is waited for
 pub walk_unawaited : (l : Plan) (xs : List Item) (b : Bool) (w : ℕ → Bool) (r : ℕ) → walk (lone.past l) xs b ≡ false → (b ≡ false → w r ≡ false) → walk past xs w r ≡ false
 walk_unawaited l [] b w r e f = f e
 walk_unawaited l (x ∷ xs) b w r e f = walk_unawaited l xs (lone.past l x b) (past x w) r e (λ z. past_unawaited l x b w r z f)
-
--- a passenger stands only where something may follow what is above it
-open_above : (i : ℕ) (p : Passenger) (b : Bool) → lone.Fits (Up i p) b → b ≡ false
-unfolding lone.Fits
-open_above i p b h = h
 
 -- what it owes fits below a passenger that is done, where nothing above waits
 fits_sent : (i : ℕ) (p : Passenger) (k : Packet) (w : ℕ → Bool) → p.done ≡ true → ((r : ℕ) → w r ≡ false) → Fits (Down i k) (past (Up i p) w)
@@ -61,20 +51,19 @@ past_sent i p k w = refl
 pub send_clear : {rest out : List ℕ} (l : Plan) (s : State) (x : Machine) (i : ℕ) → Suits l → bar l s (Send i) ≡ None → Sound l s rest out x → IsClear s → IsClear (moved l s (Send i))
 send_clear l s x i acc e h k =
     let r = send_ready l s i (bar_row l s (Send i) e) in
-    let p = place s.cells i r.here r.at_here in
+    let p = send_stretch s i r in
     let who = r.who in
     let q : Passenger = record who { owes = None } in
     let d : Cell = record { passenger = Some q; packet = Some r.what; met = true } in
     let t : State = record s { cells = put_cell s.cells i d } in
-    let up = column_from (suc i) p.above in
-    let under = column_from 1 p.below in
+    let up = p.above in
+    let under = p.below in
     let new = Up i q ∷ Down i r.what ∷ [] in
-    let was : column s ≡ up ++ ((Up i who ∷ []) ++ under) =
-    ap (column_from 1) p.split ∙ column-at i p.below p.above r.here p.number ∙ rw (r.sits, r.free, alone r.here.met (Up i who ∷ [])) in
-    let is : column t ≡ up ++ (new ++ under) = ap (column_from 1) (p.set d) ∙ column-at i p.below p.above d p.number in
+    let was = p.was in
+    let is : column t ≡ up ++ (new ++ under) = p.is in
     let o = here l s x up (Up i who ∷ []) under was h in
     let w = walk past up none_awaited in
-    let free : (a : ℕ) → w a ≡ false = λ a. walk_unawaited l up false none_awaited a (open_above i who _ o.lone_fit.0) (λ _. refl) in
+    let free : (a : ℕ) → w a ≡ false = λ a. walk_unawaited l up false none_awaited a (lone_open i who _ o.lone_fit.0) (λ _. refl) in
     let done : who.done ≡ true = o.stands.0.owes_done (rw r.owes refl) in
     let same = past_sent i who r.what w in
     let fit = rw was at k.fit in

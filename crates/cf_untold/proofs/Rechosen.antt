@@ -19,7 +19,6 @@ use Rattle.cf_semantics.specs.Options.{When}
 use Rattle.cf_semantics.specs.Passengers.{kind}
 use Rattle.cf_semantics.specs.State.{State}
 use Rattle.cf_semantics.specs.Walks.{Everywhere, walk}
-use Rattle.cf_semantics.specs.Ahead as ahead
 use Rattle.cf_semantics.specs.Path as trail
 use Rattle.cf_semantics.specs.Soundness.{HasValue}
 use Rattle.cf_refinement.proofs.invariant.Invariant.{Sound}
@@ -27,8 +26,7 @@ use Rattle.cf_refinement.proofs.invariant.Port as dock
 use Rattle.cf_refinement.proofs.invariant.Stands.{Blank}
 use Rattle.cf_refinement.proofs.invariant.Sure as sure
 use Rattle.cf_refinement.proofs.moves.Rows.{bar_row}
-use Rattle.cf_refinement.proofs.walks.Quiet.{Unchanged}
-use Rattle.cf_refinement.proofs.moves.Serve.{Idle, Scene, Serves, scene, serve_ready}
+use Rattle.cf_refinement.proofs.moves.Serve.{Idle, Scene, Serves, fit_idle, not_yet, scene, serial_docked, serve_ready, walk_idle}
 use Rattle.cf_refinement.proofs.instructions.Steps.{sure_keeps}
 use Rattle.cf_untold.proofs.Clear as clear
 use Rattle.cf_untold.proofs.Clear.{IsClear, none_awaited}
@@ -100,13 +98,16 @@ call_alike isa p s x rest undone unended blank h = (
     path = h.0.path;
     reads = h.0.reads;
     shape = h.0.shape;
-    value1 = h.0.value1;
-    value2 = h.0.value2;
-    value3 = blank_agrees p.dst _ blank;
-    goes = λ d e. absurd (let z = sym undone ∙ d in cc);
-    next = λ d e. absurd (let z = sym undone ∙ d in cc);
-    known = λ d e. absurd (let z = sym undone ∙ d in cc);
-    ends = λ e f. absurd (let z = sym unended ∙ f in cc);
+    values = record {
+      first = h.0.values.first;
+      second = h.0.values.second;
+      destination = blank_agrees p.dst _ blank;
+      owed = h.0.values.owed;
+      goes = λ d e. absurd (let z = sym undone ∙ d in cc);
+      next = λ d e. absurd (let z = sym undone ∙ d in cc);
+      done = λ d e. absurd (let z = sym undone ∙ d in cc);
+      ends = λ e f. absurd (let z = sym unended ∙ f in cc);
+    };
     unended = h.0.unended;
     unowing = h.0.unowing;
     owed = h.0.owed;
@@ -136,38 +137,6 @@ call_passed isa n p s x rest live undone serial h k = rw live (record {
       sure_keeps isa p (over rest x) (Some x.hart.pc) k.0 r z ∙ sym (sure_keeps isa p x (Some x.hart.pc) h.0 r z);
 })
 
--- the port: below the call nothing touches memory, input or output, and it is not answered
-past_idle : (isa : Isa) (i : ℕ) (k : Packet) (w : dock.Dock) → Unchanged w (dock.past isa (Down i k) w)
-unfolding dock.past
-past_idle isa i k w = record { mem = refl; code = refl; rest = refl; out = refl }
-
-walk_idle : (isa : Isa) (xs : List Item) (w : dock.Dock) → Idle xs → Unchanged w (walk (dock.past isa) xs w)
-walk_idle isa [] w h = record { mem = refl; code = refl; rest = refl; out = refl }
-walk_idle isa (Up i p ∷ xs) w h = absurd h
-walk_idle isa (Down i k ∷ xs) w h =
-    let a = past_idle isa i k w in
-    let b = walk_idle isa xs (dock.past isa (Down i k) w) h in
-    record { mem = b.mem ∙ a.mem; code = b.code ∙ a.code; rest = b.rest ∙ a.rest; out = b.out ∙ a.out }
-
-packet_docked : (isa : Isa) (i : ℕ) (k : Packet) (w : dock.Dock) → dock.Fits isa (Down i k) w
-unfolding dock.Fits
-packet_docked isa i k w = tt
-
-fit_idle : (isa : Isa) (xs : List Item) (w : dock.Dock) → Idle xs → Everywhere (dock.Fits isa) (dock.past isa) xs w
-fit_idle isa [] w h = tt
-fit_idle isa (Up i p ∷ xs) w h = absurd h
-fit_idle isa (Down i k ∷ xs) w h = (packet_docked isa i k w, fit_idle isa xs (dock.past isa (Down i k) w) h)
-
-call_docked : (isa : Isa) (n : ℕ) (p : Passenger) (w : dock.Dock) → kind p ≡ Serial → w.risky ≡ false → dock.Fits isa (Up n p) w
-unfolding dock.Fits dock.DockedAt
-call_docked isa n p w k r = record { live = λ a b. absurd (grind arith); order = λ a b. absurd (grind arith); served = λ a. r; permitted = λ a b. absurd (grind arith); answered = λ a. absurd (grind arith) }
-
-not_answered : (isa : Isa) (n : ℕ) (p : Passenger) (w : dock.Dock) → kind p ≡ Serial → ahead.has_served p ≡ false → Unchanged w (dock.past isa (Up n p) w)
-unfolding dock.past
-not_answered isa n p w k e =
-    let z : ahead.has_ported p w.answer ≡ false = grind arith in
-    record { mem = rw z refl; code = rw e refl; rest = rw e refl; out = rw e refl }
-
 -- whatever the input has left
 pub rechosen : {rest out : List ℕ} (l : Plan) (s : State) (x : Machine) (other : List ℕ) → bar l s Serve ≡ None → Sound l s rest out x → IsClear s → Sound l s other out (over other x)
 rechosen {rest} {out} l s x other free h c =
@@ -184,7 +153,7 @@ rechosen {rest} {out} l s x other free h c =
     let called = call_alike isa p s x other r.undone unended blank e.certain in
     let alike = call_passed isa n p s x other r.live r.undone r.serial e.certain called in
     let under = walk_alike isa e.below (clear.past (Up n p) none_awaited) (trail.past isa (Up n p) (trail.top s x)) (trail.past isa (Up n p) (trail.top s y)) e.idle alike in
-    let same = not_answered isa n p (dock.top l s y) r.serial e.unserved in
+    let same = not_yet isa n p (dock.top l s y) r.serial e.unserved in
     let quiet = walk_idle isa e.below (dock.past isa (Up n p) (dock.top l s y)) e.idle in
     record {
       regs = h.regs;
@@ -196,7 +165,7 @@ rechosen {rest} {out} l s x other free h c =
       lone_fit = h.lone_fit;
       lone_ends = h.lone_ends;
       stands = h.stands;
-      port_fit = rw e.was (call_docked isa n p (dock.top l s y) r.serial refl, fit_idle isa e.below (dock.past isa (Up n p) (dock.top l s y)) e.idle);
+      port_fit = rw e.was (serial_docked isa n p (dock.top l s y) r.serial refl, fit_idle isa e.below (dock.past isa (Up n p) (dock.top l s y)) e.idle);
       port_ends = rw e.was (record {
         is_mem = e.mem ∙ sym same.mem ∙ sym quiet.mem;
         is_code = ap code_of e.mem ∙ sym same.code ∙ sym quiet.code;

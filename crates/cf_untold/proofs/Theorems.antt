@@ -17,10 +17,10 @@ use Rattle.cf_semantics.specs.State.{Moment}
 use Rattle.cf_refinement.proofs.invariant.Invariant.{HoldsAfter, HoldsAt, Sound}
 use Rattle.cf_refinement.proofs.invariant.Suited.{Suits}
 use Rattle.cf_refinement.proofs.layouts.Accepted.{accepted_suits}
-use Rattle.cf_refinement.proofs.claims.Lines.{lines_after}
+use Rattle.cf_refinement.proofs.claims.Lines.{gained_is, lines_after}
 use Rattle.cf_refinement.proofs.claims.Refines.{refined}
 use Rattle.cf_refinement.proofs.claims.Runs.{going, kept, opened_retired, started}
-use Rattle.cf_confluence.proofs.drains.Rested.{after_gained, gained_is, retired_is}
+use Rattle.cf_confluence.proofs.drains.Rested.{after_gained, retired_is}
 use Rattle.cf_confluence.proofs.drains.Tidy.{IsTidy, tidy_next, tidy_opened}
 use Rattle.cf_untold.specs.Anew.{GoesTo, LeadsTo, RefinesAnew, finding}
 use Rattle.cf_untold.proofs.Clear.{IsClear}

@@ -1,5 +1,5 @@
 -- Between two drained moments of a program that goes on an instruction retires.
-use Rattle.std.proofs.Common.{◌≡◌, ℕ, suc, ◌+◌, ◌*◌, ◌≤◌, List, [], ◌∷◌, ◌++◌, length, append_assoc, Option, Some, None, Bool, true, false, ◌||◌, ◌&&◌, ◌==◌, not, refl, sym, ap, subst, ◌∙◌, arith, ◌⊎◌, inl, inr}
+use Rattle.std.proofs.Common.{◌≡◌, ℕ, suc, ◌+◌, ◌*◌, ◌≤◌, List, [], ◌∷◌, ◌++◌, length, append_assoc, Option, Some, None, Bool, true, false, ◌&&◌, ◌==◌, not, refl, sym, ap, subst, ◌∙◌, arith, ◌⊎◌, inl, inr}
 use Rattle.std.specs.List.{list_any}
 use Rattle.rv_inst.specs.declared.isa.Isa.{Isa}
 use Rattle.rv_machine.specs.Machine.{Machine}
@@ -13,7 +13,7 @@ use Rattle.cf_bind.specs.declared.passenger.Passenger.{Passenger}
 use Rattle.cf_bind.specs.declared.passenger.End.{End}
 use Rattle.cf_bind.specs.declared.passenger.Guess.{Guess}
 use Rattle.cf_semantics.specs.Options.{is_some}
-use Rattle.cf_semantics.specs.Instructions.{Fetched, Got, Bad, fetched, step_at}
+use Rattle.cf_semantics.specs.Instructions.{fetched, step_at}
 use Rattle.cf_semantics.specs.State.{State, Moment}
 use Rattle.cf_semantics.specs.Bars.{bar}
 use Rattle.cf_semantics.specs.Column.{Item, Up, column, column_from, items}
@@ -30,8 +30,8 @@ use Rattle.cf_refinement.proofs.invariant.Invariant.{HoldsAfter, Sound}
 use Rattle.cf_refinement.proofs.invariant.Suited.{Suits}
 use Rattle.cf_refinement.proofs.invariant.Sure as sure
 use Rattle.cf_refinement.proofs.column.Fold.{walk-append, walk_follows}
-use Rattle.cf_refinement.proofs.walks.Fresh.{fresh_is}
-use Rattle.cf_refinement.proofs.moves.Issue.{Issues, issue_ready, next-issue}
+use Rattle.cf_refinement.proofs.walks.Fresh.{among_front, fresh_is, fresh_pc}
+use Rattle.cf_refinement.proofs.moves.Issue.{Issues, issue_items, issue_ready, next-issue}
 use Rattle.cf_refinement.proofs.moves.Rows.{bar_row}
 use Rattle.cf_refinement.proofs.claims.Level.{empty_column}
 use Rattle.cf_refinement.proofs.claims.Runs as runs
@@ -39,19 +39,9 @@ use Rattle.cf_confluence.proofs.weight.Bound.{costs, sound_at}
 use Rattle.cf_confluence.proofs.drains.Determined.{EndsSo, GoesSo, Total, one_machine, so_kept}
 use Rattle.cf_confluence.proofs.drains.Right.{Fits, Follows, way_walk}
 use Rattle.cf_confluence.proofs.drains.Ways.{fits_way}
+use Rattle.std.proofs.lemmas.Bool.{or_parts}
 
--- the newcomer stands at the bottom of the column
-issue_items : (c : Cell) (p : Passenger) → c.passenger ≡ None → items 1 (record c { passenger = Some p; met = false }) ≡ items 1 c ++ Up 1 p ∷ []
-issue_items c p e = grind arith
-
-among_front : (r : ℕ) (a b : List ℕ) → trail.among r a ≡ true → trail.among r (a ++ b) ≡ true
-among_front r [] b e = absurd (cc)
-among_front r (x ∷ a) b e = go (r == x) e (λ f. among_front r a b f)
-  where
-    go : (c : Bool) → (c || trail.among r a) ≡ true → (trail.among r a ≡ true → trail.among r (a ++ b) ≡ true) → (c || trail.among r (a ++ b)) ≡ true
-    go true e f = refl
-    go false e f = f e
-
+-- with a longer lane no less may be waited for
 lane_way : (s t : State) (x : Machine) (more : List ℕ) → t.lane ≡ s.lane ++ more → Follows (begin s x) (begin t x)
 lane_way s t x more e = record {
   path = record { barred = λ b. b; machine = λ _. refl; goto = λ _. refl; settled = λ _ a. a; trapped = λ _ a. a; coming = λ _ r c. rw e (among_front r s.lane more c) };
@@ -97,11 +87,6 @@ past_first isa i p s x d c = go (goes (step_at isa x p.pc)) refl
     go : (b : Bool) → goes (step_at isa x p.pc) ≡ b → (1 ≤ (past isa (Up i p) (begin s x)).count) ⊎ ((past isa (Up i p) (begin s x)).stop ≡ true)
     go true e = inl (grind (arith, d, e, here))
     go false e = inr (grind (arith, d, e, here))
-
-fresh_pc : (q : Fetched) (c : List (Option ℕ)) (pc : ℕ) (g : Guess) → (fresh c q pc g).pc ≡ pc
-unfolding fresh
-fresh_pc (Got i) c pc g = grind arith
-fresh_pc (Bad b) c pc g = refl
 
 -- n instructions are sure to retire, or the program is sure to end
 pub record Reaching (l : Plan) (x0 : Machine) (m : Moment) (n : ℕ) : Type 0 where
@@ -184,10 +169,6 @@ move_keeps l x0 m Exit n acc e h = other_keeps l x0 m Exit n acc refl e h
 move_keeps l x0 m Serve n acc e h = other_keeps l x0 m Serve n acc refl e h
 
 -- a drained state weighs nothing
-either : (a b : Bool) → (a || b) ≡ false → (a ≡ false) × (b ≡ false)
-either false b e = (refl, e)
-either true b e = absurd (cc)
-
 vacant : (n d i : ℕ) (c : Cell) → is_occupied c ≡ false → cell_weight n d i c ≡ 0
 unfolding cell_weight
 vacant n d i c e = grind (arith, e)
@@ -195,7 +176,7 @@ vacant n d i c e = grind (arith, e)
 vacant_cells : (n d i : ℕ) (cells : List Cell) → list_any is_occupied cells ≡ false → cells_weight n d i cells ≡ 0
 vacant_cells n d i [] e = refl
 vacant_cells n d i (c ∷ cells) e =
-    let z = either (is_occupied c) (list_any is_occupied cells) e in
+    let z = or_parts (is_occupied c) (list_any is_occupied cells) e in
     let a = vacant n d i c z.0 in
     let b = vacant_cells n d (suc i) cells z.1 in
     omega (arith, a, b)
@@ -208,7 +189,7 @@ vacant_op n c (Some op) e = absurd (cc)
 vacant_ops : (n c : ℕ) (q : List (Option Op)) → list_any is_some q ≡ false → siding_weight n c q ≡ 0
 vacant_ops n c [] e = refl
 vacant_ops n c (o ∷ q) e =
-    let z = either (is_some o) (list_any is_some q) e in
+    let z = or_parts (is_some o) (list_any is_some q) e in
     let a = vacant_op n c o z.0 in
     let b = vacant_ops n (suc c) q z.1 in
     omega (arith, a, b)
@@ -216,7 +197,7 @@ vacant_ops n c (o ∷ q) e =
 vacant_sidings : (ss : List (List (Option Op))) → list_any (list_any is_some) ss ≡ false → sidings_weight ss ≡ 0
 vacant_sidings [] e = refl
 vacant_sidings (q ∷ ss) e =
-    let z = either (list_any is_some q) (list_any (list_any is_some) ss) e in
+    let z = or_parts (list_any is_some q) (list_any (list_any is_some) ss) e in
     let a = vacant_ops (length q) 0 q z.0 in
     let b = vacant_sidings ss z.1 in
     omega (arith, a, b)

@@ -1,5 +1,5 @@
 -- With issue held back the count and the kind of the end are determined by where the run began.
-use Rattle.std.proofs.Common.{◌≡◌, ℕ, suc, ◌+◌, List, [], ◌∷◌, ◌++◌, Option, Some, None, Bool, true, false, ◌&&◌, ◌==◌, refl, sym, ap, subst, ◌∙◌, arith, append_assoc, ◌⊎◌, inl, inr}
+use Rattle.std.proofs.Common.{◌≡◌, ℕ, suc, ◌+◌, List, [], ◌∷◌, ◌++◌, Option, Some, None, Bool, true, false, ◌&&◌, ◌==◌, refl, sym, ap, subst, ◌∙◌, arith, ◌⊎◌, inl, inr}
 use Rattle.std.specs.Prelude.{slice_index}
 use Rattle.cf_bind.specs.declared.cell.Cell.{Cell}
 use Rattle.cf_bind.specs.declared.moves.Move.{Move}
@@ -12,13 +12,13 @@ use Rattle.cf_layout.specs.Layout.{Plan}
 use Rattle.cf_refinement.proofs.claims.Ahead.{sure_pc}
 use Rattle.cf_refinement.proofs.column.Column.{Top, rider_first, rider_gone, top_cell}
 use Rattle.cf_confluence.proofs.weight.Bound.{sound_at}
-use Rattle.cf_confluence.proofs.drains.Rested.{after_gained, gained_is, rested, retired_is}
+use Rattle.cf_confluence.proofs.drains.Rested.{after_gained, rested, retired_is}
 use Rattle.cf_confluence.proofs.drains.Tidy.{IsTidy, tidy_run}
-use Rattle.cf_refinement.proofs.moves.Emit.{alone, emit_path, emit_ready, next-emit}
-use Rattle.cf_refinement.proofs.moves.Exit.{exit_items, exit_ready, next-exit}
+use Rattle.cf_refinement.proofs.moves.Emit.{emit_is, emit_path, emit_ready, next-emit}
+use Rattle.cf_refinement.proofs.moves.Exit.{above_exit, exit_ready, exit_was, next-exit}
 use Rattle.cf_refinement.proofs.column.Fold.{walk-append, walk_follows}
 use Rattle.cf_refinement.proofs.moves.Rows.{bar_row}
-use Rattle.cf_refinement.proofs.moves.Leave.{Leaves, at_top, dead_path, leave_kept, leave_ready, left_dead, left_on, left_over, live_path, next-leave, sure_goes, sure_stops, top_sure}
+use Rattle.cf_refinement.proofs.moves.Leave.{Leaves, at_top, dead_path, leave_kept, leave_ready, left_dead, left_on, left_over, live_path, next-leave, sure_goes, sure_stops}
 use Rattle.cf_confluence.proofs.drains.Right.{Fits, Follows, past_path, way_walk}
 use Rattle.cf_confluence.proofs.drains.Steadies.{access_steady, climb_steady, execute_steady, fall_steady, launch_steady, meet_steady, recover_steady, send_steady, serve_steady, slide_steady}
 use Rattle.cf_confluence.proofs.drains.Ways.{Steady, fits_way}
@@ -26,7 +26,7 @@ use Rattle.cf_refinement.proofs.invariant.Invariant.{HoldsAfter, HoldsAt, IsOver
 use Rattle.cf_refinement.proofs.invariant.Suited.{Suits}
 use Rattle.cf_semantics.specs.Ahead.{one}
 use Rattle.cf_semantics.specs.Bars.{bar}
-use Rattle.cf_semantics.specs.Column.{Down, Item, Up, column, column_from, packet_in, passenger_in}
+use Rattle.cf_semantics.specs.Column.{Down, Item, Up, column, column_from, packet_in}
 use Rattle.cf_semantics.specs.Determined.{Drains, EndsAs, EndsAt, IsDrainedAt, IsEndedAt}
 use Rattle.cf_semantics.specs.Refines.{gained}
 use Rattle.cf_semantics.specs.Instructions.{Goes, Stops, behind, step_at, step_here}
@@ -45,6 +45,8 @@ use Rattle.cf_refinement.proofs.walks.Path as paths
 use Rattle.cf_refinement.proofs.claims.Runs as runs
 use Rattle.cf_refinement.proofs.invariant.Sure as sure
 use Rattle.cf_semantics.specs.Path as trail
+use Rattle.cf_refinement.proofs.walks.Path.{sure_at}
+use Rattle.cf_refinement.proofs.claims.Lines.{gained_is}
 
 -- Emit
 emit_way : (isa : Isa) (s t : State) (x : Machine) (n r v : ℕ) → paths.Follows (trail.top s x) (trail.past isa (Down n (Value r v)) (trail.top t x)) → Follows (begin s x) (past isa (Down n (Value r v)) (begin t x))
@@ -55,13 +57,11 @@ emit_steady : {rest out : List ℕ} (l : Plan) (s : State) (x : Machine) → bar
 emit_steady {rest} {out} l s x e h =
     let r = emit_ready l s (bar_row l s Emit e) in
     let n = l.stages in
-    let p = top_cell s.cells n r.here h.size r.at_here in
     let v = slice_index s.regs r.asked in
     let k : Packet = Value r.asked v in
     let d : Cell = record r.here { packet = Some k; met = false } in
     let t : State = record s { cells = put_cell s.cells n d; lane = r.others } in
-    let was : column s ≡ passenger_in n r.here.passenger ++ column_from 1 p.below = p.was ∙ rw (r.free, alone r.here.met (passenger_in n r.here.passenger)) refl in
-    let is : column t ≡ Down n k ∷ column s = p.set d ∙ ap (λ (m : List Item). Down n k ∷ m) (sym was) in
+    let is : column t ≡ Down n k ∷ column s = emit_is l s r k h.size in
     let f = emit_way (isa_of l) s t x n r.asked v (emit_path (isa_of l) s t x n r.asked v r.others r.lane refl) in
     let q = walk_follows _ (Fits (isa_of l)) (past (isa_of l)) Follows (way_walk (isa_of l)) (column s) _ _ f (fits_way (isa_of l) (column s) (trail.top s x) (begin s x) refl h.path_fit) in
     let w : way (isa_of l) t x ≡ walk (past (isa_of l)) (column s) (past (isa_of l) (Down n k) (begin t x)) = ap (λ (z : List Item). walk (past (isa_of l)) z (begin t x)) is in
@@ -76,11 +76,9 @@ exit_steady : {rest out : List ℕ} (l : Plan) (s : State) (x : Machine) → bar
 exit_steady {rest} {out} l s x e h =
     let r = exit_ready l s (bar_row l s Exit e) in
     let k = r.what in
-    let below = column_from 2 r.others ++ passenger_in 1 r.here.passenger in
-    let was : column s ≡ below ++ Down 1 k ∷ [] =
-    ap (column_from 1) r.cells ∙ ap (λ (m : List Item). column_from 2 r.others ++ m) (exit_items r.here k r.lies r.clear) ∙ sym (append_assoc (column_from 2 r.others) (passenger_in 1 r.here.passenger) (Down 1 k ∷ [])) in
-    let w : way (isa_of l) s x ≡ past (isa_of l) (Down 1 k) (walk (past (isa_of l)) below (begin s x)) = ap (λ (z : List Item). walk (past (isa_of l)) z (begin s x)) was ∙ walk-append (past (isa_of l)) below (Down 1 k ∷ []) (begin s x) in
-    let c = result_way (isa_of l) k (walk (past (isa_of l)) below (begin s x)) in
+    let above = above_exit r in
+    let w : way (isa_of l) s x ≡ past (isa_of l) (Down 1 k) (walk (past (isa_of l)) above (begin s x)) = ap (λ (z : List Item). walk (past (isa_of l)) z (begin s x)) (exit_was s r) ∙ walk-append (past (isa_of l)) above (Down 1 k ∷ []) (begin s x) in
+    let c = result_way (isa_of l) k (walk (past (isa_of l)) above (begin s x)) in
     rw (next-exit l s r.here r.others k r.cells r.lies) (record { count = sym (ap (λ (z : Way). z.count) w ∙ c.0); stop = sym (ap (λ (z : Way). z.stop) w ∙ c.1) })
 
 -- Leave
@@ -233,7 +231,7 @@ leave_total {rest} {out} l s x n b z e h k = go (leave_ready l s (bar_row l s Le
         dead d (inr (inr q)) = absurd (let w : t.ending ≡ s.ending = ap (λ (v : State). v.ending) (here ∙ left_dead s l.stages r.here p d) in none_some q.0 (sym z ∙ sym w ∙ q.1))
 
         certain : p.dead ≡ false → sure.SureAt (isa_of l) p (trail.top s x)
-        certain d = top_sure (isa_of l) l.stages p (trail.top s x) d refl fits.0
+        certain d = sure_at (isa_of l) l.stages p (trail.top s x) d refl fits.0
 
         live : p.dead ≡ false → p.ending ≡ None → How → LeftTotal l s t x n b
         live d o (inl q) = absurd (let w : t.retired ≡ s.retired + 1 = ap (λ (v : State). v.retired) (here ∙ left_on s l.stages r.here p d o) in omega (arith, w, q.1))

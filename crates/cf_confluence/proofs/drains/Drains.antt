@@ -8,9 +8,6 @@ use Rattle.cf_bind.specs.declared.packet.Fetch.TheVariants.{Running}
 use Rattle.cf_bind.specs.declared.passenger.Guess.TheVariants.{Next}
 use Rattle.cf_bind.specs.declared.passenger.Passenger.{Passenger}
 use Rattle.cf_layout.specs.Layout.{Plan, last_stage, launch_stage, recover_stage, siding_of, unit_at}
-use Rattle.cf_refinement.proofs.moves.Launch.{sure_here}
-use Rattle.cf_refinement.proofs.instructions.Memory.{is_memory-is}
-use Rattle.cf_refinement.proofs.moves.Serve.{is_serial-is}
 use Rattle.cf_refinement.proofs.column.Sidings.{flown_range}
 use Rattle.cf_refinement.proofs.column.Sorted.{Riders, Sorted, riders_more, sorted}
 use Rattle.cf_confluence.proofs.drains.Stuck.{Barred, Head, bar_is, first_clear, held_top, known, lane_none, no_packet, owes_none, row_slide, slides, stops_here, top_of}
@@ -24,7 +21,7 @@ use Rattle.cf_semantics.specs.Instructions.{fetched, is_free, is_memory, is_seri
 use Rattle.cf_semantics.specs.Layouts.{ends_units, isa_of, launches, port, recovers}
 use Rattle.cf_semantics.specs.Moves.{operation}
 use Rattle.cf_semantics.specs.Options.{Where, is_some}
-use Rattle.cf_semantics.specs.Passengers.{both, fresh, kind, missing, requests}
+use Rattle.cf_semantics.specs.Passengers.{fresh, kind, missing, requests}
 use Rattle.cf_semantics.specs.State.{State, cell_at, siding_at}
 use Rattle.cf_semantics.specs.Walks.{Everywhere, walk}
 use Rattle.rv_inst.specs.declared.classes.Class.{Class}
@@ -35,6 +32,9 @@ use Rattle.std.specs.Prelude.{slice_get}
 use Rattle.cf_refinement.proofs.invariant.Sure as sure
 use Rattle.cf_semantics.specs.Path as trail
 use Rattle.cf_semantics.specs.Soundness.{in_siding, operations_in, operations_of}
+use Rattle.cf_refinement.proofs.instructions.Classes.{memory_is, serial_is}
+use Rattle.cf_refinement.proofs.walks.Path.{sure_at}
+use Rattle.cf_confluence.proofs.weight.Bound.{asks_size}
 
 barred : (l : Plan) (s : State) → s.ending ≡ None → s.failed ≡ false → IsStuck l s → Barred l s
 barred l s e f h = record { row = λ m i z. h m i (bar_is l s m e f ∙ z) }
@@ -114,7 +114,7 @@ out_moves {rest} {out} l s x i c p below acc b h a o n = siding (siding_of l (ki
             answered false w y z = recover (rw y refl)
             answered true (Some v) y z = recover (rw (y, z) refl)
             answered true None y z =
-                let there : k ≡ (port l) = same k (port l) (sym e ∙ rw (is_memory-is (kind p) y) acc.memory) in
+                let there : k ≡ (port l) = same k (port l) (sym e ∙ rw (memory_is (kind p) y) acc.memory) in
                 let f' : last_op (siding_at s (port l)) ≡ Some op = rw (← there) f in
                 b.row Access refl (rw f' (rw z refl))
               where
@@ -201,7 +201,7 @@ waits_moves {rest} {out} l s x i c p below acc b h a d u n = class (is_serial (k
     serve k = b.row Serve refl (row_serve l s c (subst (λ (j : ℕ). cell_at s.cells j ≡ Some c) top a.at_here) ∙ serve_free c p a.sits a.free d u k)
       where
         is : kind p ≡ Serial
-        is = is_serial-is (kind p) k
+        is = serial_is (kind p) k
 
         top : i ≡ l.stages
         top = siding (siding_of l (kind p)) refl
@@ -224,7 +224,7 @@ waits_moves {rest} {out} l s x i c p below acc b h a d u n = class (is_serial (k
       where
         siding : (o : Option ℕ) → siding_of l (kind p) ≡ o → (m : Bool) → is_memory (kind p) ≡ m → ⊥
         siding (Some k) g m y = launch k g
-        siding None g true y = let z : siding_of l (kind p) ≡ Some (port l) = rw (is_memory-is (kind p) y) acc.memory in none_some (port l) (sym g ∙ z)
+        siding None g true y = let z : siding_of l (kind p) ≡ Some (port l) = rw (memory_is (kind p) y) acc.memory in none_some (port l) (sym g ∙ z)
           where
             none_some : (a : ℕ) → None ≡ Some a → ⊥
             none_some a e = cc
@@ -251,7 +251,7 @@ above_moves {rest} {out} l s x i c p below acc b h a = go p.launched p.recovered
     go false r false true e f g k = absurd (let z = held in grind arith)
 
 sure_known : (isa : Isa) (i : ℕ) (p : Passenger) (w : trail.Walk) → ((r : ℕ) → w.coming r ≡ false) → w.barred ≡ false → sure.Fits isa (Up i p) w → p.dead ≡ false → (missing p.src1 ≡ None) × (missing p.src2 ≡ None)
-sure_known isa i p w f b h d = go (sure_here isa i p w d b h)
+sure_known isa i p w f b h d = go (sure_at isa i p w d b h)
   where
     go : sure.SureAt isa p w → (missing p.src1 ≡ None) × (missing p.src2 ≡ None)
     go q = unfold sure.SureAt in (known p.src1 w.coming f q.1.source1, known p.src2 w.coming f q.1.source2)
@@ -304,9 +304,6 @@ no_head {rest} {out} l s x acc b lane h q =
     above_moves l s x i q.here q.who q.rest acc b h (record { at_here = q.at_here; sits = q.sits; free = free; was = was; stands = stands.0; each = stands.1; under = order.0; owes = owes; known1 = λ d. (sure_known (isa_of l) i q.who (trail.top s x) none refl fits.0 d).0; known2 = λ d. (sure_known (isa_of l) i q.who (trail.top s x) none refl fits.0 d).1; held = head_held l s b h.size q free owes })
 
 -- what is left, and that the next instruction can be issued
-asks_size : (a b : Option ℕ) → length (both a b) ≤ 2
-asks_size a b = grind arith
-
 issue_free : (l : Plan) (s : State) (c : Cell) (pc : ℕ) → Suits l → s.lane ≡ [] → s.fetch ≡ Running pc → cell_at s.cells 1 ≡ Some c → c.passenger ≡ None → row_bar l s (Issue Next) ≡ None
 issue_free l s c pc acc e f g h =
     let p : Passenger = fresh s.cache (fetched (isa_of l) s.mem pc) pc Next in

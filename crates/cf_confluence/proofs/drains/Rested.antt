@@ -31,6 +31,7 @@ use Rattle.cf_refinement.proofs.column.Sidings.{cells_in}
 use Rattle.cf_confluence.proofs.drains.Counted.{after_counts}
 use Rattle.cf_confluence.proofs.drains.Drains.{IsEmpty, stuck_empty}
 use Rattle.cf_confluence.proofs.drains.Tidy.{IsTidy, all_neat, is_neat, neat_parts}
+use Rattle.cf_refinement.proofs.claims.Lines.{gained_is}
 
 -- stages
 both_none : {A : Type 0} → (a b : List A) → a ++ b ≡ [] → (a ≡ []) × (b ≡ [])
@@ -107,9 +108,6 @@ unfolding is_drained opened
 drained_is l x s h = rw (h.cells, h.sidings, h.lane) (rw (no_cells l.stages, no_sidings l.sidings) refl)
 
 -- the count
-pub gained_is : (l : Plan) (x0 : Machine) (m : Moment) (h : HoldsAfter l x0 m) → gained x0 m.state ≡ h.gained
-gained_is l x0 m h = let c = h.count in omega (arith, c)
-
 pub after_gained : (l : Plan) (x0 : Machine) (m : Moment) (h : HoldsAfter l x0 m) → after (isa_of l) x0 (gained x0 m.state) ≡ Some h.machine
 after_gained l x0 m h = ap (after (isa_of l) x0) (gained_is l x0 m h) ∙ h.after
 

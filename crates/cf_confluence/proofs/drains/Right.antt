@@ -1,5 +1,5 @@
 -- A change leaves the number of passengers on the sequential path.
-use Rattle.std.proofs.Common.{◌≡◌, ℕ, Bool, true, false, ◌&&◌, refl, sym, ap, ◌∙◌, arith}
+use Rattle.std.proofs.Common.{◌≡◌, ℕ, Bool, true, false, ◌&&◌, refl, sym, ap, ◌∙◌, arith, true≢false}
 use Rattle.cf_bind.specs.declared.packet.Packet.{Packet}
 use Rattle.cf_bind.specs.declared.passenger.Passenger.{Passenger}
 use Rattle.cf_refinement.proofs.column.Fold.{Is_walk}
@@ -53,9 +53,6 @@ same_barred : (isa : Isa) (i : ℕ) (p : Passenger) (q r : trail.Walk) → q.bar
 unfolding trail.past
 same_barred isa i p q r a b = grind arith
 
-true_false : true ≡ false → ⊥
-true_false e = cc
-
 rider_follows : (isa : Isa) (i : ℕ) (p : Passenger) (w v : Way) → Follows w v → sure.Fits isa (Up i p) w.path → Follows (past isa (Up i p) w) (past isa (Up i p) v)
 rider_follows isa i p w v f h = go w.path.barred v.path.barred refl refl
   where
@@ -77,7 +74,7 @@ rider_follows isa i p w v f h = go w.path.barred v.path.barred refl refl
         record { path = q; count = n.0 ∙ f.count ∙ sym m.0; stop = n.2 ∙ f.stop ∙ sym m.2; on = λ e. absurd (cc); lost = λ _ _. m.1 }
     go false false a c =
         let m = same_count isa i p w v f.count (f.on c) (c ∙ sym a) (f.path.machine c) f.stop in
-        record { path = q; count = m.0; stop = m.2; on = λ _. m.1; lost = λ e d. let z = same_barred isa i p w.path v.path a c in absurd (true_false (sym d ∙ ap (λ (u : trail.Walk). u.barred) (past_path isa (Up i p) v) ∙ z ∙ sym (ap (λ (u : trail.Walk). u.barred) (past_path isa (Up i p) w)) ∙ e)) }
+        record { path = q; count = m.0; stop = m.2; on = λ _. m.1; lost = λ e d. let z = same_barred isa i p w.path v.path a c in absurd (true≢false (sym d ∙ ap (λ (u : trail.Walk). u.barred) (past_path isa (Up i p) v) ∙ z ∙ sym (ap (λ (u : trail.Walk). u.barred) (past_path isa (Up i p) w)) ∙ e)) }
 
 packet_follows : (isa : Isa) (i : ℕ) (k : Packet) (w v : Way) → Follows w v → Follows (past isa (Down i k) w) (past isa (Down i k) v)
 unfolding past trail.past

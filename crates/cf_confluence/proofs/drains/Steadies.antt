@@ -1,5 +1,5 @@
 -- Each move but Issue keeps the sum of what has retired and what stands on the path.
-use Rattle.std.proofs.Common.{◌≡◌, ℕ, zero, suc, List, [], ◌∷◌, ◌++◌, Option, Some, None, Bool, true, false, ◌&&◌, refl, sym, ap, subst, ◌∙◌, arith, length, add-one, sub-one, append_assoc}
+use Rattle.std.proofs.Common.{◌≡◌, ℕ, zero, suc, List, [], ◌∷◌, Option, Some, None, Bool, true, false, ◌&&◌, refl, sym, ap, subst, ◌∙◌, arith, length, add-one, sub-one}
 use Rattle.std.specs.Prelude.{slice_set}
 use Rattle.cf_bind.specs.Meeting.{meeting}
 use Rattle.cf_bind.specs.declared.cell.Cell.{Cell}
@@ -14,11 +14,10 @@ use Rattle.cf_refinement.proofs.moves.Access.{access_ready, next-access}
 use Rattle.cf_refinement.proofs.walks.Returning.{back, back_at, back_fits, back_past, goto_class}
 use Rattle.cf_refinement.proofs.walks.Bounds.{core_bounds}
 use Rattle.cf_refinement.proofs.column.Change.{Here, here}
-use Rattle.cf_refinement.proofs.column.Column.{climb_is, climb_was, column-at, column-pair, fall_is, fall_was, pair, place}
 use Rattle.cf_refinement.proofs.moves.Execute.{execute_ready, goes_straight, next-execute, sure_finishes}
-use Rattle.cf_refinement.proofs.moves.Fall.{fall_ready, next-fall, no_fall}
-use Rattle.cf_refinement.proofs.moves.Climb.{climb_ready, next-climb}
-use Rattle.cf_refinement.proofs.moves.Meet.{items_met, meet_ready, next-meet}
+use Rattle.cf_refinement.proofs.moves.Fall.{cells_fallen, fall_ready, fall_stretch, next-fall, no_fall}
+use Rattle.cf_refinement.proofs.moves.Climb.{cells_climbed, climb_ready, climb_stretch, next-climb}
+use Rattle.cf_refinement.proofs.moves.Meet.{meet_ready, meet_stretch, next-meet}
 use Rattle.cf_refinement.proofs.moves.Rows.{bar_row}
 use Rattle.cf_refinement.proofs.walks.Launching.{launch_path, sent_out}
 use Rattle.cf_refinement.proofs.moves.Launch.{Launches, in_port, launch_ready, launched_out, launched_trap, next-launch, refused, trap_at, trap_path}
@@ -29,7 +28,7 @@ use Rattle.cf_refinement.proofs.moves.Recovering.{Recovers, hauls, next-recover,
 use Rattle.cf_refinement.proofs.moves.Recover.{docked_live, in_dead, in_live, landed, other_port, plain_class, sure_loads}
 use Rattle.cf_confluence.proofs.drains.Right.{Fits, Follows, finish_way, past_path}
 use Rattle.cf_confluence.proofs.drains.RightMoves.{launch_count, serve_ahead, trap_ahead}
-use Rattle.cf_refinement.proofs.moves.Send.{alone, next-send, send_ready}
+use Rattle.cf_refinement.proofs.moves.Send.{next-send, send_ready, send_stretch}
 use Rattle.cf_refinement.proofs.moves.Serve.{Scene, Serves, gave_at, gave_path, next-serve, quit, quit_at, quit_path, scene, serial_nowhere, serve_ready}
 use Rattle.cf_refinement.proofs.column.Sidings.{last_answer, plain_last}
 use Rattle.cf_refinement.proofs.moves.Slide.{next-slide, slide_ready}
@@ -39,10 +38,10 @@ use Rattle.cf_refinement.proofs.invariant.Invariant.{Sound}
 use Rattle.cf_refinement.proofs.invariant.Stands.{Stands}
 use Rattle.cf_refinement.proofs.invariant.Suited.{Suits}
 use Rattle.cf_semantics.specs.Bars.{bar}
-use Rattle.cf_semantics.specs.Column.{Down, Item, Up, column, column_from, packet_in, passenger_in}
+use Rattle.cf_semantics.specs.Column.{Down, Item, Up}
 use Rattle.cf_semantics.specs.Instructions.{Stops, access_trap, behind, is_memory, serve_of, step_at}
 use Rattle.cf_semantics.specs.Layouts.{isa_of}
-use Rattle.cf_semantics.specs.Moves.{answered, next, back_in, cell_met, launch_trap, launched, moved, operation, set_last, with_passenger, without_packet, without_passenger}
+use Rattle.cf_semantics.specs.Moves.{answered, next, back_in, cell_met, launch_trap, launched, moved, operation, set_last, with_passenger}
 use Rattle.cf_semantics.specs.Options.{on}
 use Rattle.cf_semantics.specs.Passengers.{finish, goto_undone, guessed, instruction, kind, missing, trapped, value_in}
 use Rattle.cf_semantics.specs.Right.{way, Way, begin, follows, past, past_passenger, stops}
@@ -60,43 +59,21 @@ use Rattle.cf_refinement.proofs.walks.Path as paths
 use Rattle.cf_refinement.proofs.invariant.Sure as sure
 use Rattle.cf_semantics.specs.Path as trail
 use Rattle.cf_semantics.specs.Soundness.{IsAnswer}
-
-regroup : (a r m k b : List Item) → a ++ ((r ++ (m ++ k)) ++ b) ≡ (a ++ r) ++ (m ++ (k ++ b))
-regroup a r m k b = rw (append_assoc r (m ++ k) b, append_assoc m k b, append_assoc a r (m ++ (k ++ b)))
+use Rattle.cf_refinement.proofs.walks.Path.{sure_at}
 
 pub climb_steady : {rest out : List ℕ} (l : Plan) (s : State) (x : Machine) (i : ℕ) → bar l s (Climb i) ≡ None → Sound l s rest out x → Steady (way (isa_of l) s x) (way (isa_of l) (moved l s (Climb i)) x)
 climb_steady {rest} {out} l s x i e h =
     let r = climb_ready l s i (bar_row l s (Climb i) e) in
-    let p = pair s.cells i r.low r.high r.at_low r.at_high in
-    let c : Cell = without_passenger r.low in
-    let d : Cell = record r.high { passenger = r.low.passenger; met = false } in
-    let up = column_from (suc (suc i)) p.above in
-    let under = column_from 1 p.below in
-    let rs = packet_in (suc i) r.high.packet in
-    let ks = packet_in i r.low.packet in
-    let was : column s ≡ (up ++ rs) ++ (Up i r.who ∷ [] ++ (ks ++ under)) =
-    ap (column_from 1) p.split ∙ column-pair i p.below p.above r.low r.high p.number ∙ ap (λ (m : List Item). up ++ (m ++ under)) (climb_was i (suc i) r.low r.high r.who r.sits r.empty r.clear) ∙ regroup up rs (Up i r.who ∷ []) ks under in
-    let is : column_from 1 (put_cell (put_cell s.cells i c) (suc i) d) ≡ (up ++ rs) ++ (Up (suc i) r.who ∷ [] ++ (ks ++ under)) =
-    ap (column_from 1) (p.set c d) ∙ column-pair i p.below p.above c d p.number ∙ ap (λ (m : List Item). up ++ (m ++ under)) (climb_is i (suc i) r.low r.high r.who r.sits r.empty r.clear) ∙ regroup up rs (Up (suc i) r.who ∷ []) ks under in
-    let t : State = record s { cells = put_cell (put_cell s.cells i c) (suc i) d } in
-    rw (next-climb l s i r.low r.high r.at_low r.at_high, add-one) (way_changed (isa_of l) s t x (up ++ rs) (Up i r.who ∷ []) (Up (suc i) r.who ∷ []) (ks ++ under) was is refl h.path_fit (λ _. rider_relabel (isa_of l) i (suc i) r.who _))
+    let q = climb_stretch l s i r in
+    let t : State = record s { cells = cells_climbed s i r.low r.high } in
+    rw (next-climb l s i r.low r.high r.at_low r.at_high, add-one) (way_changed (isa_of l) s t x q.above (Up i r.who ∷ []) (Up (suc i) r.who ∷ []) q.below q.was q.is refl h.path_fit (λ _. rider_relabel (isa_of l) i (suc i) r.who _))
 
 fall_up : {rest out : List ℕ} (l : Plan) (s : State) (x : Machine) (i : ℕ) → bar l s (Fall (suc i)) ≡ None → Sound l s rest out x → Steady (way (isa_of l) s x) (way (isa_of l) (moved l s (Fall (suc i))) x)
 fall_up {rest} {out} l s x i e h =
     let r = fall_ready l s i (bar_row l s (Fall (suc i)) e) in
-    let p = pair s.cells i r.low r.high r.at_low r.at_high in
-    let c : Cell = record r.low { packet = r.high.packet; met = false } in
-    let d : Cell = without_packet r.high in
-    let up = column_from (suc (suc i)) p.above in
-    let under = column_from 1 p.below in
-    let rs = passenger_in (suc i) r.high.passenger in
-    let ks = passenger_in i r.low.passenger in
-    let was : column s ≡ (up ++ rs) ++ (Down (suc i) r.what ∷ [] ++ (ks ++ under)) =
-    ap (column_from 1) p.split ∙ column-pair i p.below p.above r.low r.high p.number ∙ ap (λ (m : List Item). up ++ (m ++ under)) (fall_was i (suc i) r.low r.high r.what r.lies r.empty r.clear) ∙ regroup up rs (Down (suc i) r.what ∷ []) ks under in
-    let is : column_from 1 (put_cell (put_cell s.cells (suc i) d) i c) ≡ (up ++ rs) ++ (Down i r.what ∷ [] ++ (ks ++ under)) =
-    ap (column_from 1) (p.set_down c d) ∙ column-pair i p.below p.above c d p.number ∙ ap (λ (m : List Item). up ++ (m ++ under)) (fall_is i (suc i) r.low r.high r.what r.lies r.empty r.clear) ∙ regroup up rs (Down i r.what ∷ []) ks under in
-    let t : State = record s { cells = put_cell (put_cell s.cells (suc i) d) i c } in
-    rw (next-fall l s i r.high r.low r.at_high r.at_low, sub-one) (way_changed (isa_of l) s t x (up ++ rs) (Down (suc i) r.what ∷ []) (Down i r.what ∷ []) (ks ++ under) was is refl h.path_fit (λ _. packet_relabel (isa_of l) (suc i) i r.what _))
+    let q = fall_stretch s i r in
+    let t : State = record s { cells = cells_fallen s i r.low r.high } in
+    rw (next-fall l s i r.high r.low r.at_high r.at_low, sub-one) (way_changed (isa_of l) s t x q.above (Down (suc i) r.what ∷ []) (Down i r.what ∷ []) q.below q.was q.is refl h.path_fit (λ _. packet_relabel (isa_of l) (suc i) i r.what _))
 
 pub fall_steady : {rest out : List ℕ} (l : Plan) (s : State) (x : Machine) (i : ℕ) → bar l s (Fall i) ≡ None → Sound l s rest out x → Steady (way (isa_of l) s x) (way (isa_of l) (moved l s (Fall i)) x)
 fall_steady {rest} {out} l s x zero e h = absurd (no_fall l s (bar_row l s (Fall zero) e))
@@ -105,32 +82,19 @@ fall_steady {rest} {out} l s x (suc i) e h = fall_up l s x i e h
 pub meet_steady : {rest out : List ℕ} (l : Plan) (s : State) (x : Machine) (i : ℕ) → bar l s (Meet i) ≡ None → Sound l s rest out x → Steady (way (isa_of l) s x) (way (isa_of l) (moved l s (Meet i)) x)
 meet_steady {rest} {out} l s x i e h =
     let r = meet_ready l s i (bar_row l s (Meet i) e) in
-    let p = place s.cells i r.here r.at_here in
-    let d : Cell = cell_met r.here r.who r.what in
-    let up = column_from (suc i) p.above in
-    let under = column_from 1 p.below in
-    let q = (meeting r.who r.what).passenger in
-    let o = (meeting r.who r.what).packet in
-    let was : column s ≡ up ++ ((Down i r.what ∷ Up i r.who ∷ []) ++ under) =
-    ap (column_from 1) p.split ∙ column-at i p.below p.above r.here p.number ∙ rw (r.sits, r.lies, r.apart) refl in
-    let is : column_from 1 (put_cell s.cells i d) ≡ up ++ (pathmeet.met_items i q o ++ under) =
-    ap (column_from 1) (p.set d) ∙ column-at i p.below p.above d p.number ∙ ap (λ (m : List Item). up ++ (m ++ under)) (items_met i q o) in
-    let k = here l s x up (Down i r.what ∷ Up i r.who ∷ []) under was h in
-    rw (next-meet l s i r.here r.who r.what r.at_here r.sits r.lies) (way_changed (isa_of l) s (with_cell s i d) x up (Down i r.what ∷ Up i r.who ∷ []) (pathmeet.met_items i q o) under was is refl h.path_fit (λ _. meet_way (isa_of l) i r.who r.what _ (subst (λ (w : trail.Walk). Everywhere (sure.Fits (isa_of l)) (trail.past (isa_of l)) (Down i r.what ∷ Up i r.who ∷ []) w) (sym (walk_way (isa_of l) up (begin s x))) k.path_fit)))
+    let p = meet_stretch s i r in
+    let old : List Item = Down i r.what ∷ Up i r.who ∷ [] in
+    let new = pathmeet.met_items i (meeting r.who r.what).passenger (meeting r.who r.what).packet in
+    let k = here l s x p.above old p.below p.was h in
+    rw (next-meet l s i r.here r.who r.what r.at_here r.sits r.lies) (way_changed (isa_of l) s (with_cell s i (cell_met r.here r.who r.what)) x p.above old new p.below p.was p.is refl h.path_fit (λ _. meet_way (isa_of l) i r.who r.what _ (subst (λ (w : trail.Walk). Everywhere (sure.Fits (isa_of l)) (trail.past (isa_of l)) old w) (sym (walk_way (isa_of l) p.above (begin s x))) k.path_fit)))
 
 pub send_steady : {rest out : List ℕ} (l : Plan) (s : State) (x : Machine) (i : ℕ) → bar l s (Send i) ≡ None → Sound l s rest out x → Steady (way (isa_of l) s x) (way (isa_of l) (moved l s (Send i)) x)
 send_steady {rest} {out} l s x i e h =
     let r = send_ready l s i (bar_row l s (Send i) e) in
-    let p = place s.cells i r.here r.at_here in
     let q : Passenger = record r.who { owes = None } in
     let d : Cell = record { passenger = Some q; packet = Some r.what; met = true } in
-    let up = column_from (suc i) p.above in
-    let under = column_from 1 p.below in
-    let was : column s ≡ up ++ ((Up i r.who ∷ []) ++ under) =
-    ap (column_from 1) p.split ∙ column-at i p.below p.above r.here p.number ∙ rw (r.sits, r.free, alone r.here.met (Up i r.who ∷ [])) refl in
-    let is : column_from 1 (put_cell s.cells i d) ≡ up ++ ((Up i q ∷ Down i r.what ∷ []) ++ under) =
-    ap (column_from 1) (p.set d) ∙ column-at i p.below p.above d p.number in
-    rw (next-send l s i r.here r.who r.what r.at_here r.sits r.owes) (way_changed (isa_of l) s (with_cell s i d) x up (Up i r.who ∷ []) (Up i q ∷ Down i r.what ∷ []) under was is refl h.path_fit (send_way (isa_of l) i r.who r.what _ r.owes))
+    let p = send_stretch s i r in
+    rw (next-send l s i r.here r.who r.what r.at_here r.sits r.owes) (way_changed (isa_of l) s (with_cell s i d) x p.above (Up i r.who ∷ []) (Up i q ∷ Down i r.what ∷ []) p.below p.was p.is refl h.path_fit (send_way (isa_of l) i r.who r.what _ r.owes))
 
 owes_nothing : (l : Plan) (i : ℕ) (p : Passenger) → p.done ≡ false → Stands l i p → p.owes ≡ None
 owes_nothing l i p d h = go p.owes refl
@@ -138,10 +102,6 @@ owes_nothing l i p d h = go p.owes refl
     go : (o : Option Packet) → p.owes ≡ o → p.owes ≡ None
     go None e = e
     go (Some k) e = absurd (let z = h.owes_done (rw e refl) in cc)
-
-sure_at : (isa : Isa) (i : ℕ) (p : Passenger) (w : trail.Walk) → p.dead ≡ false → w.barred ≡ false → sure.Fits isa (Up i p) w → sure.SureAt isa p w
-unfolding sure.Fits
-sure_at isa i p w d b h = grind arith
 
 pub execute_steady : {rest out : List ℕ} (l : Plan) (s : State) (x : Machine) (i : ℕ) → Suits l → bar l s (Execute i) ≡ None → Sound l s rest out x → Steady (way (isa_of l) s x) (way (isa_of l) (moved l s (Execute i)) x)
 execute_steady {rest} {out} l s x i acc e h =

@@ -104,7 +104,11 @@ top_of i (c ∷ cs) f = go (top_of (suc i) cs (λ k d e. f (suc k) d e)) c.passe
 
 -- bars of the topmost passenger's moves
 pub known : (o : Option Binding) (coming : ℕ → Bool) → ((r : ℕ) → coming r ≡ false) → sure.Comes o coming → missing o ≡ None
-known o coming f h = grind arith
+known o coming f h = go (missing o) refl
+  where
+    go : (m : Option ℕ) → missing o ≡ m → missing o ≡ None
+    go None e = e
+    go (Some r) e = absurd (let z = sym (f r) ∙ h r e in cc)
 
 pub owes_none : (c : Cell) (p : Passenger) → c.passenger ≡ Some p → c.packet ≡ None → send_bar c ≢ None → p.owes ≡ None
 owes_none c p e f n = go p.owes refl

@@ -18,10 +18,11 @@ use Rattle.cf_semantics.specs.Layouts.{port}
 use Rattle.cf_semantics.specs.Bars.{bar, running, last_op}
 use Rattle.cf_semantics.specs.Options.{is_some, on}
 use Rattle.cf_semantics.specs.State.{State, Moment, cell_at, put_cell, siding_at}
-use Rattle.cf_semantics.specs.Moves.{asked, cell_met, emitted, launch_trap, launched, left, moved, next, recovered, sent, served, with_passenger, without_passenger}
+use Rattle.cf_semantics.specs.Moves.{asked, cell_met, emitted, launch_trap, launched, left, moved, next, recovered, sent, served, with_passenger}
 use Rattle.cf_refinement.proofs.moves.Rows.{bar_row}
 use Rattle.cf_refinement.proofs.moves.Send.{send_ready}
 use Rattle.cf_semantics.specs.Runs.{IsRun, run, opened, empty_cell, empty_siding}
+use Rattle.cf_refinement.proofs.moves.Leave.{left_cells}
 
 -- it has met only where both are there
 abbrev pub is_neat : Cell → Bool
@@ -90,9 +91,6 @@ sent_neat p k e = rw e refl
 emit_neat : (s : State) (n : ℕ) (lane : List ℕ) (c : Cell) → all_neat s.cells ≡ true → all_neat (emitted s n lane c).cells ≡ true
 emit_neat s n [] c h = h
 emit_neat s n (r ∷ lane) c h = put_neat s.cells n _ h refl
-
-left_cells : (s : State) (n : ℕ) (c : Cell) (p : Passenger) → (left s n c p).cells ≡ put_cell s.cells n (without_passenger c)
-left_cells s n c p = grind arith
 
 leave_neat : (s : State) (n : ℕ) (c : Cell) (p : Passenger) → all_neat s.cells ≡ true → all_neat (left s n c p).cells ≡ true
 leave_neat s n c p h = ap all_neat (left_cells s n c p) ∙ put_neat s.cells n _ h refl

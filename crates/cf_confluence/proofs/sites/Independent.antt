@@ -1,5 +1,5 @@
 -- Independent moves can be made in either order.
-use Rattle.std.proofs.Common.{◌≡◌, None, Bool, true, false, ◌||◌, refl, sym, ap, ◌∙◌, arith}
+use Rattle.std.proofs.Common.{◌≡◌, None, Bool, true, false, refl, sym, ap, ◌∙◌, arith}
 use Rattle.cf_layout.specs.Layout.{Plan}
 use Rattle.cf_bind.specs.declared.moves.Move.{Move}
 use Rattle.cf_bind.specs.declared.moves.Move.TheVariants.{Issue, Emit, Climb, Fall, Meet, Execute, Send, Launch, Slide, Access, Recover, Leave, Exit, Serve}
@@ -10,11 +10,7 @@ use Rattle.cf_semantics.specs.Sites.{AreAlike, AreIndependent, Failure, Site, re
 use Rattle.cf_confluence.proofs.sites.Effects.{Effect, effect, moved_applied}
 use Rattle.cf_confluence.proofs.sites.Locals.{has_law}
 use Rattle.cf_confluence.proofs.sites.Touches.{effects_swap, framed, made, touches, untouched}
-
-neither : (a b : Bool) → (a || b) ≡ false → (a ≡ false) × (b ≡ false)
-neither false false e = (refl, refl)
-neither false true e = absurd (cc)
-neither true b e = absurd (cc)
+use Rattle.std.proofs.lemmas.Bool.{or_parts}
 
 pub turned_round : (l : Plan) (s : State) (a b : Move) → AreIndependent l s a b → AreIndependent l s b a
 turned_round l s a b i = record { first = i.second; second = i.first }
@@ -32,7 +28,7 @@ serve_writes l s = refl
 
 no_serve : (l : Plan) (s : State) (a b : Move) → AreIndependent l s a b → is_serve a ≡ false
 unfolding is_serve
-no_serve l s Serve b i = absurd (let z = (neither (reads l s b Failure) (writes l s b Failure) (i.first Failure (serve_writes l s))).0 in let y = reads_failure l s b in clash (sym y ∙ z))
+no_serve l s Serve b i = absurd (let z = (or_parts (reads l s b Failure) (writes l s b Failure) (i.first Failure (serve_writes l s))).0 in let y = reads_failure l s b in clash (sym y ∙ z))
   where
     clash : true ≡ false → ⊥
     clash e = cc
@@ -78,7 +74,7 @@ not_touched l m a b i e x r = go (touches (effect l m.state a) x) refl
     go false t = t
     go true t =
         let w = (has_law l m a).within e x t in
-        let z = (neither (reads l m.state b x) (writes l m.state b x) (i.first x w)).0 in
+        let z = (or_parts (reads l m.state b x) (writes l m.state b x) (i.first x w)).0 in
         absurd (clash (sym r ∙ z))
 
 alike_after : (l : Plan) (m : Moment) (a b : Move) → AreIndependent l m.state a b → bar l m.state a ≡ None → AreAlike (reads l m.state b) m (made (effect l m.state a) m)
@@ -105,7 +101,7 @@ apart l m a b i e f x t = go (touches (effect l m.state b) x) refl
     go true u =
         let w = (has_law l m a).within e x t in
         let v = (has_law l m b).within f x u in
-        let z = (neither (reads l m.state b x) (writes l m.state b x) (i.first x w)).1 in
+        let z = (or_parts (reads l m.state b x) (writes l m.state b x) (i.first x w)).1 in
         absurd (clash (sym v ∙ z))
 
 pub same_moment : (l : Plan) (m : Moment) (a b : Move) → AreIndependent l m.state a b → bar l m.state a ≡ None → bar l m.state b ≡ None → next l (next l m a) b ≡ next l (next l m b) a

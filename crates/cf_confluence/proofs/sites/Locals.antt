@@ -27,7 +27,8 @@ use Rattle.cf_refinement.proofs.moves.Leave.{leave_ready}
 use Rattle.cf_refinement.proofs.moves.Recovering.{recover_ready}
 use Rattle.cf_confluence.proofs.sites.Contents.{answer_same, fetched_same}
 use Rattle.cf_confluence.proofs.sites.Effects.{Effect, effect, nothing, one_stage, two_stages, issue_effect, emit_effect, launch_effect, slide_effect, access_effect, recover_effect, leave_as, exit_effect}
-use Rattle.cf_confluence.proofs.sites.Touches.{touches}
+use Rattle.cf_confluence.proofs.sites.Touches.{self, self_cell, touches}
+use Rattle.std.proofs.lemmas.Bool.{or_left, or_right}
 
 -- its bar and its effect, by what it reads; and where its effect is made
 pub record HasLaw (l : Plan) (m : Moment) (mv : Move) : Type 0 where
@@ -36,7 +37,7 @@ pub record HasLaw (l : Plan) (m : Moment) (mv : Move) : Type 0 where
   pub within : bar l m.state mv ≡ None → (x : Site) → touches (effect l m.state mv) x ≡ true → writes l m.state mv x ≡ true
 
 -- what is the same
-stage_same : (m t : Moment) (i : ℕ) → content m (Stage i) ≡ content t (Stage i) → cell_at m.state.cells i ≡ cell_at t.state.cells i
+pub stage_same : (m t : Moment) (i : ℕ) → content m (Stage i) ≡ content t (Stage i) → cell_at m.state.cells i ≡ cell_at t.state.cells i
 stage_same m t i e = cc
 
 op_same : (m t : Moment) (k c : ℕ) → content m (SidingCell k c) ≡ content t (SidingCell k c) → slice_get (siding_at m.state k) c ≡ slice_get (siding_at t.state k) c
@@ -69,19 +70,11 @@ ended_same m t e = cc
 failed_same : (m t : Moment) → content m Failure ≡ content t Failure → m.state.failed ≡ t.state.failed
 failed_same m t e = cc
 
-left_or : (a b : Bool) → a ≡ true → (a || b) ≡ true
-left_or true b e = refl
-left_or false b e = absurd (cc)
-
-right_or : (a b : Bool) → b ≡ true → (a || b) ≡ true
-right_or true b e = refl
-right_or false b e = e
-
 used : (l : Plan) (m t : Moment) (mv : Move) → AreAlike (reads l m.state mv) m t → (x : Site) → uses l m.state mv x ≡ true → content m x ≡ content t x
-used l m t mv h x e = h.sites x (left_or (uses l m.state mv x) (only_reads mv x) e)
+used l m t mv h x e = h.sites x (or_left (uses l m.state mv x) (only_reads mv x) e)
 
 read : (l : Plan) (m t : Moment) (mv : Move) → AreAlike (reads l m.state mv) m t → (x : Site) → only_reads mv x ≡ true → content m x ≡ content t x
-read l m t mv h x e = h.sites x (right_or (uses l m.state mv x) (only_reads mv x) e)
+read l m t mv h x e = h.sites x (or_right (uses l m.state mv x) (only_reads mv x) e)
 
 reads_ended : (mv : Move) → (only_reads mv Ended ≡ true) × (only_reads mv Failure ≡ true)
 reads_ended mv = (grind arith, grind arith)
@@ -90,12 +83,6 @@ reads_ended mv = (grind arith, grind arith)
 by_row : (l : Plan) (m t : Moment) (mv : Move) → AreAlike (reads l m.state mv) m t → row_bar l m.state mv ≡ row_bar l t.state mv → bar l m.state mv ≡ bar l t.state mv
 unfolding bar
 by_row l m t mv h e = rw (ended_same m t (read l m t mv h Ended (reads_ended mv).0), failed_same m t (read l m t mv h Failure (reads_ended mv).1), e) refl
-
-self : (i : ℕ) (b : Bool) → ((i == i) || b) ≡ true
-self i b = grind arith
-
-self_cell : (k c : ℕ) (b : Bool) → (((k == k) && (c == c)) || b) ≡ true
-self_cell k c b = grind arith
 
 on_same : {A B : Type 0} → (o : Option A) (d : B) (f g : A → B) → ((a : A) → f a ≡ g a) → on o d f ≡ on o d g
 on_same None d f g h = refl

@@ -1,5 +1,5 @@
 -- The table of sites is right: a move leaves what it does not write, and what it does depends on what it reads alone.
-use Rattle.std.proofs.Common.{◌≡◌, ◌≢◌, ℕ, zero, suc, List, [], ◌∷◌, ◌++◌, Option, Some, None, Bool, true, false, ◌==◌, ◌||◌, refl, sym, ap, subst, ◌∙◌, arith}
+use Rattle.std.proofs.Common.{◌≡◌, ℕ, zero, suc, List, [], ◌∷◌, ◌++◌, Option, Some, None, Bool, true, false, ◌==◌, ◌||◌, refl, sym, ap, subst, ◌∙◌, arith}
 use Rattle.std.specs.Prelude.{slice_get, slice_set, unwrap_or}
 use Rattle.mem_regions.specs.Memory as regions
 use Rattle.mem_regions.specs.Access.{bounds_of}
@@ -27,13 +27,10 @@ use Rattle.cf_refinement.proofs.instructions.Steps.{served_bounds}
 use Rattle.cf_confluence.proofs.sites.Contents.{after_break, after_same, memory_same}
 use Rattle.cf_confluence.proofs.sites.Effects.{CellPut, Effect, StagePut, effect, put_op, put_ops, put_stages}
 use Rattle.cf_confluence.proofs.sites.Independent.{is_serve, next_made}
-use Rattle.cf_confluence.proofs.sites.Locals.{has_law}
-use Rattle.cf_confluence.proofs.sites.Touches.{accessing, cell_other, codes_stay, framed, made, op_other, get_other, touches, untouched}
+use Rattle.cf_confluence.proofs.sites.Locals.{has_law, stage_same}
+use Rattle.cf_confluence.proofs.sites.Touches.{accessing, cell_other, codes_stay, framed, made, op_other, get_other, touches, untouched, differ}
 
 -- a put leaves the same where the same was
-differ : (i j : ℕ) → (i == j) ≡ false → i ≢ j
-differ i j e f = grind (arith, e, f)
-
 alike : (i j : ℕ) → (i == j) ≡ true → i ≡ j
 alike i j e = grind (arith, e)
 
@@ -90,9 +87,6 @@ break_stays (Some op) m = after_break op.instr op.a op.b m
 two : {bytes others : List (List ℕ)} {a b : ℕ} → bytes ≡ others → a ≡ b → OfMemory bytes a ≡ OfMemory others b
 two e f = rw (e, f) refl
 
-stage_in : (m t : Moment) (i : ℕ) → content m (Stage i) ≡ content t (Stage i) → cell_at m.state.cells i ≡ cell_at t.state.cells i
-stage_in m t i e = cc
-
 bytes_in : (m t : Moment) → content m Memory ≡ content t Memory → (bytes_of m.state.mem ≡ bytes_of t.state.mem) × (m.state.mem.program_break ≡ t.state.mem.program_break)
 bytes_in m t e = (cc, cc)
 
@@ -146,11 +140,11 @@ written_read l s mv x w = go (uses l s mv x) refl
 
 -- the event
 event_same : (l : Plan) (m t : Moment) (mv : Move) (e : Event) → AreAlike (reads l m.state mv) m t → IsEvent l m.state mv e → IsEvent l t.state mv e
-event_same l m t (Meet i) e h v = v ∙ ap (λ (o : Option Cell). on o event.Plain (λ c. on c.passenger event.Plain (λ p. on c.packet event.Plain (meeting_event p)))) (stage_in m t i (h.sites (Stage i) (self i)))
+event_same l m t (Meet i) e h v = v ∙ ap (λ (o : Option Cell). on o event.Plain (λ c. on c.passenger event.Plain (λ p. on c.packet event.Plain (meeting_event p)))) (stage_same m t i (h.sites (Stage i) (self i)))
   where
     self : (i : ℕ) → reads l m.state (Meet i) (Stage i) ≡ true
     self i = grind arith
-event_same l m t Leave e h v = λ c p f g. v c p (stage_in m t l.stages (h.sites (Stage l.stages) (self l.stages)) ∙ f) g
+event_same l m t Leave e h v = λ c p f g. v c p (stage_same m t l.stages (h.sites (Stage l.stages) (self l.stages)) ∙ f) g
   where
     self : (n : ℕ) → reads l m.state Leave (Stage l.stages) ≡ true
     self n = grind arith

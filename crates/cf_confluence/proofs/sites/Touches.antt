@@ -16,6 +16,7 @@ use Rattle.cf_semantics.specs.Fetches.{Text, area_text, code_of}
 use Rattle.cf_refinement.proofs.column.Sidings.{cells_in}
 use Rattle.cf_refinement.proofs.instructions.Steps.{bounds_after, code_after}
 use Rattle.cf_confluence.proofs.sites.Effects.{Effect, StagePut, CellPut, applied, put_stages, put_op, put_ops}
+use Rattle.std.proofs.lemmas.Bool.{or_parts, or_right}
 
 abbrev pub any_stage : ℕ → List StagePut → Bool
 any_stage j [] = false
@@ -45,11 +46,7 @@ touches e Failure = false
 abbrev pub made : Effect → Moment → Moment
 made e m = record m { state = applied e m.state }
 
-either : (a b : Bool) → (a || b) ≡ false → (a ≡ false) × (b ≡ false)
-either false b e = (refl, e)
-either true b e = absurd (cc)
-
-differ : (i j : ℕ) → (i == j) ≡ false → i ≢ j
+pub differ : (i j : ℕ) → (i == j) ≡ false → i ≢ j
 differ i j e f = grind (arith, e, f)
 
 not_both : (k j c d : ℕ) → ((k == j) && (c == d)) ≡ false → k ≡ j → c ≡ d → ⊥
@@ -71,7 +68,7 @@ cell_other cells (suc i) (suc j) c e = get_other cells i j c (λ f. e (ap suc f)
 stages_other : (ps : List StagePut) (cells : List Cell) (j : ℕ) → any_stage j ps ≡ false → cell_at (put_stages ps cells) j ≡ cell_at cells j
 stages_other [] cells j e = refl
 stages_other (p ∷ ps) cells j e =
-    let z = either (j == p.stage) (any_stage j ps) e in
+    let z = or_parts (j == p.stage) (any_stage j ps) e in
     stages_other ps (put_cell cells p.stage p.cell) j z.1 ∙ cell_other cells p.stage j p.cell (differ j p.stage z.0)
 
 pub set_swap : {A : Type 0} → (q : List A) (i j : ℕ) (a b : A) → i ≢ j → slice_set (slice_set q i a) j b ≡ slice_set (slice_set q j b) i a
@@ -90,19 +87,15 @@ put_swap cells (suc i) (suc j) c d e = set_swap cells i j c d (λ f. e (ap suc f
 stage_past : (ps : List StagePut) (cells : List Cell) (j : ℕ) (d : Cell) → any_stage j ps ≡ false → put_stages ps (put_cell cells j d) ≡ put_cell (put_stages ps cells) j d
 stage_past [] cells j d e = refl
 stage_past (p ∷ ps) cells j d e =
-    let z = either (j == p.stage) (any_stage j ps) e in
+    let z = or_parts (j == p.stage) (any_stage j ps) e in
     ap (put_stages ps) (put_swap cells j p.stage d p.cell (differ j p.stage z.0)) ∙ stage_past ps (put_cell cells p.stage p.cell) j d z.1
 
-self : (i : ℕ) (b : Bool) → ((i == i) || b) ≡ true
+pub self : (i : ℕ) (b : Bool) → ((i == i) || b) ≡ true
 self i b = grind arith
-
-or_true : (a b : Bool) → b ≡ true → (a || b) ≡ true
-or_true true b e = refl
-or_true false b e = e
 
 stages_swap : (ps qs : List StagePut) (cells : List Cell) → ((j : ℕ) → any_stage j qs ≡ true → any_stage j ps ≡ false) → put_stages ps (put_stages qs cells) ≡ put_stages qs (put_stages ps cells)
 stages_swap ps [] cells h = refl
-stages_swap ps (q ∷ qs) cells h = stages_swap ps qs (put_cell cells q.stage q.cell) (λ j e. h j (or_true (j == q.stage) (any_stage j qs) e)) ∙ ap (put_stages qs) (stage_past ps cells q.stage q.cell (h q.stage (self q.stage (any_stage q.stage qs))))
+stages_swap ps (q ∷ qs) cells h = stages_swap ps qs (put_cell cells q.stage q.cell) (λ j e. h j (or_right (j == q.stage) (any_stage j qs) e)) ∙ ap (put_stages qs) (stage_past ps cells q.stage q.cell (h q.stage (self q.stage (any_stage q.stage qs))))
 
 -- sidings
 pub op_other : (ss : List (List (Option Op))) (k c j d : ℕ) (o : Option Op) → (j ≡ k → d ≡ c → ⊥) → slice_get (cells_in (put_op ss k c o) j) d ≡ slice_get (cells_in ss j) d
@@ -115,7 +108,7 @@ op_other (q ∷ ss) (suc k) c (suc j) d o e = op_other ss k c j d o (λ f. e (ap
 ops_other : (ps : List CellPut) (ss : List (List (Option Op))) (j d : ℕ) → any_cell j d ps ≡ false → slice_get (cells_in (put_ops ps ss) j) d ≡ slice_get (cells_in ss j) d
 ops_other [] ss j d e = refl
 ops_other (p ∷ ps) ss j d e =
-    let z = either ((j == p.siding) && (d == p.number)) (any_cell j d ps) e in
+    let z = or_parts ((j == p.siding) && (d == p.number)) (any_cell j d ps) e in
     ops_other ps (put_op ss p.siding p.number p.op) j d z.1 ∙ op_other ss p.siding p.number j d p.op (not_both j p.siding d p.number z.0)
 
 op_swap : (ss : List (List (Option Op))) (k c j d : ℕ) (o r : Option Op) → (k ≡ j → c ≡ d → ⊥) → put_op (put_op ss k c o) j d r ≡ put_op (put_op ss j d r) k c o
@@ -128,15 +121,15 @@ op_swap (q ∷ ss) (suc k) c (suc j) d o r e = ap (λ (l : List (List (Option Op
 op_past : (ps : List CellPut) (ss : List (List (Option Op))) (j d : ℕ) (r : Option Op) → any_cell j d ps ≡ false → put_ops ps (put_op ss j d r) ≡ put_op (put_ops ps ss) j d r
 op_past [] ss j d r e = refl
 op_past (p ∷ ps) ss j d r e =
-    let z = either ((j == p.siding) && (d == p.number)) (any_cell j d ps) e in
+    let z = or_parts ((j == p.siding) && (d == p.number)) (any_cell j d ps) e in
     ap (put_ops ps) (op_swap ss j d p.siding p.number r p.op (not_both j p.siding d p.number z.0)) ∙ op_past ps (put_op ss p.siding p.number p.op) j d r z.1
 
-self_cell : (i j : ℕ) (b : Bool) → (((i == i) && (j == j)) || b) ≡ true
+pub self_cell : (i j : ℕ) (b : Bool) → (((i == i) && (j == j)) || b) ≡ true
 self_cell i j b = grind arith
 
 ops_swap : (ps qs : List CellPut) (ss : List (List (Option Op))) → ((j d : ℕ) → any_cell j d qs ≡ true → any_cell j d ps ≡ false) → put_ops ps (put_ops qs ss) ≡ put_ops qs (put_ops ps ss)
 ops_swap ps [] ss h = refl
-ops_swap ps (q ∷ qs) ss h = ops_swap ps qs (put_op ss q.siding q.number q.op) (λ j d e. h j d (or_true ((j == q.siding) && (d == q.number)) (any_cell j d qs) e)) ∙ ap (put_ops qs) (op_past ps ss q.siding q.number q.op (h q.siding q.number (self_cell q.siding q.number (any_cell q.siding q.number qs))))
+ops_swap ps (q ∷ qs) ss h = ops_swap ps qs (put_op ss q.siding q.number q.op) (λ j d e. h j d (or_right ((j == q.siding) && (d == q.number)) (any_cell j d qs) e)) ∙ ap (put_ops qs) (op_past ps ss q.siding q.number q.op (h q.siding q.number (self_cell q.siding q.number (any_cell q.siding q.number qs))))
 
 -- single parts
 given_other : {A : Type 0} → (o : Option A) (a : A) → is_some o ≡ false → unwrap_or o a ≡ a

@@ -47,7 +47,7 @@ aboard l p acc k d u h = go p.launched p.recovered refl refl
     go true false e f = absurd (serial_aboard l acc p k (h.out e f))
 
 -- Issue
-asks_size : (a b : Option ℕ) → length (both a b) ≤ 2
+pub asks_size : (a b : Option ℕ) → length (both a b) ≤ 2
 asks_size a b = grind arith
 
 issue_cell : (n d : ℕ) (c : Cell) (p : Passenger) → 0 < n → c.passenger ≡ None → p.owes ≡ None → cell_weight n d 1 (record c { passenger = Some p; met = false }) ≤ cell_weight n d 1 c + (2 * n + (2 * n + (d + 3)))

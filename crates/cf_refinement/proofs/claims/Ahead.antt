@@ -8,9 +8,8 @@ use Rattle.cf_bind.specs.declared.passenger.Passenger.{Passenger}
 use Rattle.cf_layout.specs.Layout.{Plan, launch_stage, siding_of}
 use Rattle.cf_refinement.proofs.column.Change.{past_safe}
 use Rattle.cf_refinement.proofs.walks.Goes.{ported_on, quiet_on}
-use Rattle.cf_refinement.proofs.instructions.Memory.{is_memory-is}
 use Rattle.cf_refinement.proofs.walks.Order.{past_path}
-use Rattle.cf_refinement.proofs.walks.Port.{ported_calm}
+use Rattle.cf_refinement.proofs.walks.Port.{open_of, ported_calm}
 use Rattle.cf_refinement.proofs.column.Sorted.{Riders, Sorted, riders_more, sorted}
 use Rattle.cf_refinement.proofs.invariant.Invariant.{Sound}
 use Rattle.cf_refinement.proofs.invariant.Stands.{Each, Stands}
@@ -29,6 +28,9 @@ use Rattle.cf_semantics.specs.Ahead as ahead
 use Rattle.cf_refinement.proofs.invariant.Port as dock
 use Rattle.cf_refinement.proofs.invariant.Sure as sure
 use Rattle.cf_semantics.specs.Path as trail
+use Rattle.cf_semantics.specs.Soundness.{may_turn}
+use Rattle.cf_refinement.proofs.instructions.Classes.{memory_is}
+use Rattle.cf_refinement.proofs.walks.Path.{sure_at}
 
 -- the machine so far is on the sequential path, t.live steps behind m's n-th
 pub record OnPath (isa : Isa) (m : Machine) (n : ℕ) (w : dock.Dock) (t : ahead.Tally) : Type 0 where
@@ -47,23 +49,19 @@ still p = not p.dead && (is_memory (kind p) && not p.done && not p.launched)
 pub still_low : (l : Plan) (i : ℕ) (p : Passenger) → Suits l → Stands l i p → still p ≡ true → i ≤ launch_stage l (port l)
 still_low l i p acc h e =
     let m : is_memory (kind p) ≡ true = grind arith in
-    let z : siding_of l (kind p) ≡ Some (port l) = rw (is_memory-is (kind p) m) acc.memory in
+    let z : siding_of l (kind p) ≡ Some (port l) = rw (memory_is (kind p) m) acc.memory in
     rw z at (h.low (grind arith) (grind arith) (grind arith))
 
 ported_high : (l : Plan) (i : ℕ) (p : Passenger) (a : Option ℕ) → Suits l → Stands l i p → ahead.has_ported p a ≡ true → launch_stage l (port l) ≤ i
 ported_high l i p a acc h e = go (ahead.has_served p) p.recovered refl refl
   where
     at : is_memory (kind p) ≡ true → siding_of l (kind p) ≡ Some (port l)
-    at m = rw (is_memory-is (kind p) m) acc.memory
+    at m = rw (memory_is (kind p) m) acc.memory
 
     go : (b c : Bool) → ahead.has_served p ≡ b → p.recovered ≡ c → launch_stage l (port l) ≤ i
     go true c f g = let s = h.served f in let o = acc.order Memory (port l) acc.memory in let q = acc.in_pipe Memory (port l) acc.memory in omega arith
     go false true f g = let m : is_memory (kind p) ≡ true = grind arith in let w = rw (at m) at (h.back g) in let o = acc.order Memory (port l) acc.memory in omega arith
     go false false f g = let m : is_memory (kind p) ≡ true = grind arith in let w = rw (at m) at (h.out (grind arith) g) in w.0
-
-pub sure_of : (isa : Isa) (i : ℕ) (p : Passenger) (w : trail.Walk) → p.dead ≡ false → w.barred ≡ false → sure.Fits isa (Up i p) w → sure.SureAt isa p w
-unfolding sure.Fits
-sure_of isa i p w d b h = grind arith
 
 pub sure_pc : (isa : Isa) (p : Passenger) (w : trail.Walk) (c : ℕ) → w.goto ≡ Some c → sure.SureAt isa p w → p.pc ≡ c
 unfolding sure.SureAt
@@ -72,13 +70,6 @@ sure_pc isa p w c e h = let z = sym h.0.path ∙ e in cc
 pub docked_of : (isa : Isa) (i : ℕ) (p : Passenger) (w : dock.Dock) → dock.Fits isa (Up i p) w → dock.DockedAt isa p w
 unfolding dock.Fits
 docked_of isa i p w h = h
-
-pub open_of : (w : dock.Dock) → (w.path.barred ≡ true → w.risky ≡ true) → w.risky ≡ false → w.path.barred ≡ false
-open_of w s r = go w.path.barred refl
-  where
-    go : (b : Bool) → w.path.barred ≡ b → w.path.barred ≡ false
-    go false e = e
-    go true e = absurd (let z = s e in cc)
 
 -- what a rider does to the walk, if it is live and sure
 pub sure_past : (isa : Isa) (i : ℕ) (p : Passenger) (w : dock.Dock) → p.dead ≡ false → w.path.barred ≡ false → ((dock.past isa (Up i p) w).path.machine ≡ behind (step_at isa w.path.machine p.pc) w.path.machine) × ((dock.past isa (Up i p) w).path.goto ≡ goto p)
@@ -89,15 +80,16 @@ pub dead_past : (isa : Isa) (i : ℕ) (p : Passenger) (w : dock.Dock) → p.dead
 unfolding dock.past trail.past
 dead_past isa i p w d = (grind arith, grind arith, grind arith)
 
-pub risk_past : (isa : Isa) (i : ℕ) (p : Passenger) (w : dock.Dock) → (dock.past isa (Up i p) w).risky ≡ false → (w.risky ≡ false) × (dock.risks p ≡ false)
+pub risk_past : (isa : Isa) (i : Item) (w : dock.Dock) → (dock.past isa i w).risky ≡ false → (w.risky ≡ false) × (may_turn i ≡ false)
 unfolding dock.past
-risk_past isa i p w e = (grind arith, grind arith)
+risk_past isa (Up i p) w e = (grind arith, grind arith)
+risk_past isa (Down i k) w e = (grind arith, grind arith)
 
-mem_past : (isa : Isa) (i : ℕ) (p : Passenger) (w : dock.Dock) (b : Bool) → ahead.has_ported p w.answer ≡ b → (dock.past isa (Up i p) w).mem ≡ (if b then (behind (step_at isa w.path.machine p.pc) w.path.machine).hart.mem else w.mem)
+pub mem_past : (isa : Isa) (i : ℕ) (p : Passenger) (w : dock.Dock) (b : Bool) → ahead.has_ported p w.answer ≡ b → (dock.past isa (Up i p) w).mem ≡ (if b then (behind (step_at isa w.path.machine p.pc) w.path.machine).hart.mem else w.mem)
 unfolding dock.past
 mem_past isa i p w b e = rw e refl
 
-answer_past : (isa : Isa) (i : ℕ) (p : Passenger) (w : dock.Dock) (t : ahead.Tally) → t.answer ≡ w.answer → (ahead.counted (Up i p) t).answer ≡ (dock.past isa (Up i p) w).answer
+pub answer_past : (isa : Isa) (i : ℕ) (p : Passenger) (w : dock.Dock) (t : ahead.Tally) → t.answer ≡ w.answer → (ahead.counted (Up i p) t).answer ≡ (dock.past isa (Up i p) w).answer
 unfolding dock.past ahead.counted
 answer_past isa i p w t e = rw e refl
 
@@ -112,9 +104,9 @@ result_past isa i k w t = (grind arith, grind arith, refl, refl, refl, λ e. gri
 -- at a rider
 pub live_on : (l : Plan) (m : Machine) (n i : ℕ) (p : Passenger) (w : dock.Dock) (t : ahead.Tally) → Stands l i p → sure.Fits (isa_of l) (Up i p) w.path → dock.Fits (isa_of l) (Up i p) w → (w.path.barred ≡ true → w.risky ≡ true) → p.dead ≡ false → (dock.past (isa_of l) (Up i p) w).risky ≡ false → still p ≡ false → OnPath (isa_of l) m n w t → OnPath (isa_of l) m n (dock.past (isa_of l) (Up i p) w) (ahead.counted (Up i p) t)
 live_on l m n i p w t s f k g d r b h =
-    let q = risk_past (isa_of l) i p w r in
+    let q = risk_past (isa_of l) (Up i p) w r in
     let o = open_of w g q.0 in
-    let certain = sure_of (isa_of l) i p w.path d o f in
+    let certain = sure_at (isa_of l) i p w.path d o f in
     let c = sure_pc (isa_of l) p w.path w.path.machine.hart.pc h.goto certain in
     let z = quiet_on l i p w s certain (docked_of (isa_of l) i p w k) d q.1 (still_off d) in
     let y = behind (step_at (isa_of l) w.path.machine p.pc) w.path.machine in
@@ -146,7 +138,7 @@ rider_reach l m n i p w t s f k g a o h = go (ahead.has_ported p w.answer) refl
         let calm = ported_calm (isa_of l) p w (docked_of (isa_of l) i p w k) e in
         let open' = open_of w g calm in
         let d : p.dead ≡ false = live p.dead refl in
-        let certain = sure_of (isa_of l) i p w.path d open' f in
+        let certain = sure_at (isa_of l) i p w.path d open' f in
         let on' = o e calm in
         let c = sure_pc (isa_of l) p w.path w.path.machine.hart.pc on'.goto certain in
         let y = behind (step_at (isa_of l) w.path.machine p.pc) w.path.machine in
@@ -178,8 +170,8 @@ walk_reach l m n (Up i p ∷ xs) w t b acc so ea fp fd g a low o h =
     parts c d e = (grind arith, grind arith)
 
     ahead_on : (d : Bool) → p.dead ≡ d → (dock.past (isa_of l) (Up i p) w).risky ≡ false → (b ≡ false) × (still p ≡ false) → OnPath (isa_of l) m n (dock.past (isa_of l) (Up i p) w) (ahead.counted (Up i p) t)
-    ahead_on true e r q = dead_on (isa_of l) m n i p w t e (o (risk_past (isa_of l) i p w r).0 q.0)
-    ahead_on false e r q = live_on l m n i p w t ea.0 fp.0 fd.0 g e r q.1 (o (risk_past (isa_of l) i p w r).0 q.0)
+    ahead_on true e r q = dead_on (isa_of l) m n i p w t e (o (risk_past (isa_of l) (Up i p) w r).0 q.0)
+    ahead_on false e r q = live_on l m n i p w t ea.0 fp.0 fd.0 g e r q.1 (o (risk_past (isa_of l) (Up i p) w r).0 q.0)
 walk_reach l m n (Down i k ∷ xs) w t b acc so ea fp fd g a low o h =
     let q = result_past (isa_of l) i k w t in
     walk_reach l m n xs (dock.past (isa_of l) (Down i k) w) (ahead.counted (Down i k) t) b acc so ea (rw (past_path (isa_of l) (Down i k) w) fp.1) fd.1 (past_safe (isa_of l) (Down i k) w g) (ap (λ (z : ahead.Tally). z.answer) q.4 ∙ a ∙ sym q.3) low (λ r e. let z = o (q.5 r) e in record { so_far = ap (λ (y : ahead.Tally). after (isa_of l) m (n + y.live)) q.4 ∙ z.so_far ∙ ap Some (sym q.0); goto = q.1 ∙ z.goto ∙ ap (λ (y : Machine). Some y.hart.pc) (sym q.0) }) (record { at = h.at; count = ap (λ (y : ahead.Tally). after (isa_of l) m (n + y.ported)) q.4 ∙ h.count; mem = q.2 ∙ h.mem })

@@ -7,7 +7,7 @@ use Rattle.cf_bind.specs.declared.passenger.Passenger.{Passenger}
 use Rattle.cf_layout.specs.Layout.{Plan, launch_stage}
 use Rattle.cf_refinement.proofs.walks.Answering.{Landed, walk_risky}
 use Rattle.cf_refinement.proofs.moves.Access.{access_scene}
-use Rattle.cf_refinement.proofs.claims.Ahead.{dead_past, docked_of, open_of, result_past, risk_past, still, still_low, sure_of, sure_past, sure_pc}
+use Rattle.cf_refinement.proofs.claims.Ahead.{dead_past, docked_of, result_past, risk_past, still, still_low, sure_past, sure_pc}
 use Rattle.cf_refinement.proofs.column.Change.{here, past_safe}
 use Rattle.cf_refinement.proofs.column.Column.{rider_first, top_cell}
 use Rattle.cf_refinement.proofs.column.Fold.{fit_front}
@@ -42,6 +42,9 @@ use Rattle.cf_refinement.proofs.walks.Order as order
 use Rattle.cf_semantics.specs.Right as right
 use Rattle.cf_refinement.proofs.invariant.Sure as sure
 use Rattle.cf_semantics.specs.Path as trail
+use Rattle.cf_semantics.specs.Soundness.{may_turn}
+use Rattle.cf_refinement.proofs.walks.Path.{sure_at}
+use Rattle.cf_refinement.proofs.walks.Port.{open_of}
 
 way_path : (isa : Isa) (i : Item) (w : right.Way) → (right.past isa i w).path ≡ trail.past isa i w.path
 unfolding right.past
@@ -85,15 +88,15 @@ result_way isa i k v o = o
 pub way_on : (l : Plan) (xs : List Item) (w : dock.Dock) (v : right.Way) → Each l xs → Everywhere (sure.Fits (isa_of l)) (trail.past (isa_of l)) xs w.path → Everywhere (dock.Fits (isa_of l)) (dock.past (isa_of l)) xs w → (w.path.barred ≡ true → w.risky ≡ true) → v.path ≡ w.path → v.on ≡ true → w.path.goto ≡ Some w.path.machine.hart.pc → Out xs → (walk (dock.past (isa_of l)) xs w).risky ≡ false → ((walk (right.past (isa_of l)) xs v).on ≡ true) × ((walk (dock.past (isa_of l)) xs w).path.goto ≡ Some (walk (dock.past (isa_of l)) xs w).path.machine.hart.pc) × ((walk (right.past (isa_of l)) xs v).path ≡ (walk (dock.past (isa_of l)) xs w).path)
 way_on l [] w v ea fp fd g q o e out r = (o, e, q)
 way_on l (Up i p ∷ xs) w v ea fp fd g q o e out r =
-    let risk = risk_past (isa_of l) i p w (walk_risky (isa_of l) xs (dock.past (isa_of l) (Up i p) w) r) in
+    let risk = risk_past (isa_of l) (Up i p) w (walk_risky (isa_of l) xs (dock.past (isa_of l) (Up i p) w) r) in
     let next' = go p.dead refl risk in
     way_on l xs (dock.past (isa_of l) (Up i p) w) (right.past (isa_of l) (Up i p) v) ea.1 (rw (order.past_path (isa_of l) (Up i p) w) fp.1) fd.1 (past_safe (isa_of l) (Up i p) w g) (way_path (isa_of l) (Up i p) v ∙ ap (trail.past (isa_of l) (Up i p)) q ∙ sym (order.past_path (isa_of l) (Up i p) w)) next'.0 next'.1 out.1 r
   where
-    go : (d : Bool) → p.dead ≡ d → (w.risky ≡ false) × (dock.risks p ≡ false) → ((right.past (isa_of l) (Up i p) v).on ≡ true) × ((dock.past (isa_of l) (Up i p) w).path.goto ≡ Some (dock.past (isa_of l) (Up i p) w).path.machine.hart.pc)
+    go : (d : Bool) → p.dead ≡ d → (w.risky ≡ false) × (may_turn (Up i p) ≡ false) → ((right.past (isa_of l) (Up i p) v).on ≡ true) × ((dock.past (isa_of l) (Up i p) w).path.goto ≡ Some (dock.past (isa_of l) (Up i p) w).path.machine.hart.pc)
     go true d risk = let z = dead_past (isa_of l) i p w d in (dead_way (isa_of l) i p v d o, z.1 ∙ e ∙ ap (λ (y : Machine). Some y.hart.pc) (sym z.0))
     go false d risk =
         let b = open_of w g risk.0 in
-        let certain = sure_of (isa_of l) i p w.path d b fp.0 in
+        let certain = sure_at (isa_of l) i p w.path d b fp.0 in
         let c = sure_pc (isa_of l) p w.path w.path.machine.hart.pc e certain in
         let z = quiet_on l i p w ea.0 certain (docked_of (isa_of l) i p w fd.0) d risk.1 (off d) in
         let s : trail.is_sure p v.path ≡ true = rw (q, d, b) refl in
@@ -109,7 +112,7 @@ way_on l (Down i k ∷ xs) w v ea fp fd g q o e out r =
 -- the highest passenger
 top_way : (isa : Isa) (s : State) (x : Machine) (n : ℕ) (p : Passenger) → p.dead ≡ false → sure.Fits isa (Up n p) (trail.top s x) → OnWay isa s x [] p
 top_way isa s x n p d f =
-    let certain = sure_of isa n p (trail.top s x) d refl f in
+    let certain = sure_at isa n p (trail.top s x) d refl f in
     record { sure = rw d refl; on = refl; pc = sure_pc isa p (trail.top s x) x.hart.pc refl certain }
 
 -- registers, memory and ending of a state

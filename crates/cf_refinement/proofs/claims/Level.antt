@@ -11,26 +11,23 @@ use Rattle.cf_semantics.specs.Ahead.{counted, has_served, one, ported_count, ser
 use Rattle.cf_semantics.specs.Bars.{bar}
 use Rattle.cf_semantics.specs.Column.{Item, column, column_from, items}
 use Rattle.cf_semantics.specs.Drained.{is_drained, is_empty, is_occupied}
-use Rattle.cf_semantics.specs.Moves.{left, moved, next, without_passenger}
+use Rattle.cf_semantics.specs.Moves.{moved, next, without_passenger}
 use Rattle.cf_semantics.specs.Options.{is_some, on}
 use Rattle.cf_semantics.specs.State.{Moment, State, cell_at, put_cell}
 use Rattle.cf_semantics.specs.Walks.{walk}
 use Rattle.cf_refinement.proofs.moves.Rows.{bar_row}
-use Rattle.cf_refinement.proofs.moves.Leave.{Leaves, leave_ready, next-leave}
+use Rattle.cf_refinement.proofs.moves.Leave.{Leaves, leave_ready, left_cells, next-leave}
 use Rattle.cf_refinement.proofs.claims.Runs as runs
+use Rattle.std.proofs.lemmas.Bool.{or_parts}
 
 -- nothing stands in the pipes
-either : (a b : Bool) → (a || b) ≡ false → (a ≡ false) × (b ≡ false)
-either false b e = (refl, e)
-either true b e = absurd (cc)
-
 vacant : (i : ℕ) (c : Cell) → is_occupied c ≡ false → items i c ≡ []
 vacant i c e = grind arith
 
 vacant_column : (i : ℕ) (cells : List Cell) → list_any is_occupied cells ≡ false → column_from i cells ≡ []
 vacant_column i [] e = refl
 vacant_column i (c ∷ cells) e =
-    let z = either (is_occupied c) (list_any is_occupied cells) e in
+    let z = or_parts (is_occupied c) (list_any is_occupied cells) e in
     rw (vacant_column (suc i) cells z.1) (vacant i c z.0)
 
 vacant_cells : (s : State) → is_drained s ≡ true → list_any is_occupied s.cells ≡ false
@@ -59,8 +56,8 @@ vacant_stage cells (suc k) e = go cells k e
   where
     go : (cells : List Cell) (k : ℕ) → list_any is_occupied cells ≡ false → on (slice_get cells k) false is_occupied ≡ false
     go [] k e = refl
-    go (c ∷ cells) zero e = (either (is_occupied c) (list_any is_occupied cells) e).0
-    go (c ∷ cells) (suc k) e = go cells k (either (is_occupied c) (list_any is_occupied cells) e).1
+    go (c ∷ cells) zero e = (or_parts (is_occupied c) (list_any is_occupied cells) e).0
+    go (c ∷ cells) (suc k) e = go cells k (or_parts (is_occupied c) (list_any is_occupied cells) e).1
 
 -- a drained state is level: no call was served, and nothing has passed the port
 pub drained_level : (plan : Plan) (s : State) → is_drained s ≡ true → (served_count plan s ≡ 0) × (ported_count plan s ≡ 0)
@@ -76,9 +73,6 @@ left_unserved cells (suc k) c = go cells k
     go [] k = refl
     go (d ∷ cells) zero = refl
     go (d ∷ cells) (suc k) = go cells k
-
-left_cells : (s : State) (n : ℕ) (c : Cell) (p : Passenger) → (left s n c p).cells ≡ put_cell s.cells n (without_passenger c)
-left_cells s n c p = grind arith
 
 leave_unserved : (plan : Plan) (s : State) → bar plan s Leave ≡ None → served_count plan (moved plan s Leave) ≡ 0
 leave_unserved plan s free =

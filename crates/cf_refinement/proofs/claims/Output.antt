@@ -6,12 +6,12 @@ use Rattle.cf_bind.specs.declared.cell.Cell.{Cell}
 use Rattle.cf_bind.specs.declared.packet.Packet.{Packet}
 use Rattle.cf_bind.specs.declared.passenger.Passenger.{Passenger}
 use Rattle.cf_layout.specs.Layout.{Plan}
-use Rattle.cf_refinement.proofs.claims.Ahead.{docked_of, open_of, sure_of, sure_pc}
+use Rattle.cf_refinement.proofs.claims.Ahead.{docked_of, sure_pc}
 use Rattle.cf_refinement.proofs.column.Change.{here}
 use Rattle.cf_refinement.proofs.column.Column.{top_cell}
 use Rattle.cf_refinement.proofs.column.Fold.{walk-append}
 use Rattle.cf_refinement.proofs.walks.Goes.{done_goes}
-use Rattle.cf_refinement.proofs.walks.Port.{served_calm}
+use Rattle.cf_refinement.proofs.walks.Port.{open_of, served_calm}
 use Rattle.cf_refinement.proofs.moves.Serve.{Idle}
 use Rattle.cf_refinement.proofs.column.Sorted.{Riders, riders_append, riders_below, riders_front}
 use Rattle.cf_refinement.proofs.column.Spot.{spot}
@@ -32,6 +32,7 @@ use Rattle.cf_semantics.specs.Ahead as ahead
 use Rattle.cf_refinement.proofs.invariant.Port as dock
 use Rattle.cf_refinement.proofs.invariant.Sure as sure
 use Rattle.cf_semantics.specs.Path as trail
+use Rattle.cf_refinement.proofs.walks.Path.{sure_at, sure_is}
 
 pub record Mute (w v : dock.Dock) : Type 0 where
   pub rest : v.rest ≡ w.rest
@@ -127,9 +128,6 @@ pub record Served (l : Plan) (s : State) (x : Machine) (rest out : List ℕ) : T
   pub is_rest : rest ≡ (behind (step_at (isa_of l) x who.pc) x).rest
   pub is_out : out ≡ (behind (step_at (isa_of l) x who.pc) x).output
 
-sure_by : (p : Passenger) (w : trail.Walk) → p.dead ≡ false → w.barred ≡ false → trail.is_sure p w ≡ true
-sure_by p w d b = grind arith
-
 alive : (p : Passenger) → ahead.has_served p ≡ true → p.dead ≡ false
 alive p g = go p.dead refl
   where
@@ -168,7 +166,7 @@ heard {rest} {out} l s x h = go l.stages refl h.size
         let k = here l s x q.above (Up l.stages p ∷ []) q.below q.was h in
         let calm = served_calm (isa_of l) p w (docked_of (isa_of l) l.stages p w k.port_fit.0) g in
         let live : p.dead ≡ false = alive p g in
-        let certain = sure_of (isa_of l) l.stages p w.path live (open_of w k.safe calm) (subst (λ (z : trail.Walk). sure.Fits (isa_of l) (Up l.stages p) z) (sym k.same) k.path_fit.0) in
+        let certain = sure_at (isa_of l) l.stages p w.path live (open_of w k.safe calm) (subst (λ (z : trail.Walk). sure.Fits (isa_of l) (Up l.stages p) z) (sym k.same) k.path_fit.0) in
         let same = idle_path (isa_of l) q.above (trail.top s x) up in
         let goto : w.path.goto ≡ Some x.hart.pc = ap (λ (z : trail.Walk). z.goto) k.same ∙ same.1 in
         let mach : w.path.machine ≡ x = ap (λ (z : trail.Walk). z.machine) k.same ∙ same.0 in
@@ -184,7 +182,7 @@ heard {rest} {out} l s x h = go l.stages refl h.size
           was = q.was;
           idle = up;
           count = z;
-          sure = ap (trail.is_sure p) (sym k.same) ∙ sure_by p w.path live (open_of w k.safe calm);
+          sure = ap (trail.is_sure p) (sym k.same) ∙ sure_is p w.path live (open_of w k.safe calm);
           pc = pc;
           goes = st;
           is_rest = ends.is_rest ∙ d.rest ∙ v.0 ∙ ap (λ (z : Machine). (behind (step_at (isa_of l) z p.pc) z).rest) mach;

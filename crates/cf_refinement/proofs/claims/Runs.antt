@@ -170,7 +170,7 @@ kept l x0 m mv acc e h = go mv e (going l m.state mv e) (subst (HoldsAt l m.stat
     go Serve e n k = same l m _ x0 n (serve_counts l m) h (serve_kept l m h.machine acc e k)
 
 -- the beginning
-empty_column : (i n : ℕ) → column_from i (replicate n empty_cell) ≡ []
+pub empty_column : (i n : ℕ) → column_from i (replicate n empty_cell) ≡ []
 empty_column i zero = refl
 empty_column i (suc n) = rw (empty_column (suc i) n) refl
 

@@ -7,7 +7,7 @@ use Rattle.cf_bind.specs.declared.moves.Move.{Move}
 use Rattle.cf_semantics.specs.Layouts.{isa_of}
 use Rattle.cf_semantics.specs.Runs.{IsRun, run, start}
 use Rattle.cf_semantics.specs.SoundAfter.{IsSoundAfter}
-use Rattle.cf_semantics.specs.Soundness.{CacheAgrees, FetchesOn, IsSound}
+use Rattle.cf_semantics.specs.Soundness.{IsSound}
 use Rattle.cf_semantics.specs.State.{State}
 use Rattle.cf_refinement.proofs.invariant.Invariant.{HoldsAt, Sound}
 use Rattle.cf_refinement.proofs.invariant.Suited.{Suits}
@@ -18,20 +18,12 @@ use Rattle.cf_refinement.proofs.claims.SoundnessPath.{first_barrier, path, sourc
 use Rattle.cf_refinement.proofs.claims.SoundnessPort.{memory_order, port}
 use Rattle.cf_refinement.proofs.claims.SoundnessSidings.{sidings, stops}
 
--- (c) fetch
-fetch : {rest out : List ℕ} (plan : Plan) (s : State) (x : Machine) → Sound plan s rest out x → FetchesOn (isa_of plan) s x
-fetch plan s x h = h.path_ends
-
--- (l) cache
-cache : {rest out : List ℕ} (plan : Plan) (s : State) (x : Machine) → Sound plan s rest out x → CacheAgrees (isa_of plan) s x
-cache plan s x h = h.cache
-
 -- the twelve parts
 pub sound_is : {rest out : List ℕ} (plan : Plan) (s : State) (x : Machine) → Sound plan s rest out x → IsSound plan (record { state = s; rest = rest; output = out }) x
 sound_is plan s x h = record {
   values = values plan s x h;
   path = path plan s x h;
-  fetch = fetch plan s x h;
+  fetch = h.path_ends;
   first_barrier = first_barrier plan s x h;
   stops = stops plan s x h;
   sidings = sidings plan s x h;
@@ -40,7 +32,7 @@ sound_is plan s x h = record {
   high_barriers = high_barriers plan s x h;
   memory_order = memory_order plan s x h;
   port = port plan s x h;
-  cache = cache plan s x h;
+  cache = h.cache;
 }
 
 -- every moment of a run that has not ended is sound

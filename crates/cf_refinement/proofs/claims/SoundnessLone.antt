@@ -17,20 +17,12 @@ use Rattle.cf_refinement.proofs.invariant.Invariant.{Sound}
 use Rattle.cf_refinement.proofs.invariant.Lone as lone
 use Rattle.cf_refinement.proofs.layouts.Accepted.{launch_is}
 use Rattle.cf_refinement.proofs.column.Fold.{fit_back, walk-append}
+use Rattle.cf_refinement.proofs.walks.Lone.{no_rider, shut_past}
 
 -- below what nothing may follow
-shut_past : (plan : Plan) (i : Item) → lone.past plan i true ≡ true
-unfolding lone.past
-shut_past plan (Up i p) = refl
-shut_past plan (Down i k) = refl
-
 shut_walk : (plan : Plan) (xs : List Item) → walk (lone.past plan) xs true ≡ true
 shut_walk plan [] = refl
 shut_walk plan (i ∷ xs) = ap (walk (lone.past plan) xs) (shut_past plan i) ∙ shut_walk plan xs
-
-no_rider : (i : ℕ) (p : Passenger) → lone.Fits (Up i p) true → ⊥
-unfolding lone.Fits
-no_rider i p h = cc
 
 no_barrier : (i : ℕ) (k : Packet) → lone.Fits (Down i k) true → turns (Some k) ≡ false
 unfolding lone.Fits

@@ -4,7 +4,6 @@ use Rattle.std.specs.List.{list_any}
 use Rattle.rv_inst.specs.declared.isa.Isa.{Isa}
 use Rattle.rv_machine.specs.Machine.{Machine}
 use Rattle.cf_layout.specs.Layout.{Plan}
-use Rattle.cf_bind.specs.declared.binding.Binding.{Binding}
 use Rattle.cf_bind.specs.declared.packet.Packet.{Packet}
 use Rattle.cf_bind.specs.declared.packet.Packet.TheVariants.{Value, Turn, Halt}
 use Rattle.cf_bind.specs.declared.passenger.End.{End}
@@ -13,7 +12,7 @@ use Rattle.cf_semantics.specs.Column.{Down, Item, Up}
 use Rattle.cf_semantics.specs.Instructions.{behind, fetched, step_at}
 use Rattle.cf_semantics.specs.Layouts.{isa_of}
 use Rattle.cf_semantics.specs.Options.{When, is_some}
-use Rattle.cf_semantics.specs.Passengers.{goto, missing, unknown}
+use Rattle.cf_semantics.specs.Passengers.{goto}
 use Rattle.cf_semantics.specs.Path as trail
 use Rattle.cf_semantics.specs.Path.{Walk, has_reg, is_sure, is_trap, turns}
 use Rattle.cf_semantics.specs.Places.{known}
@@ -41,24 +40,9 @@ unfolding sure.Fits
 fitting isa i k w h = h
 
 -- (a) values
-owes_its_value : (o : Option Packet) (p : Passenger) → sure.Owed o p → OwesValue o p.dst
-owes_its_value None p h = tt
-owes_its_value (Some (Value r v)) p h = h.0
-owes_its_value (Some (Turn pc)) p h = tt
-owes_its_value (Some Halt) p h = tt
-
 has_values : (isa : Isa) (p : Passenger) (w : Walk) → sure.SureAt isa p w → HasValues p w.machine (step_at isa w.machine p.pc)
 unfolding sure.SureAt
-has_values isa p w h = record {
-  first = h.0.value1;
-  second = h.0.value2;
-  destination = h.0.value3;
-  owed = owes_its_value p.owes p h.0.owed;
-  goes = h.0.goes;
-  next = h.0.next;
-  done = h.0.known;
-  ends = h.0.ends;
-}
+has_values isa p w h = h.0.values
 
 packet_value : (k : Packet) (w : Walk) → sure.Packet_fits k w → PacketHasValue k w
 packet_value (Value r v) w h = h
@@ -98,7 +82,7 @@ unfolding sure.SureAt
 sure_level isa p w h s = go p.done p.ending refl refl
   where
     go : (b : Bool) (o : Option End) → p.done ≡ b → p.ending ≡ o → goto p ≡ Some (behind (step_at isa w.machine p.pc) w.machine).hart.pc
-    go true None e f = let n = h.0.next e f in rw (e, f) n
+    go true None e f = let n = h.0.values.next e f in rw (e, f) n
     go true (Some z) e f = absurd (let q = rw (e, f) at s in cc)
     go false o e f = absurd (let q = rw e at s in cc)
 
@@ -127,17 +111,17 @@ first_packet Halt w g h = h.1
 
 first_owed : (isa : Isa) (p : Passenger) (w : Walk) (k : Packet) → p.owes ≡ Some k → sure.SureAt isa p w → IsFirstBarrier k (behind (step_at isa w.machine p.pc) w.machine) (p.done && not (is_some p.ending)) (is_trap p.ending)
 unfolding sure.SureAt
-first_owed isa p w k e h = by k e (subst (λ (o : Option Packet). sure.Owed o p) e h.0.owed)
+first_owed isa p w k e h = by k e (subst (λ (o : Option Packet). sure.Owed o p.next p.ending) e h.0.owed)
   where
     done : (b : Bool) → p.done ≡ b → p.done ≡ true
     done true d = d
     done false d = absurd (let z = h.0.unowing d in cc)
 
-    by : (k : Packet) → p.owes ≡ Some k → sure.Owed (Some k) p → IsFirstBarrier k (behind (step_at isa w.machine p.pc) w.machine) (p.done && not (is_some p.ending)) (is_trap p.ending)
+    by : (k : Packet) → p.owes ≡ Some k → sure.Owed (Some k) p.next p.ending → IsFirstBarrier k (behind (step_at isa w.machine p.pc) w.machine) (p.done && not (is_some p.ending)) (is_trap p.ending)
     by (Value r v) e o = tt
     by (Turn pc) e o =
         let d = done p.done refl in
-        let n = h.0.next d o.1 in
+        let n = h.0.values.next d o.1 in
         (same pc (behind (step_at isa w.machine p.pc) w.machine).hart.pc (sym o.0 ∙ n), rw (d, o.1) refl)
       where
         same : (a b : ℕ) → Some a ≡ Some b → a ≡ b
@@ -214,7 +198,7 @@ barred_by isa i p w s t = rw s t
 
 owed_is : (isa : Isa) (i r : ℕ) (p : Passenger) (w : Walk) → sure.Fits isa (Up i p) w → (trail.past isa (Up i p) w).barred ≡ false → is_sure p w ≡ true → has_reg p.dst r ≡ true → is_some p.owes ≡ true → owes_value p.owes r ≡ true
 unfolding sure.SureAt
-owed_is isa i r p w h o s d e = by p.owes refl (rw s at (certain isa i p w h)).0.owed
+owed_is isa i r p w h o s d e = by p.owes refl (rw s at (certain isa i p w h)).0.values.owed
   where
     value : (q v : ℕ) → p.dst ≡ Some (record { reg = q; value = Some v }) → (q == r) ≡ true
     value q v f = rw f at d
@@ -222,9 +206,9 @@ owed_is isa i r p w h o s d e = by p.owes refl (rw s at (certain isa i p w h)).0
     barrier : turns p.owes ≡ true → ⊥
     barrier t = let z = barred_by isa i p w s t in cc
 
-    by : (k : Option Packet) → p.owes ≡ k → sure.Owed p.owes p → owes_value k r ≡ true
+    by : (k : Option Packet) → p.owes ≡ k → OwesValue p.owes p.dst → owes_value k r ≡ true
     by None f g = absurd (cc)
-    by (Some (Value q v)) f g = value q v (subst (λ (z : Option Packet). sure.Owed z p) f g).0
+    by (Some (Value q v)) f g = value q v (subst (λ (z : Option Packet). OwesValue z p.dst) f g)
     by (Some (Turn pc)) f g = absurd (barrier (rw f refl))
     by (Some Halt) f g = absurd (barrier (rw f refl))
 
@@ -238,18 +222,10 @@ comes isa r pc (Up i p ∷ xs) w h o g e =
     unended true f s = absurd (let z = nowhere isa xs (trail.past isa (Up i p) w) h.1 (ended_nowhere isa i p w h.0 s f) o in cc)
 comes isa r pc (Down i k ∷ xs) w h o g e = from_packet isa i r k w (list_any (brings_value r) xs) (comes isa r pc xs (trail.past isa (Down i k) w) h.1 o g e)
 
--- a source that has no value
-awaited : (o : Option Binding) (coming : ℕ → Bool) (r : ℕ) → sure.Comes o coming → missing o ≡ Some r → coming r ≡ true
-awaited None coming r h e = absurd (cc)
-awaited (Some b) coming r h e = go b.value refl e
-  where
-    go : (v : Option ℕ) → b.value ≡ v → unknown b.reg v ≡ Some r → coming r ≡ true
-    go None f e = let s : b.reg ≡ r = cc in rw (← s) (h f)
-    go (Some v) f e = absurd (cc)
-
+-- the sources that have no value
 both_come : (isa : Isa) (s : State) (p : Passenger) (w : Walk) (above : List Item) → ((r : ℕ) → w.goto ≡ Some p.pc → w.coming r ≡ true → (trail.among r s.lane || list_any (brings_value r) above) ≡ true) → sure.SureAt isa p w → IsOnItsWay s above p.src1 × IsOnItsWay s above p.src2
 unfolding sure.SureAt
-both_come isa s p w above f h = (λ r e. f r h.0.path (awaited p.src1 w.coming r h.1.source1 e), λ r e. f r h.0.path (awaited p.src2 w.coming r h.1.source2 e))
+both_come isa s p w above f h = (λ r e. f r h.0.path (h.1.source1 r e), λ r e. f r h.0.path (h.1.source2 r e))
 
 pub sources : {rest out : List ℕ} (plan : Plan) (s : State) (x : Machine) → Sound plan s rest out x → SourcesCome (isa_of plan) s x
 sources plan s x h p =

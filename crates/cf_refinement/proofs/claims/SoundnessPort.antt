@@ -8,7 +8,7 @@ use Rattle.cf_layout.specs.Layout.{Plan}
 use Rattle.cf_bind.specs.declared.packet.Packet.{Packet}
 use Rattle.cf_bind.specs.declared.passenger.Passenger.{Passenger}
 use Rattle.cf_semantics.specs.Ahead as ahead
-use Rattle.cf_semantics.specs.Ahead.{ported_count, served_count}
+use Rattle.cf_semantics.specs.Ahead.{served_count}
 use Rattle.cf_semantics.specs.Column.{Down, Item, Up, column}
 use Rattle.cf_semantics.specs.Instructions.{behind, is_memory, step_at}
 use Rattle.cf_semantics.specs.Layouts.{isa_of}
@@ -21,25 +21,18 @@ use Rattle.cf_semantics.specs.Walks.{Everywhere, walk}
 use Rattle.cf_refinement.proofs.invariant.Invariant.{Sound}
 use Rattle.cf_refinement.proofs.invariant.Port as dock
 use Rattle.cf_refinement.proofs.walks.Answering.{walk_risky}
-use Rattle.cf_refinement.proofs.claims.Ahead.{docked_of, open_of, risk_past}
+use Rattle.cf_refinement.proofs.claims.Ahead.{answer_past, docked_of, mem_past, risk_past}
 use Rattle.cf_refinement.proofs.column.Change.{here, past_safe}
 use Rattle.cf_refinement.proofs.walks.Order.{past_path}
 use Rattle.cf_refinement.proofs.claims.Output.{Served, Silent, heard, idle_path, path_result}
-use Rattle.cf_refinement.proofs.walks.Port.{ported_calm}
+use Rattle.cf_refinement.proofs.walks.Port.{open_of, ported_calm}
 use Rattle.cf_refinement.proofs.moves.Serve.{Idle}
+use Rattle.cf_refinement.proofs.walks.Path.{sure_is}
 
 -- (j) memory order
-may_turn_rider : (isa : Isa) (i : ℕ) (p : Passenger) (w : dock.Dock) → (dock.past isa (Up i p) w).risky ≡ false → may_turn (Up i p) ≡ false
-may_turn_rider isa i p w e = (risk_past isa i p w e).1
-
-may_turn_packet : (isa : Isa) (i : ℕ) (k : Packet) (w : dock.Dock) → (dock.past isa (Down i k) w).risky ≡ false → may_turn (Down i k) ≡ false
-unfolding dock.past
-may_turn_packet isa i k w e = grind arith
-
 none_turns : (isa : Isa) (xs : List Item) (w : dock.Dock) → (walk (dock.past isa) xs w).risky ≡ false → list_any may_turn xs ≡ false
 none_turns isa [] w e = refl
-none_turns isa (Up i p ∷ xs) w e = rw (may_turn_rider isa i p w (walk_risky isa xs (dock.past isa (Up i p) w) e)) (none_turns isa xs (dock.past isa (Up i p) w) e)
-none_turns isa (Down i k ∷ xs) w e = rw (may_turn_packet isa i k w (walk_risky isa xs (dock.past isa (Down i k) w) e)) (none_turns isa xs (dock.past isa (Down i k) w) e)
+none_turns isa (i ∷ xs) w e = rw (risk_past isa i w (walk_risky isa xs (dock.past isa i w) e)).1 (none_turns isa xs (dock.past isa i w) e)
 
 launched_calm : (isa : Isa) (p : Passenger) (w : dock.Dock) → dock.DockedAt isa p w → is_memory (kind p) ≡ true → p.launched ≡ true → (p.dead ≡ false) × (w.risky ≡ false)
 unfolding dock.DockedAt
@@ -88,9 +81,6 @@ counted_ported : (i : ℕ) (p : Passenger) (t : ahead.Tally) → (ahead.counted 
 unfolding ahead.counted
 counted_ported i p t = refl
 
-sure_is : (p : Passenger) (w : trail.Walk) → p.dead ≡ false → w.barred ≡ false → trail.is_sure p w ≡ true
-sure_is p w d b = grind arith
-
 dead_is : (p : Passenger) (w : trail.Walk) → p.dead ≡ true → trail.is_sure p w ≡ false
 dead_is p w d = grind arith
 
@@ -98,7 +88,7 @@ goes_on_rider : (isa : Isa) (all : List Item) (from : trail.Walk) (i : ℕ) (p :
 goes_on_rider isa all from i p xs w t safe g r n = by p.dead refl
   where
     calm : w.risky ≡ false
-    calm = (risk_past isa i p w r).0
+    calm = (risk_past isa (Up i p) w r).0
 
     by : (b : Bool) → p.dead ≡ b → machine_behind isa ((ahead.counted (Up i p) t).live + n) all from ≡ machine_behind isa n xs (dock.past isa (Up i p) w).path
     by false d =
@@ -115,14 +105,6 @@ ported_live p answer e = go p.dead refl
     go : (b : Bool) → p.dead ≡ b → p.dead ≡ false
     go false d = d
     go true d = absurd (grind arith)
-
-mem_past : (isa : Isa) (i : ℕ) (p : Passenger) (w : dock.Dock) (b : Bool) → ahead.has_ported p w.answer ≡ b → (dock.past isa (Up i p) w).mem ≡ (if b then (behind (step_at isa w.path.machine p.pc) w.path.machine).hart.mem else w.mem)
-unfolding dock.past
-mem_past isa i p w b e = rw e refl
-
-answer_past : (isa : Isa) (i : ℕ) (p : Passenger) (w : dock.Dock) (t : ahead.Tally) → t.answer ≡ w.answer → (ahead.counted (Up i p) t).answer ≡ (dock.past isa (Up i p) w).answer
-unfolding dock.past ahead.counted
-answer_past isa i p w t e = rw e refl
 
 -- memory so far is that of the machine behind the passengers so far that have passed the port
 abbrev pub Stored : Isa → List Item → trail.Walk → dock.Dock → ahead.Tally → Type 0

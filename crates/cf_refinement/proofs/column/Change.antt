@@ -1,6 +1,6 @@
 -- A change of cells alone, through all parts of the invariant.
 use Rattle.mem_regions.specs.Memory.{Memory}
-use Rattle.std.proofs.Common.{◌≡◌, ℕ, List, [], ◌∷◌, ◌++◌, Bool, true, false, not, Option, refl, sym, ap, ◌∙◌, arith, length}
+use Rattle.std.proofs.Common.{Bool, List, Option, [], ap, arith, false, length, not, refl, sym, true, true≢false, ℕ, ◌++◌, ◌∙◌, ◌∷◌, ◌≡◌}
 use Rattle.std.specs.Prelude.{if◌then◌else◌}
 use Rattle.cf_bind.specs.declared.cell.Cell.{Cell}
 use Rattle.cf_bind.specs.declared.packet.Fetch.{Fetch}
@@ -27,6 +27,8 @@ use Rattle.cf_refinement.proofs.walks.Port as ports
 use Rattle.cf_refinement.proofs.invariant.Sure as sure
 use Rattle.cf_semantics.specs.Path as trail
 use Rattle.cf_semantics.specs.Soundness.{in_siding, operations_of}
+use Rattle.cf_bind.specs.declared.cell.Op.{Op}
+use Rattle.cf_refinement.proofs.walks.Order.{past_path}
 
 past_wide : (isa : Isa) (i : Item) (w : trail.Walk) → length w.machine.hart.regs ≡ 32 → length (trail.past isa i w).machine.hart.regs ≡ 32
 unfolding trail.past
@@ -37,11 +39,6 @@ walk_wide isa [] w e = e
 walk_wide isa (i ∷ xs) w e = walk_wide isa xs (trail.past isa i w) (past_wide isa i w e)
 
 -- the port's walk has the path's in it
-past_path : (isa : Isa) (i : Item) (w : dock.Dock) → (dock.past isa i w).path ≡ trail.past isa i w.path
-unfolding dock.past
-past_path isa (Up i p) w = refl
-past_path isa (Down i k) w = refl
-
 pub walk_path : (isa : Isa) (xs : List Item) (w : dock.Dock) → (walk (dock.past isa) xs w).path ≡ walk (trail.past isa) xs w.path
 walk_path isa [] w = refl
 walk_path isa (i ∷ xs) w = walk_path isa xs (dock.past isa i w) ∙ ap (λ (q : trail.Walk). walk (trail.past isa) xs q) (past_path isa i w)
@@ -92,9 +89,6 @@ pub record Owes (l : Plan) (s : State) (x : Machine) (above old new : List Item)
   pub port : Replaces dock.Dock (dock.Fits (isa_of l)) (dock.past (isa_of l)) ports.Follows old new (walk (dock.past (isa_of l)) above (dock.top l s x))
   pub operations : (k : ℕ) → operations_of l k old ≡ operations_of l k new
 
-true_false : true ≡ false → ⊥
-true_false e = cc
-
 pub ends_path : (w v : trail.Walk) (f : Fetch) → paths.Follows w v → sure.Ends w f → sure.Ends v f
 ends_path w v f h e = grind arith
 
@@ -103,7 +97,7 @@ keeps_path w v c h e = go w.barred v.barred refl refl e
   where
     go : (a b : Bool) → w.barred ≡ a → v.barred ≡ b → When (not a) (sure.AreRegisters c w.machine.hart.regs) → When (not b) (sure.AreRegisters c v.machine.hart.regs)
     go a true f g e = tt
-    go true false f g e = absurd (let q = h.barred f in true_false (sym q ∙ g))
+    go true false f g e = absurd (let q = h.barred f in true≢false (sym q ∙ g))
     go false false f g e = rw (h.machine g) e
 
 pub ends_lone : (w v : Bool) (f : Fetch) → lones.Follows w v → lone.Ends w f → lone.Ends v f
@@ -165,3 +159,20 @@ changed {rest} {out} l s x cells above old new below was is n f h =
     (docked l s t x above old new below was is refl refl o.port h)
     (record { operations = λ k. h.moored.operations k ∙ ap (operations_of l k) was ∙ flown_changed l k above old new below (o.operations k) ∙ ap (operations_of l k) (sym is); front = h.moored.front; plain = h.moored.plain; berths = h.moored.berths })
     h
+
+-- a change of the sidings and of memory alone
+pub beside : {rest out : List ℕ} (l : Plan) (s : State) (x : Machine) (sidings : List (List (Option Op))) (mem : Memory) → Docks l (record s { sidings = sidings; mem = mem }) rest out x → IsMoored l (record s { sidings = sidings; mem = mem }) (column s) → Sound l s rest out x → Sound l (record s { sidings = sidings; mem = mem }) rest out x
+beside {rest} {out} l s x sidings mem d m h = record {
+  regs = h.regs;
+  wide = h.wide;
+  size = h.size;
+  path_fit = h.path_fit;
+  path_ends = h.path_ends;
+  cache = h.cache;
+  lone_fit = h.lone_fit;
+  lone_ends = h.lone_ends;
+  stands = h.stands;
+  port_fit = d.fit;
+  port_ends = d.ends;
+  moored = m;
+}

@@ -1,10 +1,10 @@
 -- Cells at a place, and their part of the column.
-use Rattle.std.proofs.Common.{◌≡◌, ℕ, zero, suc, ◌+◌, List, [], ◌∷◌, ◌++◌, Some, None, false, refl, sym, ap, ◌∙◌, arith, append_assoc, append-nil, length, add-zero}
+use Rattle.std.proofs.Common.{Bool, List, None, Some, [], add-zero, ap, append-nil, append_assoc, arith, false, length, refl, suc, sym, true, zero, ℕ, ◌++◌, ◌+◌, ◌∙◌, ◌∷◌, ◌≡◌}
 use Rattle.cf_bind.specs.declared.cell.Cell.{Cell}
 use Rattle.cf_bind.specs.declared.packet.Packet.{Packet}
 use Rattle.cf_bind.specs.declared.passenger.Passenger.{Passenger}
 use Rattle.cf_semantics.specs.Bars.{is_full}
-use Rattle.cf_semantics.specs.Column.{Down, Up, column_from, items, packet_in, passenger_in}
+use Rattle.cf_semantics.specs.Column.{Down, Item, Up, column_from, in_order, items, packet_in, passenger_in}
 use Rattle.cf_semantics.specs.Moves.{with_passenger, without_packet, without_passenger}
 use Rattle.cf_semantics.specs.State.{cell_at, put_cell}
 
@@ -96,3 +96,8 @@ rider_put i c p q e f = grind arith
 
 pub rider_gone : (i : ℕ) (c : Cell) → items i (without_passenger c) ≡ packet_in i c.packet
 rider_gone i c = grind arith
+
+-- what stands alone in its stage
+pub alone : (m : Bool) (xs : List Item) → in_order m xs [] ≡ xs
+alone true xs = append-nil xs
+alone false xs = refl

@@ -30,7 +30,7 @@ use Rattle.rv_machine.specs.Step as machine
 use Rattle.cf_bind.specs.declared.binding.Binding.{Binding}
 use Rattle.cf_semantics.specs.Instructions.{kind_of, Got, fetched, register, dst_of, Goes, stepped, step_at, step_here}
 use Rattle.cf_semantics.specs.Lines.{Line, row, named, line_read, lines_in, lines_at}
-use Rattle.cf_refinement.proofs.instructions.Steps.{IsFetched, fetched_is, step_executes, dst_below}
+use Rattle.cf_refinement.proofs.instructions.Steps.{IsFetched, fetched_is, step_executes, dst_below, store_bare, serial_destination, call_destination}
 
 -- the line has the address, the word and the register; its value is the one that the register gets, and 0 where that is x0
 pub record IsOwn (x : Machine) (w r : ℕ) (n : Machine) (own : Retired) : Type 0 where
@@ -79,10 +79,6 @@ own_stored x word access (Ok done) = own_retired x (stored x.hart.mem access.add
 own_stored x word access (Err Misaligned) = tt
 own_stored x word access (Err NoAccess) = tt
 
-store_bare : (i : Instr) (a b : ℕ) → (access_made i a b).write ≡ true → dest_of i ≡ 0
-unfolding access_made
-store_bare i a b e = grind arith
-
 own_accessed : (x : Machine) (word : ℕ) (i : Instr) → GivesOwn x word (dest_of i) (machine.behind x.output (machine.beside x.rest [] (machine.access_memory x.hart word i)))
 unfolding machine.access_memory
 own_accessed x word i = by access.write refl
@@ -118,14 +114,6 @@ own_answered : (x : Machine) (word : ℕ) (c : Called) → GivesOwn x word 10 (m
 own_answered x word (called.Value a) = own_retired x a.mem word (word_sum x.hart.pc 4) 10 a.value a.rest a.output
 own_answered x word (called.Exit status) = tt
 
-synchronized_destination : (i : Instr) → kind_of i ≡ Serial → machine.synchronizes i ≡ true → dest_of i ≡ 0
-unfolding kind_of
-synchronized_destination i c e = grind arith
-
-called_destination : (i : Instr) → kind_of i ≡ Serial → machine.synchronizes i ≡ false → dest_of i ≡ 10
-unfolding kind_of
-called_destination i c e = grind arith
-
 own_served : (x : Machine) (word : ℕ) (i : Instr) → kind_of i ≡ Serial → GivesOwn x word (dest_of i) (machine.behind x.output (machine.serial x.hart x.rest word i))
 unfolding machine.serial machine.synchronize
 own_served x word i e = by (machine.synchronizes i) refl
@@ -133,8 +121,8 @@ own_served x word i e = by (machine.synchronizes i) refl
     by : (t : Bool) → machine.synchronizes i ≡ t → GivesOwn x word (dest_of i) (machine.behind x.output (if t
         then machine.beside x.rest [] (machine.retire (record x.hart { mem = synced x.hart.mem }) word (word_sum x.hart.pc 4) 0 0)
         else machine.environment x.hart word (call x.hart.regs x.hart.mem x.rest)))
-    by true f = rw (synchronized_destination i e f) (own_retired x (synced x.hart.mem) word (word_sum x.hart.pc 4) 0 0 x.rest [])
-    by false f = rw (called_destination i e f) (own_answered x word (call x.hart.regs x.hart.mem x.rest))
+    by true f = rw (serial_destination i e f) (own_retired x (synced x.hart.mem) word (word_sum x.hart.pc 4) 0 0 x.rest [])
+    by false f = rw (call_destination i e f) (own_answered x word (call x.hart.regs x.hart.mem x.rest))
 
 own_executed : (c : Class) (x : Machine) (word : ℕ) (i : Instr) → kind_of i ≡ c → GivesOwn x word (dest_of i) (machine.behind x.output (machine.execute c x.hart x.rest word i))
 unfolding machine.execute

@@ -200,7 +200,7 @@ asked_address : (i : Instr) (a b : ℕ) → ((access_made i a b).addr ≡ (acces
 unfolding access_made
 asked_address i a b = grind arith
 
-store_bare : (i : Instr) (a b : ℕ) → (access_made i a b).write ≡ true → dest_of i ≡ 0
+pub store_bare : (i : Instr) (a b : ℕ) → (access_made i a b).write ≡ true → dest_of i ≡ 0
 unfolding access_made
 store_bare i a b e = grind arith
 
@@ -275,11 +275,11 @@ unfolding machine.retire
 environment_serves x word (called.Value a) = refl
 environment_serves x word (called.Exit status) = refl
 
-serial_destination : (i : Instr) → kind_of i ≡ Serial → machine.synchronizes i ≡ true → dest_of i ≡ 0
+pub serial_destination : (i : Instr) → kind_of i ≡ Serial → machine.synchronizes i ≡ true → dest_of i ≡ 0
 unfolding kind_of
 serial_destination i c e = grind arith
 
-call_destination : (i : Instr) → kind_of i ≡ Serial → machine.synchronizes i ≡ false → dest_of i ≡ 10
+pub call_destination : (i : Instr) → kind_of i ≡ Serial → machine.synchronizes i ≡ false → dest_of i ≡ 10
 unfolding kind_of
 call_destination i c e = grind arith
 

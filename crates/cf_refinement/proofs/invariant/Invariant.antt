@@ -10,6 +10,7 @@ use Rattle.cf_semantics.specs.Column.{column}
 use Rattle.cf_semantics.specs.Layouts.{isa_of}
 use Rattle.cf_semantics.specs.Walks.{walk, Everywhere}
 use Rattle.cf_semantics.specs.Path as trail
+use Rattle.cf_semantics.specs.Soundness.{CacheAgrees, FetchesOn}
 use Rattle.cf_semantics.specs.Ahead.{served_count, ported_count}
 use Rattle.cf_refinement.proofs.invariant.Sure as sure
 use Rattle.cf_refinement.proofs.invariant.Port as dock
@@ -23,8 +24,8 @@ pub record Sound (plan : Plan) (s : State) (rest out : List ℕ) (x : Machine) :
   pub wide : length x.hart.regs ≡ 32
   pub size : length s.cells ≡ plan.stages
   pub path_fit : Everywhere (sure.Fits (isa_of plan)) (trail.past (isa_of plan)) (column s) (trail.top s x)
-  pub path_ends : sure.Ends (walk (trail.past (isa_of plan)) (column s) (trail.top s x)) s.fetch
-  pub cache : sure.Keeps (walk (trail.past (isa_of plan)) (column s) (trail.top s x)) s.cache
+  pub path_ends : FetchesOn (isa_of plan) s x
+  pub cache : CacheAgrees (isa_of plan) s x
   pub lone_fit : Everywhere lone.Fits (lone.past plan) (column s) false
   pub lone_ends : lone.Ends (walk (lone.past plan) (column s) false) s.fetch
   pub stands : Each plan (column s)

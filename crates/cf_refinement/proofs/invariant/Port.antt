@@ -1,12 +1,11 @@
 -- The order of memory operations, and what memory, input and output have come to.
-use Rattle.std.specs.Prelude.{◌≡◌, ℕ, List, Option, Some, None, Bool, true, false, ◌&&◌, ◌||◌, not, if◌then◌else◌}
+use Rattle.std.specs.Prelude.{◌≡◌, ℕ, List, Option, Some, None, Bool, true, false, ◌||◌, if◌then◌else◌}
 use Rattle.mem_regions.specs.Memory.{Memory}
 use Rattle.mem_regions.specs.Access.{bounds_of}
 use Rattle.rv_inst.specs.declared.isa.Isa.{Isa}
 use Rattle.rv_machine.specs.Machine.{Machine}
 use Rattle.cf_layout.specs.Layout.{Plan}
 use Rattle.cf_bind.specs.declared.passenger.Passenger.{Passenger}
-use Rattle.cf_semantics.specs.Options.{is_some}
 use Rattle.cf_semantics.specs.Instructions.{is_memory, step_at, behind, access_trap}
 use Rattle.cf_semantics.specs.State.{State}
 use Rattle.cf_semantics.specs.Column.{Item, Up, Down}
@@ -14,7 +13,7 @@ use Rattle.cf_semantics.specs.Passengers.{instruction, kind, value_in}
 use Rattle.cf_semantics.specs.Ahead.{has_served, flies, has_ported, answer_there}
 use Rattle.cf_semantics.specs.Path as path
 use Rattle.cf_semantics.specs.Fetches.{Text, code_of}
-use Rattle.cf_semantics.specs.Soundness.{IsAnswer, steers}
+use Rattle.cf_semantics.specs.Soundness.{IsAnswer, may_turn}
 
 -- what is known on the way down, besides the path: whether memory may not be touched further down; what memory, code, input and output have come to; and the answer at the end of Memory's siding, while no passenger so far is its own
 pub record Dock : Type 0 where
@@ -25,10 +24,6 @@ pub record Dock : Type 0 where
   pub rest : List ℕ
   pub out : List ℕ
   pub answer : Option ℕ
-
--- no memory operation may be launched below it
-abbrev pub risks : Passenger → Bool
-risks p = (not p.dead && ((not p.done && steers (kind p)) || is_some p.ending)) || path.turns p.owes
 
 -- what holds of a passenger at the memory port
 pub record IsDocked (isa : Isa) (p : Passenger) (x : Machine) (risky : Bool) (answer : Option ℕ) : Type 0 where
@@ -46,10 +41,10 @@ unfoldable pub Fits : Isa → Item → Dock → Type 0
 Fits isa (Up i p) w = DockedAt isa p w
 Fits isa (Down i k) w = Unit {0}
 
-abbrev pub past_passenger : Isa → Passenger → path.Walk → Dock → Dock
-past_passenger isa p q w = let y = behind (step_at isa w.path.machine p.pc) w.path.machine in record {
+abbrev pub past_passenger : Isa → ℕ → Passenger → path.Walk → Dock → Dock
+past_passenger isa i p q w = let y = behind (step_at isa w.path.machine p.pc) w.path.machine in record {
   path = q;
-  risky = w.risky || risks p;
+  risky = w.risky || may_turn (Up i p);
   mem = if has_ported p w.answer then y.hart.mem else w.mem;
   code = if has_served p then code_of y.hart.mem else w.code;
   rest = if has_served p then y.rest else w.rest;
@@ -59,8 +54,8 @@ past_passenger isa p q w = let y = behind (step_at isa w.path.machine p.pc) w.pa
 
 -- one item further down
 unfoldable pub past : Isa → Item → Dock → Dock
-past isa (Up i p) w = past_passenger isa p (path.past isa (Up i p) w.path) w
-past isa (Down i k) w = record w { path = path.past isa (Down i k) w.path; risky = w.risky || path.turns (Some k) }
+past isa (Up i p) w = past_passenger isa i p (path.past isa (Up i p) w.path) w
+past isa (Down i k) w = record w { path = path.past isa (Down i k) w.path; risky = w.risky || may_turn (Down i k) }
 
 -- at the top
 abbrev pub top : Plan → State → Machine → Dock

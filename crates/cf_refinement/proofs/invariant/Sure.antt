@@ -10,24 +10,23 @@ use Rattle.cf_bind.specs.declared.packet.Fetch.{Fetch}
 use Rattle.cf_bind.specs.declared.passenger.Passenger.{Passenger}
 use Rattle.cf_bind.specs.declared.passenger.End.{End}
 use Rattle.cf_semantics.specs.Options.{When}
-use Rattle.cf_semantics.specs.Instructions.{src1_of, src2_of, dst_of, fetched, Stepped, Goes, Stops, step_at, behind}
+use Rattle.cf_semantics.specs.Instructions.{src1_of, src2_of, dst_of, fetched, Stepped, step_at}
 use Rattle.cf_semantics.specs.Column.{Item, Up, Down}
-use Rattle.cf_semantics.specs.Passengers.{reg_in, cached}
+use Rattle.cf_semantics.specs.Passengers.{reg_in, missing, cached}
 use Rattle.cf_semantics.specs.Moves.{fetch_at}
 use Rattle.cf_semantics.specs.Path.{Walk, is_trap, is_sure}
-use Rattle.cf_semantics.specs.Soundness.{HasValue, Holds, IsKnown}
+use Rattle.cf_semantics.specs.Soundness.{HasValues, Holds, PacketHasValue}
 
 -- a value that is not known is on its way
 abbrev pub Comes : Option Binding → (ℕ → Bool) → Type 0
-Comes None coming = Unit {0}
-Comes (Some b) coming = b.value ≡ None → coming b.reg ≡ true
+Comes source coming = (r : ℕ) → missing source ≡ Some r → coming r ≡ true
 
--- what is owed is the destination's value, or a turn to where the program goes, or a halt for a trap
-abbrev pub Owed : Option Packet → Passenger → Type 0
-Owed None p = Unit {0}
-Owed (Some (Value r v)) p = (p.dst ≡ Some (record { reg = r; value = Some v })) × (p.ending ≡ None)
-Owed (Some (Turn pc)) p = (p.next ≡ Some pc) × (p.ending ≡ None)
-Owed (Some Halt) p = is_trap p.ending ≡ true
+-- a value or a turn is owed where the program goes on, the turn to its next address; a halt is owed for a trap
+abbrev pub Owed : Option Packet → Option ℕ → Option End → Type 0
+Owed None next ending = Unit {0}
+Owed (Some (Value r v)) next ending = ending ≡ None
+Owed (Some (Turn pc)) next ending = (next ≡ Some pc) × (ending ≡ None)
+Owed (Some Halt) next ending = is_trap ending ≡ true
 
 -- its bindings are the registers of its instruction
 pub record IsShaped (p : Passenger) (i : Instr) : Type 0 where
@@ -40,16 +39,10 @@ pub record IsSure (isa : Isa) (p : Passenger) (x : Machine) (s : Stepped) (g : O
   pub path : g ≡ Some p.pc
   pub reads : Holds p (fetched isa x.hart.mem p.pc)
   pub shape : (i : Instr) → p.what ≡ Some i → IsShaped p i
-  pub value1 : HasValue p.src1 x.hart.regs
-  pub value2 : HasValue p.src2 x.hart.regs
-  pub value3 : HasValue p.dst (behind s x).hart.regs
-  pub goes : p.done ≡ true → p.ending ≡ None → s ≡ Goes (behind s x)
-  pub next : p.done ≡ true → p.ending ≡ None → p.next ≡ Some (behind s x).hart.pc
-  pub known : p.done ≡ true → p.ending ≡ None → IsKnown p.dst
-  pub ends : (e : End) → p.ending ≡ Some e → s ≡ Stops e
+  pub values : HasValues p x s
   pub unended : p.done ≡ false → p.ending ≡ None
   pub unowing : p.done ≡ false → p.owes ≡ None
-  pub owed : Owed p.owes p
+  pub owed : Owed p.owes p.next p.ending
 
 -- each of its values that is not known is on its way
 pub record IsSourced (p : Passenger) (coming : ℕ → Bool) : Type 0 where
@@ -58,7 +51,7 @@ pub record IsSourced (p : Passenger) (coming : ℕ → Bool) : Type 0 where
 
 -- a value is the register's; the first barrier turns to where the program goes, or halts what traps
 abbrev pub Packet_fits : Packet → Walk → Type 0
-Packet_fits (Value r v) w = v ≡ slice_index w.machine.hart.regs r
+Packet_fits (Value r v) w = PacketHasValue (Value r v) w
 Packet_fits (Turn pc) w = (w.goto ≡ Some pc) × (w.settled ≡ true)
 Packet_fits Halt w = (w.goto ≡ None) × (w.trapped ≡ true)
 

@@ -12,13 +12,12 @@ use Rattle.cf_bind.specs.declared.passenger.Passenger.{Passenger}
 use Rattle.cf_layout.specs.Layout.{Plan, launch_stage, recover_stage, siding_of}
 use Rattle.cf_refinement.proofs.walks.Answering.{Landed, Settled, fresh_above, walk_landed}
 use Rattle.cf_refinement.proofs.walks.Accessing.{Waiting, access_fits, walk_waiting}
-use Rattle.cf_refinement.proofs.column.Change.{here}
+use Rattle.cf_refinement.proofs.column.Change.{beside, here}
 use Rattle.cf_refinement.proofs.column.Flown.{operations-last}
 use Rattle.cf_refinement.proofs.column.Fold.{fit_front, walk-append}
 use Rattle.cf_refinement.proofs.moves.Rows.{bar_row}
-use Rattle.cf_refinement.proofs.walks.Launching.{flies_out}
-use Rattle.cf_refinement.proofs.moves.Launch.{sure_here}
-use Rattle.cf_refinement.proofs.instructions.Memory.{after_access, is_memory-is, l2}
+use Rattle.cf_refinement.proofs.walks.Launching.{flies_out, past_none}
+use Rattle.cf_refinement.proofs.instructions.Memory.{after_access, l2}
 use Rattle.cf_refinement.proofs.moves.Recover.{docked_live, landed}
 use Rattle.cf_refinement.proofs.column.Sidings.{berthed, front_set_last, last_answer, last_set, put_here, rehung, set_last_size}
 use Rattle.cf_refinement.proofs.column.Sorted.{Riders, Sorted, over, sorted, under}
@@ -45,6 +44,9 @@ use Rattle.cf_refinement.proofs.invariant.Port as dock
 use Rattle.cf_refinement.proofs.invariant.Sure as sure
 use Rattle.cf_semantics.specs.Path as trail
 use Rattle.cf_semantics.specs.Soundness.{IsAnswer, in_siding, operations_in, operations_of}
+use Rattle.cf_refinement.proofs.instructions.Classes.{memory_is}
+use Rattle.cf_refinement.proofs.walks.Path.{sure_at}
+use Rattle.cf_refinement.proofs.walks.Port.{open_of}
 
 pub record Accesses (l : Plan) (s : State) : Type 0 where
   pub what : Op
@@ -96,7 +98,7 @@ pub out_is : (l : Plan) (p : Passenger) → in_siding l (port l) p ≡ true → 
 out_is l p e = (grind arith, grind arith)
 
 port_siding : (l : Plan) (p : Passenger) → Suits l → is_memory (kind p) ≡ true → siding_of l (kind p) ≡ Some (port l)
-port_siding l p acc m = rw (is_memory-is (kind p) m) acc.memory
+port_siding l p acc m = rw (memory_is (kind p) m) acc.memory
 
 pub between : (l : Plan) (i : ℕ) (p : Passenger) → Suits l → is_memory (kind p) ≡ true → p.launched ≡ true → p.recovered ≡ false → Stands l i p → (launch_stage l (port l) ≤ i) × (i ≤ recover_stage l (port l))
 between l i p acc m a b h = rw (port_siding l p acc m) at (h.out a b)
@@ -149,10 +151,6 @@ past_unported : (isa : Isa) (i : ℕ) (p : Passenger) (w : dock.Dock) → ahead.
 unfolding dock.past
 past_unported isa i p w e = rw e refl
 
-none_past : (isa : Isa) (i : Item) (w : dock.Dock) → w.answer ≡ None → (dock.past isa i w).answer ≡ None
-unfolding dock.past
-none_past isa i w e = grind arith
-
 waiting_mem : (isa : Isa) (xs : List Item) (w : dock.Dock) → Waiting xs → w.answer ≡ None → (walk (dock.past isa) xs w).mem ≡ w.mem
 waiting_mem isa xs w h e = ap (λ (z : dock.Dock). z.mem) (walk_waiting isa xs w w.mem h e)
 
@@ -166,13 +164,6 @@ set_twice (a ∷ b ∷ c ∷ q) o = ap (λ (z : List (Option Op)). a ∷ z) (set
 answered_operations : (q : List (Option Op)) (n : ℕ) (op : Op) (a : Option ℕ) → length q ≡ suc n → last_op q ≡ Some op → operations_in (set_last q (Some (record op { answer = a }))) ≡ operations_in q
 answered_operations q n op a e f =
     operations-last (set_last q (Some (record op { answer = a }))) (record op { answer = a }) (last_set q n (Some (record op { answer = a })) e) ∙ ap (λ (z : List (Option Op)). (record op { answer = None } ∷ []) ++ operations_in z) (set_twice q (Some (record op { answer = a }))) ∙ sym (operations-last q op f)
-
-not_barred : (w : dock.Dock) → (w.path.barred ≡ true → w.risky ≡ true) → w.risky ≡ false → w.path.barred ≡ false
-not_barred w s r = go w.path.barred refl
-  where
-    go : (b : Bool) → w.path.barred ≡ b → w.path.barred ≡ false
-    go false e = e
-    go true e = absurd (let z = s e in cc)
 
 same4 : {A : Type 0} → (f : Instr → ℕ → ℕ → memory.Memory → A) → {i j : Instr} {a c b d : ℕ} {m n : memory.Memory} → i ≡ j → a ≡ c → b ≡ d → m ≡ n → f i a b m ≡ f j c d n
 same4 f e g h k = rw (e, g, h, k) refl
@@ -219,11 +210,11 @@ access_scene {rest} {out} l s x acc e h =
     let wait = waiting l i f.below acc range.1 (under f.above f.below i p order) (each_back l (Up i p ∷ []) f.below (each_back l f.above ((Up i p ∷ []) ++ f.below) each)) in
     let settle = settled l i f.above acc range.0 (over f.above f.below i p order) land (each_front l f.above ((Up i p ∷ []) ++ f.below) each) in
     let fresh = fresh_above (isa_of l) f.above w0 settle (fit_front _ (sure.Fits (isa_of l)) (trail.past (isa_of l)) f.above ((Up i p ∷ []) ++ f.below) _ (rw was at h.path_fit)) (λ b. absurd (cc)) known.1 refl in
-    let unbarred = not_barred u y.safe known.1 in
-    let certain : sure.SureAt (isa_of l) p u.path = sure_here (isa_of l) i p u.path known.0 unbarred (subst (λ (z : trail.Walk). sure.Fits (isa_of l) (Up i p) z) (sym y.same) y.path_fit.0) in
+    let unbarred = open_of u y.safe known.1 in
+    let certain : sure.SureAt (isa_of l) p u.path = sure_at (isa_of l) i p u.path known.0 unbarred (subst (λ (z : trail.Walk). sure.Fits (isa_of l) (Up i p) z) (sym y.same) y.path_fit.0) in
     let wide : length u.path.machine.hart.regs ≡ 32 = subst (λ (z : trail.Walk). length z.machine.hart.regs ≡ 32) (sym y.same) y.wide in
     let did = made (isa_of l) p u.path wide m (y.stands.0.sourced1 o.0) (y.stands.0.sourced2 o.0) known.2 certain in
-    let past = waiting_mem (isa_of l) f.below (dock.past (isa_of l) (Up i p) u) wait (none_past (isa_of l) (Up i p) u none) in
+    let past = waiting_mem (isa_of l) f.below (dock.past (isa_of l) (Up i p) u) wait (past_none (isa_of l) (Up i p) u none) in
     let mem : s.mem ≡ u.path.machine.hart.mem = h.port_ends.is_mem ∙ ap (λ (z : List Item). (walk (dock.past (isa_of l)) z w0).mem) was ∙ ap (λ (z : dock.Dock). z.mem) (walk-append (dock.past (isa_of l)) f.above ((Up i p ∷ []) ++ f.below) w0) ∙ past ∙ past_unported (isa_of l) i p u (unanswered p u.answer none m o.1) ∙ fresh in
     let code = ap (λ (z : Op). z.instr) (sym f.op) in
     let a1 = ap (λ (z : Op). z.a) (sym f.op) in
@@ -266,20 +257,10 @@ access_kept {rest} {out} l s x acc e h =
     let t : State = accessed l s r.what in
     let cell : last_answer (siding_at t k) ≡ Some a = ap last_answer (put_here s.sidings k (set_last q (Some op)) n.0 n.1) ∙ ap (λ (z : Option Op). on z None (λ z. z.answer)) (last_set q n.0 (Some op) n.1) in
     let top : dock.top l t x ≡ record w0 { answer = Some a } = ap (λ (z : Option ℕ). record w0 { answer = z }) cell in
-    rw (next-access l s r.what r.lies) (record {
-      regs = h.regs;
-      wide = h.wide;
-      size = h.size;
-      path_fit = h.path_fit;
-      path_ends = h.path_ends;
-      cache = h.cache;
-      lone_fit = h.lone_fit;
-      lone_ends = h.lone_ends;
-      stands = h.stands;
-      port_fit = subst (λ (z : dock.Dock). Everywhere (dock.Fits (isa_of l)) (dock.past (isa_of l)) (column s) z) (sym top) (subst (λ (z : List Item). Everywhere (dock.Fits (isa_of l)) (dock.past (isa_of l)) z (record w0 { answer = Some a })) (sym was) all.0);
-      port_ends = subst (λ (z : dock.Dock). dock.Ends z (mem_after r.what.instr r.what.a r.what.b s.mem) rest out) (sym (ap (λ (z : dock.Dock). walk (dock.past (isa_of l)) (column s) z) top ∙ ap (λ (z : List Item). walk (dock.past (isa_of l)) z (record w0 { answer = Some a })) was ∙ all.1)) (stored_ends l s x f.above f.below i p was z.stored (code_after r.what.instr r.what.a r.what.b s.mem) h);
-      moored = rehung l s t (column s) (column s) k (set_last q (Some op)) refl n.0 n.1 (set_last_size q (Some op)) (answered_operations q n.0 r.what (Some a) n.1 r.lies ∙ h.moored.operations k) (λ j z. refl) (front_set_last q (Some op) (h.moored.front k)) (λ z. absurd (z refl)) h.moored;
-    })
+    rw (next-access l s r.what r.lies) (beside l s x t.sidings t.mem (record {
+      fit = subst (λ (z : dock.Dock). Everywhere (dock.Fits (isa_of l)) (dock.past (isa_of l)) (column s) z) (sym top) (subst (λ (z : List Item). Everywhere (dock.Fits (isa_of l)) (dock.past (isa_of l)) z (record w0 { answer = Some a })) (sym was) all.0);
+      ends = subst (λ (z : dock.Dock). dock.Ends z (mem_after r.what.instr r.what.a r.what.b s.mem) rest out) (sym (ap (λ (z : dock.Dock). walk (dock.past (isa_of l)) (column s) z) top ∙ ap (λ (z : List Item). walk (dock.past (isa_of l)) z (record w0 { answer = Some a })) was ∙ all.1)) (stored_ends l s x f.above f.below i p was z.stored (code_after r.what.instr r.what.a r.what.b s.mem) h);
+    }) (rehung l s t (column s) (column s) k (set_last q (Some op)) refl n.0 n.1 (set_last_size q (Some op)) (answered_operations q n.0 r.what (Some a) n.1 r.lies ∙ h.moored.operations k) (λ j z. refl) (front_set_last q (Some op) (h.moored.front k)) (λ z. absurd (z refl)) h.moored) h)
   where
     stored_ends : (l : Plan) (s : State) (x : Machine) (above below : List Item) (i : ℕ) (p : Passenger) → column s ≡ above ++ ((Up i p ∷ []) ++ below) → {m n : memory.Memory} → m ≡ n → code_of m ≡ code_of s.mem → Sound l s rest out x → dock.Ends (record (walk (dock.past (isa_of l)) (above ++ (Up i p ∷ below)) (dock.top l s x)) { mem = n }) m rest out
     stored_ends l s x above below i p was e c h =

@@ -1,17 +1,18 @@
 -- Climb keeps the invariant.
-use Rattle.std.proofs.Common.{◌≡◌, ℕ, suc, ◌+◌, ◌<◌, List, [], ◌∷◌, ◌++◌, Option, Some, None, true, false, refl, ap, ◌∙◌, arith, length, length-append, add-one, append_assoc}
+use Rattle.std.proofs.Common.{◌≡◌, ℕ, suc, ◌+◌, ◌<◌, List, [], ◌∷◌, Option, Some, None, true, false, refl, ap, ◌∙◌, arith, length, length-append, add-one}
 use Rattle.cf_bind.specs.declared.cell.Cell.{Cell}
 use Rattle.cf_bind.specs.declared.moves.Bar.TheVariants.{NoSuchSite}
 use Rattle.cf_bind.specs.declared.moves.Move.TheVariants.{Climb}
 use Rattle.cf_bind.specs.declared.passenger.Passenger.{Passenger}
 use Rattle.cf_layout.specs.Layout.{Plan}
 use Rattle.cf_refinement.proofs.column.Change.{changed}
-use Rattle.cf_refinement.proofs.column.Column.{climb_is, climb_was, column-pair, pair}
+use Rattle.cf_refinement.proofs.column.Column.{climb_is, climb_was, pair}
+use Rattle.cf_refinement.proofs.column.Stretch.{Stretch, pair_stretch}
 use Rattle.cf_refinement.proofs.column.Fold.{Replaces}
 use Rattle.cf_refinement.proofs.walks.Stands.{climb_stands}
 use Rattle.cf_refinement.proofs.invariant.Invariant.{Sound}
 use Rattle.cf_semantics.specs.Bars.{bar, climb_bar, is_full, row_bar, stops_at}
-use Rattle.cf_semantics.specs.Column.{Item, Up, column, column_from, packet_in}
+use Rattle.cf_semantics.specs.Column.{Up, packet_in}
 use Rattle.cf_semantics.specs.Layouts.{isa_of}
 use Rattle.cf_semantics.specs.Moves.{climbed, moved, without_passenger}
 use Rattle.cf_semantics.specs.Options.{is_some, on}
@@ -24,7 +25,7 @@ use Rattle.cf_refinement.proofs.walks.Path as paths
 use Rattle.cf_refinement.proofs.walks.Port as ports
 use Rattle.cf_refinement.proofs.invariant.Sure as sure
 use Rattle.cf_semantics.specs.Path as trail
-use Rattle.cf_refinement.proofs.moves.Rows.{bar_row, put_size}
+use Rattle.cf_refinement.proofs.moves.Rows.{bar_row}
 
 pub record Climbs (l : Plan) (s : State) (i : ℕ) : Type 0 where
   pub low : Cell
@@ -65,26 +66,25 @@ port_label isa i j p w s = record { fit = λ h. h; follows = λ h. record { path
     safe : (dock.past isa (Up i p) w).path.barred ≡ true → (dock.past isa (Up i p) w).risky ≡ true
     safe b = grind (arith, s)
 
--- the two forms of a piece of the column
-regroup : (a r m k b : List Item) → a ++ ((r ++ (m ++ k)) ++ b) ≡ (a ++ r) ++ (m ++ (k ++ b))
-regroup a r m k b = rw (append_assoc r (m ++ k) b, append_assoc m k b, append_assoc a r (m ++ (k ++ b)))
+-- the cells once the passenger has climbed
+abbrev pub cells_climbed : State → ℕ → Cell → Cell → List Cell
+cells_climbed s i low high = put_cell (put_cell s.cells i (without_passenger low)) (suc i) (record high { passenger = low.passenger; met = false })
+
+-- the passenger stands one stage higher
+pub climb_stretch : (l : Plan) (s : State) (i : ℕ) (r : Climbs l s i) → Stretch s (cells_climbed s i r.low r.high) (Up i r.who ∷ []) (Up (suc i) r.who ∷ [])
+climb_stretch l s i r =
+    let p = pair s.cells i r.low r.high r.at_low r.at_high in
+    let c : Cell = without_passenger r.low in
+    let d : Cell = record r.high { passenger = r.low.passenger; met = false } in
+    pair_stretch s i r.low r.high c d p (cells_climbed s i r.low r.high) (packet_in (suc i) r.high.packet) (Up i r.who ∷ []) (Up (suc i) r.who ∷ []) (packet_in i r.low.packet) (p.set c d) (climb_was i (suc i) r.low r.high r.who r.sits r.empty r.clear) (climb_is i (suc i) r.low r.high r.who r.sits r.empty r.clear)
 
 pub climb_kept : {rest out : List ℕ} (l : Plan) (s : State) (x : Machine) (i : ℕ) → bar l s (Climb i) ≡ None → Sound l s rest out x → Sound l (moved l s (Climb i)) rest out x
 climb_kept {rest} {out} l s x i e h =
     let r = climb_ready l s i (bar_row l s (Climb i) e) in
     let p = pair s.cells i r.low r.high r.at_low r.at_high in
-    let c : Cell = without_passenger r.low in
-    let d : Cell = record r.high { passenger = r.low.passenger; met = false } in
-    let up = column_from (suc (suc i)) p.above in
-    let under = column_from 1 p.below in
-    let rs = packet_in (suc i) r.high.packet in
-    let ks = packet_in i r.low.packet in
-    let was : column s ≡ (up ++ rs) ++ (Up i r.who ∷ [] ++ (ks ++ under)) =
-    ap (column_from 1) p.split ∙ column-pair i p.below p.above r.low r.high p.number ∙ ap (λ (m : List Item). up ++ (m ++ under)) (climb_was i (suc i) r.low r.high r.who r.sits r.empty r.clear) ∙ regroup up rs (Up i r.who ∷ []) ks under in
-    let is : column_from 1 (put_cell (put_cell s.cells i c) (suc i) d) ≡ (up ++ rs) ++ (Up (suc i) r.who ∷ [] ++ (ks ++ under)) =
-    ap (column_from 1) (p.set c d) ∙ column-pair i p.below p.above c d p.number ∙ ap (λ (m : List Item). up ++ (m ++ under)) (climb_is i (suc i) r.low r.high r.who r.sits r.empty r.clear) ∙ regroup up rs (Up (suc i) r.who ∷ []) ks under in
+    let q = climb_stretch l s i r in
     let room : i < l.stages = omega (arith, h.size, p.number, ap length p.split ∙ length-append p.below (r.low ∷ r.high ∷ p.above)) in
-    rw (next-climb l s i r.low r.high r.at_low r.at_high, add-one) (changed l s x (put_cell (put_cell s.cells i c) (suc i) d) (up ++ rs) (Up i r.who ∷ []) (Up (suc i) r.who ∷ []) (ks ++ under) was is (put_size (put_cell s.cells i c) (suc i) d ∙ put_size s.cells i c) (λ o. record {
+    rw (next-climb l s i r.low r.high r.at_low r.at_high, add-one) (changed l s x (cells_climbed s i r.low r.high) q.above (Up i r.who ∷ []) (Up (suc i) r.who ∷ []) q.below q.was q.is q.size (λ o. record {
       path = path_label (isa_of l) i (suc i) r.who _;
       lone = lones.climb_lone l i (suc i) r.who _ r.nothing;
       stands = (climb_stands l i r.who room r.passes o.stands.0, tt);

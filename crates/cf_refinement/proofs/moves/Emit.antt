@@ -1,5 +1,5 @@
 -- Emit keeps the invariant.
-use Rattle.std.proofs.Common.{◌≡◌, ℕ, List, [], ◌∷◌, ◌++◌, Option, Some, None, Bool, true, false, refl, sym, ap, subst, ◌∙◌, arith, append-nil}
+use Rattle.std.proofs.Common.{Bool, List, None, Option, Some, [], ap, arith, false, length, refl, subst, sym, ℕ, ◌++◌, ◌∙◌, ◌∷◌, ◌≡◌}
 use Rattle.std.specs.Prelude.{slice_index}
 use Rattle.cf_bind.specs.declared.cell.Cell.{Cell}
 use Rattle.cf_bind.specs.declared.moves.Bar.TheVariants.{NoSuchSite}
@@ -8,12 +8,12 @@ use Rattle.cf_bind.specs.declared.packet.Packet.{Packet}
 use Rattle.cf_bind.specs.declared.packet.Packet.TheVariants.{Value}
 use Rattle.cf_layout.specs.Layout.{Plan}
 use Rattle.cf_refinement.proofs.column.Change.{ends_path, ends_port, keeps_path}
-use Rattle.cf_refinement.proofs.column.Column.{top_cell}
+use Rattle.cf_refinement.proofs.column.Column.{alone, top_cell}
 use Rattle.cf_refinement.proofs.column.Fold.{fit_follows, walk_follows}
 use Rattle.cf_refinement.proofs.moves.Rows.{bar_row, put_size}
 use Rattle.cf_refinement.proofs.invariant.Invariant.{Sound}
 use Rattle.cf_semantics.specs.Bars.{bar, emit_bar, row_bar}
-use Rattle.cf_semantics.specs.Column.{Down, Item, column, column_from, in_order, passenger_in}
+use Rattle.cf_semantics.specs.Column.{Down, Item, column, column_from, items, passenger_in}
 use Rattle.cf_semantics.specs.Layouts.{isa_of}
 use Rattle.cf_semantics.specs.Moves.{emitted, moved}
 use Rattle.cf_semantics.specs.Options.{on}
@@ -48,9 +48,13 @@ pub next-emit : (l : Plan) (s : State) (c : Cell) (r : ℕ) (lane : List ℕ) �
 unfolding moved
 next-emit l s c r lane e f = rw (e, f)
 
-pub alone : (m : Bool) (xs : List Item) → in_order m xs [] ≡ xs
-alone true xs = append-nil xs
-alone false xs = refl
+-- the packet stands above all
+pub emit_is : (l : Plan) (s : State) (r : Emits l s) (k : Packet) → length s.cells ≡ l.stages → column_from 1 (put_cell s.cells l.stages (record r.here { packet = Some k; met = false })) ≡ Down l.stages k ∷ column s
+emit_is l s r k size =
+    let n = l.stages in
+    let p = top_cell s.cells n r.here size r.at_here in
+    let lone : items n r.here ≡ passenger_in n r.here.passenger = rw r.free (alone r.here.met (passenger_in n r.here.passenger)) in
+    p.set (record r.here { packet = Some k; met = false }) ∙ ap (λ (m : List Item). Down n k ∷ (m ++ column_from 1 p.below)) (sym lone) ∙ ap (λ (m : List Item). Down n k ∷ m) (sym p.was)
 
 pub emit_path : (isa : Isa) (s t : State) (x : Machine) (n r v : ℕ) (lane : List ℕ) → s.lane ≡ r ∷ lane → t.lane ≡ lane → paths.Follows (trail.top s x) (trail.past isa (Down n (Value r v)) (trail.top t x))
 unfolding trail.past
@@ -80,13 +84,11 @@ pub emit_kept : {rest out : List ℕ} (l : Plan) (s : State) (x : Machine) → b
 emit_kept {rest} {out} l s x e h =
     let r = emit_ready l s (bar_row l s Emit e) in
     let n = l.stages in
-    let p = top_cell s.cells n r.here h.size r.at_here in
     let v = slice_index s.regs r.asked in
     let k : Packet = Value r.asked v in
     let d : Cell = record r.here { packet = Some k; met = false } in
     let t : State = record s { cells = put_cell s.cells n d; lane = r.others } in
-    let was : column s ≡ passenger_in n r.here.passenger ++ column_from 1 p.below = p.was ∙ rw (r.free, alone r.here.met (passenger_in n r.here.passenger)) in
-    let is : column t ≡ Down n k ∷ column s = p.set d ∙ ap (λ (m : List Item). Down n k ∷ m) (sym was) in
+    let is : column t ≡ Down n k ∷ column s = emit_is l s r k h.size in
     let f = emit_path (isa_of l) s t x n r.asked v r.others r.lane refl in
     let g = emit_port l s t x n r.asked v refl f in
     let z = nothing_shut l n r.asked v in

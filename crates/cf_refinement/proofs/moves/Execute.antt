@@ -1,20 +1,19 @@
 -- Execute keeps the invariant.
-use Rattle.std.proofs.Common.{◌≡◌, ℕ, suc, List, [], ◌∷◌, ◌++◌, Option, Some, None, Bool, true, false, refl, ap, ◌∙◌, arith, append_assoc, append-nil}
+use Rattle.std.proofs.Common.{◌≡◌, ℕ, List, [], ◌∷◌, Option, Some, None, Bool, true, false, refl, arith}
 use Rattle.cf_bind.specs.declared.cell.Cell.{Cell}
 use Rattle.cf_bind.specs.declared.moves.Bar.TheVariants.{NoSuchSite}
 use Rattle.cf_bind.specs.declared.moves.Move.TheVariants.{Execute}
 use Rattle.cf_bind.specs.declared.passenger.Passenger.{Passenger}
 use Rattle.cf_layout.specs.Layout.{Plan, unit_at}
 use Rattle.cf_refinement.proofs.column.Change.{changed}
-use Rattle.cf_refinement.proofs.column.Column.{column-at, place}
-use Rattle.cf_refinement.proofs.walks.Finishing.{execute_finishes, finish_is_out, finish_lone, finish_port, finish_risks, finish_shuts, finish_stands}
+use Rattle.cf_refinement.proofs.walks.Finishing.{execute_finishes, finish_is_out, finish_lone, finish_port, finish_shuts, finish_stands, finish_turned}
 use Rattle.cf_refinement.proofs.moves.Rows.{bar_row, put_size}
 use Rattle.cf_refinement.proofs.walks.PathFinish.{Finishes, finish_fits, finish_walk}
 use Rattle.cf_refinement.proofs.invariant.Invariant.{Sound}
 use Rattle.cf_refinement.proofs.invariant.Stands.{Stands}
 use Rattle.cf_refinement.proofs.invariant.Suited.{Suits, is_plain}
 use Rattle.cf_semantics.specs.Bars.{bar, execute_bar, row_bar}
-use Rattle.cf_semantics.specs.Column.{Item, Up, column, column_from, in_order, packet_in}
+use Rattle.cf_semantics.specs.Column.{Up}
 use Rattle.cf_semantics.specs.Instructions.{is_control, step_at}
 use Rattle.cf_semantics.specs.Layouts.{isa_of}
 use Rattle.cf_semantics.specs.Moves.{moved, with_passenger}
@@ -27,6 +26,7 @@ use Rattle.rv_machine.specs.Machine.{Machine}
 use Rattle.cf_refinement.proofs.invariant.Lone as lone
 use Rattle.cf_refinement.proofs.invariant.Sure as sure
 use Rattle.cf_semantics.specs.Path as trail
+use Rattle.cf_refinement.proofs.column.Spot.{spot}
 
 pub record Runs (l : Plan) (s : State) (i : ℕ) : Type 0 where
   pub here : Cell
@@ -60,20 +60,6 @@ goes_straight p e = go (kind p) e
     go : (c : Class) → is_plain c ≡ true → goto_undone c p ≡ guessed p.guess (instruction p) p.pc
     go c e = grind arith
 
--- a stage with a passenger, from the top: what is above it and what is below it
-above_in : Bool → List Item → List Item
-above_in true ks = []
-above_in false ks = ks
-
-below_in : Bool → List Item → List Item
-below_in true ks = ks
-below_in false ks = []
-
-split_items : (m : Bool) (i : ℕ) (p : Passenger) (ks a b : List Item) → a ++ (in_order m (Up i p ∷ []) ks ++ b) ≡ (a ++ above_in m ks) ++ ((Up i p ∷ []) ++ (below_in m ks ++ b))
-unfolding above_in below_in
-split_items true i p ks a b = rw (append-nil a)
-split_items false i p ks a b = rw (append_assoc ks (Up i p ∷ []) b, append_assoc a ks (Up i p ∷ b))
-
 pub sure_finishes : (isa : Isa) (p : Passenger) (w : trail.Walk) → p.done ≡ false → missing p.src1 ≡ None → missing p.src2 ≡ None → is_plain (kind p) ≡ true → sure.SureAt isa p w → Finishes p w.machine (step_at isa w.machine p.pc) None
 unfolding sure.SureAt
 sure_finishes isa p w d m1 m2 c h = execute_finishes isa p w.machine w.goto d m1 m2 c h.0
@@ -90,24 +76,16 @@ ashore l acc i p u d n h = go p.launched p.recovered refl refl
 pub execute_kept : {rest out : List ℕ} (l : Plan) (s : State) (x : Machine) (i : ℕ) → Suits l → bar l s (Execute i) ≡ None → Sound l s rest out x → Sound l (moved l s (Execute i)) rest out x
 execute_kept {rest} {out} l s x i acc e h =
     let r = execute_ready l s i (bar_row l s (Execute i) e) in
-    let p = place s.cells i r.here r.at_here in
     let q = r.who in
+    let p = spot s i r.here q r.at_here r.sits in
     let d : Cell = with_passenger r.here (finish q None) in
-    let up = column_from (suc i) p.above in
-    let under = column_from 1 p.below in
-    let ks = packet_in i r.here.packet in
-    let m = r.here.met in
     let c = acc.plain (kind q) i r.unit in
     let low : is_control (kind q) ≡ true → lone.is_high l i ≡ false = λ a. acc.control_low (kind q) i a r.unit in
-    let was : column s ≡ (up ++ above_in m ks) ++ ((Up i q ∷ []) ++ (below_in m ks ++ under)) =
-    ap (column_from 1) p.split ∙ column-at i p.below p.above r.here p.number ∙ rw r.sits (split_items m i q ks up under) in
-    let is : column_from 1 (put_cell s.cells i d) ≡ (up ++ above_in m ks) ++ ((Up i (finish q None) ∷ []) ++ (below_in m ks ++ under)) =
-    ap (column_from 1) (p.set d) ∙ column-at i p.below p.above d p.number ∙ split_items m i (finish q None) ks up under in
     let walks = λ (w : trail.Walk). finish_walk (isa_of l) i q w None r.undone (goes_straight q c) in
-    rw (next-execute l s i r.here q r.at_here r.sits) (changed l s x (put_cell s.cells i d) (up ++ above_in m ks) (Up i q ∷ []) (Up i (finish q None) ∷ []) (below_in m ks ++ under) was is (put_size s.cells i d) (λ k. record {
+    rw (next-execute l s i r.here q r.at_here r.sits) (changed l s x (put_cell s.cells i d) p.above (Up i q ∷ []) (Up i (finish q None) ∷ []) p.below p.was (p.is (finish q None)) (put_size s.cells i d) (λ k. record {
       path = record { fit = finish_fits (isa_of l) i q _ None k.wide r.live r.undone (sure_finishes (isa_of l) q _ r.undone r.has1 r.has2 c); follows = walks _ };
       lone = finish_lone l i q _ (finish_shuts l i q c low k.stands.0.guess);
       stands = (finish_stands l i q r.live r.undone c (ashore l acc i q r.unit r.live r.undone k.stands.0) k.stands.0, tt);
-      port = finish_port (isa_of l) i q _ c k.safe (finish_risks q r.live r.undone c (k.stands.0.unended r.undone) k.stands.0.guess) (walks _) (rw k.same k.path_fit);
+      port = finish_port (isa_of l) i q _ c k.safe (finish_turned i q r.live r.undone c (k.stands.0.unended r.undone) k.stands.0.guess) (walks _) (rw k.same k.path_fit);
       operations = λ n. finish_is_out l n i q;
     }) h)

@@ -52,8 +52,17 @@ pub next-exit : (l : Plan) (s : State) (c : Cell) (cs : List Cell) (k : Packet) 
 unfolding moved
 next-exit l s c cs k e f = rw (e, f)
 
-pub exit_items : (c : Cell) (k : Packet) → c.packet ≡ Some k → is_full c ≡ false → items 1 c ≡ passenger_in 1 c.passenger ++ Down 1 k ∷ []
+exit_items : (c : Cell) (k : Packet) → c.packet ≡ Some k → is_full c ≡ false → items 1 c ≡ passenger_in 1 c.passenger ++ Down 1 k ∷ []
 exit_items c k e f = grind arith
+
+-- the packet stands below all
+abbrev pub above_exit : {s : State} → Exits s → List Item
+above_exit r = column_from 2 r.others ++ passenger_in 1 r.here.passenger
+
+pub exit_was : (s : State) (r : Exits s) → column s ≡ above_exit r ++ Down 1 r.what ∷ []
+exit_was s r =
+    let up = column_from 2 r.others in
+    ap (column_from 1) r.cells ∙ ap (λ (m : List Item). up ++ m) (exit_items r.here r.what r.lies r.clear) ∙ sym (append_assoc up (passenger_in 1 r.here.passenger) (Down 1 r.what ∷ []))
 
 left_items : (c : Cell) → items 1 (without_packet c) ≡ passenger_in 1 c.passenger
 left_items c = refl
@@ -88,9 +97,8 @@ pub exit_kept : {rest out : List ℕ} (l : Plan) (s : State) (x : Machine) → b
 exit_kept {rest} {out} l s x e h =
     let r = exit_ready l s (bar_row l s Exit e) in
     let k = r.what in
-    let upper = column_from 2 r.others ++ passenger_in 1 r.here.passenger in
-    let was : column s ≡ upper ++ Down 1 k ∷ [] =
-    ap (column_from 1) r.cells ∙ ap (λ (m : List Item). column_from 2 r.others ++ m) (exit_items r.here k r.lies r.clear) ∙ sym (append_assoc (column_from 2 r.others) (passenger_in 1 r.here.passenger) (Down 1 k ∷ [])) in
+    let upper = above_exit r in
+    let was = exit_was s r in
     let t : State = record s { cells = without_packet r.here ∷ r.others; fetch = turned s.fetch k; cache = keeps l.cache s.cache k } in
     let fit = rw was at h.path_fit in
     let shut = rw was at h.lone_fit in

@@ -1,17 +1,18 @@
 -- Fall keeps the invariant.
-use Rattle.std.proofs.Common.{◌≡◌, ℕ, zero, suc, ◌-◌, List, [], ◌∷◌, ◌++◌, Option, Some, None, true, false, refl, ap, ◌∙◌, arith, sub-one, append_assoc}
+use Rattle.std.proofs.Common.{◌≡◌, ℕ, zero, suc, ◌-◌, List, [], ◌∷◌, Option, Some, None, true, false, refl, arith, sub-one}
 use Rattle.cf_bind.specs.declared.cell.Cell.{Cell}
 use Rattle.cf_bind.specs.declared.moves.Bar.TheVariants.{NoSuchSite}
 use Rattle.cf_bind.specs.declared.moves.Move.TheVariants.{Fall}
 use Rattle.cf_bind.specs.declared.packet.Packet.{Packet}
 use Rattle.cf_layout.specs.Layout.{Plan}
 use Rattle.cf_refinement.proofs.column.Change.{changed}
-use Rattle.cf_refinement.proofs.column.Column.{column-pair, fall_is, fall_was, pair}
+use Rattle.cf_refinement.proofs.column.Column.{fall_is, fall_was, pair}
+use Rattle.cf_refinement.proofs.column.Stretch.{Stretch, pair_stretch}
 use Rattle.cf_refinement.proofs.column.Fold.{Replaces}
-use Rattle.cf_refinement.proofs.moves.Rows.{bar_row, put_size}
+use Rattle.cf_refinement.proofs.moves.Rows.{bar_row}
 use Rattle.cf_refinement.proofs.invariant.Invariant.{Sound}
 use Rattle.cf_semantics.specs.Bars.{bar, fall_bar, is_full, row_bar}
-use Rattle.cf_semantics.specs.Column.{Down, Item, column, column_from, passenger_in}
+use Rattle.cf_semantics.specs.Column.{Down, passenger_in}
 use Rattle.cf_semantics.specs.Layouts.{isa_of}
 use Rattle.cf_semantics.specs.Moves.{fallen, moved, without_packet}
 use Rattle.cf_semantics.specs.Options.{on}
@@ -66,30 +67,29 @@ port_label isa i j k w s = record { fit = λ h. h; follows = λ h. record { path
 pub no_fall : (l : Plan) (s : State) → row_bar l s (Fall zero) ≡ None → ⊥
 no_fall l s e = cc
 
-fall_above : {rest out : List ℕ} (l : Plan) (s : State) (x : Machine) (i : ℕ) → row_bar l s (Fall (suc i)) ≡ None → Sound l s rest out x → Sound l (moved l s (Fall (suc i))) rest out x
-fall_above {rest} {out} l s x i e h =
-    let r = fall_ready l s i e in
+-- the cells once the packet has fallen
+abbrev pub cells_fallen : State → ℕ → Cell → Cell → List Cell
+cells_fallen s i low high = put_cell (put_cell s.cells (suc i) (without_packet high)) i (record low { packet = high.packet; met = false })
+
+-- the packet stands one stage lower
+pub fall_stretch : (s : State) (i : ℕ) (r : Falls s i) → Stretch s (cells_fallen s i r.low r.high) (Down (suc i) r.what ∷ []) (Down i r.what ∷ [])
+fall_stretch s i r =
     let p = pair s.cells i r.low r.high r.at_low r.at_high in
     let c : Cell = record r.low { packet = r.high.packet; met = false } in
     let d : Cell = without_packet r.high in
-    let up = column_from (suc (suc i)) p.above in
-    let under = column_from 1 p.below in
-    let rs = passenger_in (suc i) r.high.passenger in
-    let ks = passenger_in i r.low.passenger in
-    let was : column s ≡ (up ++ rs) ++ (Down (suc i) r.what ∷ [] ++ (ks ++ under)) =
-    ap (column_from 1) p.split ∙ column-pair i p.below p.above r.low r.high p.number ∙ ap (λ (m : List Item). up ++ (m ++ under)) (fall_was i (suc i) r.low r.high r.what r.lies r.empty r.clear) ∙ regroup up rs (Down (suc i) r.what ∷ []) ks under in
-    let is : column_from 1 (put_cell (put_cell s.cells (suc i) d) i c) ≡ (up ++ rs) ++ (Down i r.what ∷ [] ++ (ks ++ under)) =
-    ap (column_from 1) (p.set_down c d) ∙ column-pair i p.below p.above c d p.number ∙ ap (λ (m : List Item). up ++ (m ++ under)) (fall_is i (suc i) r.low r.high r.what r.lies r.empty r.clear) ∙ regroup up rs (Down i r.what ∷ []) ks under in
-    rw (next-fall l s i r.high r.low r.at_high r.at_low, sub-one) (changed l s x (put_cell (put_cell s.cells (suc i) d) i c) (up ++ rs) (Down (suc i) r.what ∷ []) (Down i r.what ∷ []) (ks ++ under) was is (put_size (put_cell s.cells (suc i) d) i c ∙ put_size s.cells (suc i) d) (λ o. record {
+    pair_stretch s i r.low r.high c d p (cells_fallen s i r.low r.high) (passenger_in (suc i) r.high.passenger) (Down (suc i) r.what ∷ []) (Down i r.what ∷ []) (passenger_in i r.low.passenger) (p.set_down c d) (fall_was i (suc i) r.low r.high r.what r.lies r.empty r.clear) (fall_is i (suc i) r.low r.high r.what r.lies r.empty r.clear)
+
+fall_above : {rest out : List ℕ} (l : Plan) (s : State) (x : Machine) (i : ℕ) → row_bar l s (Fall (suc i)) ≡ None → Sound l s rest out x → Sound l (moved l s (Fall (suc i))) rest out x
+fall_above {rest} {out} l s x i e h =
+    let r = fall_ready l s i e in
+    let q = fall_stretch s i r in
+    rw (next-fall l s i r.high r.low r.at_high r.at_low, sub-one) (changed l s x (cells_fallen s i r.low r.high) q.above (Down (suc i) r.what ∷ []) (Down i r.what ∷ []) q.below q.was q.is q.size (λ o. record {
       path = path_label (isa_of l) (suc i) i r.what _;
       lone = lones.fall_lone l i r.what _;
       stands = tt;
       port = port_label (isa_of l) (suc i) i r.what _ o.safe;
       operations = λ k. refl;
     }) h)
-  where
-    regroup : (a r m k b : List Item) → a ++ ((r ++ (m ++ k)) ++ b) ≡ (a ++ r) ++ (m ++ (k ++ b))
-    regroup a r m k b = rw (append_assoc r (m ++ k) b, append_assoc m k b, append_assoc a r (m ++ (k ++ b)))
 
 pub fall_kept : {rest out : List ℕ} (l : Plan) (s : State) (x : Machine) (i : ℕ) → bar l s (Fall i) ≡ None → Sound l s rest out x → Sound l (moved l s (Fall i)) rest out x
 fall_kept {rest} {out} l s x zero e h = absurd (no_fall l s (bar_row l s (Fall zero) e))

@@ -75,7 +75,7 @@ pub next-issue : (l : Plan) (s : State) (g : Guess) (c : Cell) (cs : List Cell) 
 unfolding moved
 next-issue l s g c cs pc p e f h = rw (e, f, h)
 
-issue_items : (c : Cell) (p : Passenger) → c.passenger ≡ None → items 1 (record c { passenger = Some p; met = false }) ≡ items 1 c ++ Up 1 p ∷ []
+pub issue_items : (c : Cell) (p : Passenger) → c.passenger ≡ None → items 1 (record c { passenger = Some p; met = false }) ≡ items 1 c ++ Up 1 p ∷ []
 issue_items c p e = grind arith
 
 running_goto : (o : Option ℕ) (pc : ℕ) → Running pc ≡ fetch_at o → o ≡ Some pc

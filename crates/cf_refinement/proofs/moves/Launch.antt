@@ -18,7 +18,7 @@ use Rattle.cf_refinement.proofs.column.Fold.{Replaces, fit_append, fit_front, wa
 use Rattle.cf_refinement.proofs.moves.Rows.{bar_row, put_size}
 use Rattle.cf_refinement.proofs.walks.Launching.{answer_none, launch_lone, launch_path, launch_port, launch_stands, sent_out}
 use Rattle.cf_refinement.proofs.walks.Loose.{Loose, loose_fit, waiting}
-use Rattle.cf_refinement.proofs.instructions.Memory.{is_memory-is, l2}
+use Rattle.cf_refinement.proofs.instructions.Memory.{l2}
 use Rattle.cf_refinement.proofs.walks.Order.{From, calm, open_packet, open_rider, walk_open}
 use Rattle.cf_refinement.proofs.walks.PathFinish.{trapped_sure}
 use Rattle.cf_refinement.proofs.column.Sidings.{answer_here, berthed, flown_range, last_answer, rehung, top_same}
@@ -50,6 +50,9 @@ use Rattle.cf_refinement.proofs.walks.Path as paths
 use Rattle.cf_refinement.proofs.invariant.Sure as sure
 use Rattle.cf_semantics.specs.Path as trail
 use Rattle.cf_semantics.specs.Soundness.{AreUnanswered, LastAnswered, in_siding, operations_in, operations_of}
+use Rattle.cf_refinement.proofs.instructions.Classes.{memory_is}
+use Rattle.cf_refinement.proofs.walks.Path.{sure_at}
+use Rattle.cf_refinement.proofs.walks.Lone.{lone_open}
 
 pub record Launches (l : Plan) (s : State) (i : ℕ) : Type 0 where
   pub here : Cell
@@ -142,17 +145,9 @@ unbarred l (Down i k ∷ xs) w b f o e =
     let t = open_packet l i k b f.0 (walk_open l xs _ o) in
     unbarred l xs (trail.past (isa_of l) (Down i k) w) (lone.past l (Down i k) b) f.1 o (packet_open (isa_of l) i k w t e)
 
-pub sure_here : (isa : Isa) (i : ℕ) (p : Passenger) (w : trail.Walk) → p.dead ≡ false → w.barred ≡ false → sure.Fits isa (Up i p) w → sure.SureAt isa p w
-unfolding sure.Fits
-sure_here isa i p w d b h = grind arith
-
 sure_goto : (isa : Isa) (p : Passenger) (w : trail.Walk) → sure.SureAt isa p w → w.goto ≡ Some p.pc
 unfolding sure.SureAt
 sure_goto isa p w h = h.0.path
-
-lone_open : (i : ℕ) (p : Passenger) (b : Bool) → lone.Fits (Up i p) b → b ≡ false
-unfolding lone.Fits
-lone_open i p b h = h
 
 -- what is known of a memory operation that is to be launched
 pub record Calm (isa : Isa) (s : State) (w : dock.Dock) (p : Passenger) : Type 0 where
@@ -165,7 +160,7 @@ memory_calm {rest} {out} l s x i c p q acc n f d k each fit h =
     let from : From (suc (launch_stage l (port l))) q.above = subst (λ (m : ℕ). From (suc m) q.above) n (q.from f) in
     let o = lone_open i p _ k.lone_fit.0 in
     let b = unbarred l q.above (trail.top s x) false from o refl in
-    let certain = sure_here (isa_of l) i p (walk (trail.past (isa_of l)) q.above (trail.top s x)) d b k.path_fit.0 in
+    let certain = sure_at (isa_of l) i p (walk (trail.past (isa_of l)) q.above (trail.top s x)) d b k.path_fit.0 in
     let z = calm l q.above (dock.top l s x) false p.pc acc from each fit o (sure_goto (isa_of l) p _ certain) refl refl in
     record { sure = subst (λ (w : trail.Walk). sure.SureAt (isa_of l) p w) (sym k.same) certain; risky = z.1; bounded = core_bounds l s x q.above h ∙ ap (λ (w : trail.Walk). bounds_of w.machine.hart.mem) (sym k.same) }
 
@@ -199,7 +194,7 @@ not_back l i p e h = go p.recovered refl
     go true f = absurd (let z = h.back_launched f in cc)
 
 pub in_port : (l : Plan) (p : Passenger) (k : ℕ) → Suits l → siding_of l (kind p) ≡ Some k → is_memory (kind p) ≡ true → k ≡ (port l)
-in_port l p k acc e m = let z : siding_of l (kind p) ≡ Some (port l) = rw (is_memory-is (kind p) m) acc.memory in same (sym e ∙ z)
+in_port l p k acc e m = let z : siding_of l (kind p) ≡ Some (port l) = rw (memory_is (kind p) m) acc.memory in same (sym e ∙ z)
   where
     same : Some k ≡ Some (port l) → k ≡ (port l)
     same e = cc

@@ -44,6 +44,7 @@ use Rattle.cf_refinement.proofs.walks.Port as ports
 use Rattle.cf_refinement.proofs.invariant.Sure as sure
 use Rattle.cf_semantics.specs.Path as trail
 use Rattle.cf_semantics.specs.Soundness.{HasValue, Holds, IsKnown, in_siding, operations_of}
+use Rattle.cf_refinement.proofs.walks.Path.{sure_at}
 
 pub record Leaves (l : Plan) (s : State) : Type 0 where
   pub here : Cell
@@ -83,8 +84,8 @@ leave_regs isa p x g l d n h = go (fetched isa x.hart.mem p.pc) refl h.reads
   where
     go : (q : Fetched) → fetched isa x.hart.mem p.pc ≡ q → Holds p q → written x.hart.regs p.dst ≡ (behind (step_at isa x p.pc) x).hart.regs
     go (Got i) f w =
-        let y = step_writes isa x p.pc i (behind (step_at isa x p.pc) x) f (h.goes d n) in
-        written_is p.dst (dst_of i) y.0 x.hart.regs l (sure_dst_below isa p x (step_at isa x p.pc) g i w h) (h.shape i w).three (h.known d n) (rw y.1 at h.value3) ∙ sym y.1
+        let y = step_writes isa x p.pc i (behind (step_at isa x p.pc) x) f (h.values.goes d n) in
+        written_is p.dst (dst_of i) y.0 x.hart.regs l (sure_dst_below isa p x (step_at isa x p.pc) g i w h) (h.shape i w).three (h.values.done d n) (rw y.1 at h.values.destination) ∙ sym y.1
     go (Bad b) f w = absurd (let z = sym n ∙ w.1 in cc)
 
 sure_regs : (isa : Isa) (p : Passenger) (w : trail.Walk) → length w.machine.hart.regs ≡ 32 → p.done ≡ true → p.ending ≡ None → sure.SureAt isa p w → written w.machine.hart.regs p.dst ≡ (behind (step_at isa w.machine p.pc) w.machine).hart.regs
@@ -101,15 +102,11 @@ at_top isa p w e h = let q : w.machine.hart.pc ≡ p.pc = same (sym e ∙ h.0.pa
 
 pub sure_goes : (isa : Isa) (p : Passenger) (w : trail.Walk) → p.done ≡ true → p.ending ≡ None → sure.SureAt isa p w → (step_at isa w.machine p.pc ≡ Goes (behind (step_at isa w.machine p.pc) w.machine)) × (p.next ≡ Some (behind (step_at isa w.machine p.pc) w.machine).hart.pc)
 unfolding sure.SureAt
-sure_goes isa p w d n h = (h.0.goes d n, h.0.next d n)
+sure_goes isa p w d n h = (h.0.values.goes d n, h.0.values.next d n)
 
 pub sure_stops : (isa : Isa) (p : Passenger) (w : trail.Walk) (e : End) → p.ending ≡ Some e → sure.SureAt isa p w → step_at isa w.machine p.pc ≡ Stops e
 unfolding sure.SureAt
-sure_stops isa p w e n h = h.0.ends e n
-
-pub top_sure : (isa : Isa) (n : ℕ) (p : Passenger) (w : trail.Walk) → p.dead ≡ false → w.barred ≡ false → sure.Fits isa (Up n p) w → sure.SureAt isa p w
-unfolding sure.Fits
-top_sure isa n p w d b h = grind arith
+sure_stops isa p w e n h = h.0.values.ends e n
 
 -- what is left of the invariant once the highest rider is gone
 gone : {rest out : List ℕ} (l : Plan) (s t : State) (x y : Machine) (n : ℕ) (p : Passenger) (below : List Item) → column s ≡ Up n p ∷ below → column t ≡ below → t.fetch ≡ s.fetch → t.cache ≡ s.cache → length t.cells ≡ length s.cells → t.regs ≡ y.hart.regs → length y.hart.regs ≡ 32 → t.sidings ≡ s.sidings → t.mem ≡ s.mem → ((k : ℕ) → in_siding l k p ≡ false) → paths.Follows (trail.past (isa_of l) (Up n p) (trail.top s x)) (trail.top t y) → ports.Follows (dock.past (isa_of l) (Up n p) (dock.top l s x)) (dock.top l t y) → Sound l s rest out x → Sound l t rest out y
@@ -221,7 +218,7 @@ unfolding sure.SureAt dock.DockedAt
 ended_out isa p w e n h k m1 m2 c o =
     let q = l2 isa p w.path.machine w.path.goto c m1 m2 h.0 in
     let t = k.permitted c o in
-    let z = sym (h.0.ends e n) ∙ (rw t at q.1) in
+    let z = sym (h.0.values.ends e n) ∙ (rw t at q.1) in
     cc
 
 ended_unported : (l : Plan) (n : ℕ) (p : Passenger) (w : dock.Dock) (e : End) → p.ending ≡ Some e → Stands l n p → sure.SureAt (isa_of l) p w.path → dock.Fits (isa_of l) (Up n p) w → ahead.has_ported p w.answer ≡ false
@@ -316,7 +313,7 @@ line_sure isa p x y g wide goes c d n h = go (fetched isa x.hart.mem p.pc) refl 
   where
     go : (q : Fetched) → fetched isa x.hart.mem p.pc ≡ q → Holds p q → line_of p ∷ [] ≡ lines_at isa x
     go (Got i) f w =
-        let z = dst_got p.dst (dst_of i) (behind (step_at isa x p.pc) x).hart.regs (h.shape i w).three (h.known d n) h.value3 in
+        let z = dst_got p.dst (dst_of i) (behind (step_at isa x p.pc) x).hart.regs (h.shape i w).three (h.values.done d n) h.values.destination in
         let f' : fetched isa x.hart.mem x.hart.pc ≡ Got i = ap (fetched isa x.hart.mem) (sym c) ∙ f in
         let z' : p.dst ≡ got (behind (step_here isa x) x).hart.regs (dst_of i) = subst (λ (a : ℕ). p.dst ≡ got (behind (step_at isa x a) x).hart.regs (dst_of i)) c z in
         let z'' : p.dst ≡ got y.hart.regs (dst_of i) = z' ∙ ap (λ (s : Stepped). got (behind s x).hart.regs (dst_of i)) goes in
@@ -362,7 +359,7 @@ leave_kept {rest} {out} l s x e h =
         let u = r.over d in
         let fit = rw was at h.path_fit in
         let stand = rw was at h.stands in
-        let certain = top_sure (isa_of l) l.stages p (trail.top s x) d refl fit.0 in
+        let certain = sure_at (isa_of l) l.stages p (trail.top s x) d refl fit.0 in
         let g = sure_goes (isa_of l) p (trail.top s x) u n certain in
         let f = live_path (isa_of l) s t l.stages p x y refl refl d u n r.nothing g.1 in
         let steps : step_here (isa_of l) x ≡ Goes y = at_top (isa_of l) p (trail.top s x) refl certain ∙ g.0 in
@@ -373,7 +370,7 @@ leave_kept {rest} {out} l s x e h =
         let stand = rw was at h.stands in
         let docks = rw was at h.port_fit in
         let ends = rw was at h.port_ends in
-        let certain = top_sure (isa_of l) l.stages p (trail.top s x) d refl fit.0 in
+        let certain = sure_at (isa_of l) l.stages p (trail.top s x) d refl fit.0 in
         let q = ended_past (isa_of l) l.stages p (dock.top l s x) b d n (ended_unported l l.stages p (dock.top l s x) b n stand.0 certain docks.0) in
         let k = quiet (isa_of l) below (dock.past (isa_of l) (Up l.stages p) (dock.top l s x)) q.1 docks.1 in
         rw (left_over s l.stages r.here p b d n) (record {
@@ -393,3 +390,7 @@ leave_kept {rest} {out} l s x e h =
             },
           ));
         })
+
+-- the cells once the highest passenger has left
+pub left_cells : (s : State) (n : ℕ) (c : Cell) (p : Passenger) → (left s n c p).cells ≡ put_cell s.cells n (without_passenger c)
+left_cells s n c p = grind arith

@@ -1,5 +1,5 @@
 -- Meet keeps the invariant.
-use Rattle.std.proofs.Common.{◌≡◌, ℕ, suc, ◌+◌, List, [], ◌∷◌, ◌++◌, Option, Some, None, Bool, true, false, ◌||◌, refl, sym, ap, ◌∙◌, arith}
+use Rattle.std.proofs.Common.{◌≡◌, ℕ, List, [], ◌∷◌, Option, Some, None, Bool, true, false, ◌||◌, refl, sym, ◌∙◌, arith}
 use Rattle.cf_bind.specs.Meeting.{meeting}
 use Rattle.cf_bind.specs.declared.cell.Cell.{Cell}
 use Rattle.cf_bind.specs.declared.moves.Bar.TheVariants.{NoSuchSite}
@@ -8,13 +8,13 @@ use Rattle.cf_bind.specs.declared.packet.Packet.{Packet}
 use Rattle.cf_bind.specs.declared.passenger.Passenger.{Passenger}
 use Rattle.cf_layout.specs.Layout.{Plan}
 use Rattle.cf_refinement.proofs.column.Change.{changed, walk_path, walk_safe}
-use Rattle.cf_refinement.proofs.column.Column.{column-at, place}
+use Rattle.cf_refinement.proofs.column.Stretch.{Stretch, stage_stretch}
 use Rattle.cf_refinement.proofs.column.Fold.{Replaces}
 use Rattle.cf_refinement.proofs.walks.Stands.{meet_rider}
 use Rattle.cf_refinement.proofs.invariant.Invariant.{Sound}
 use Rattle.cf_refinement.proofs.invariant.Stands.{Each, Stands}
 use Rattle.cf_semantics.specs.Bars.{bar, meet_bar, row_bar}
-use Rattle.cf_semantics.specs.Column.{Down, Item, Up, column, column_from, in_order, packet_in, passenger_in}
+use Rattle.cf_semantics.specs.Column.{Down, Up, in_order, packet_in, passenger_in}
 use Rattle.cf_semantics.specs.Layouts.{isa_of}
 use Rattle.cf_semantics.specs.Moves.{cell_met, moved}
 use Rattle.cf_semantics.specs.Options.{is_some, on}
@@ -31,7 +31,7 @@ use Rattle.cf_refinement.proofs.walks.Port as ports
 use Rattle.cf_refinement.proofs.invariant.Sure as sure
 use Rattle.cf_semantics.specs.Path as trail
 use Rattle.cf_semantics.specs.Soundness.{operations_of}
-use Rattle.cf_refinement.proofs.moves.Rows.{bar_row, put_size}
+use Rattle.cf_refinement.proofs.moves.Rows.{bar_row}
 
 pub record Meets (s : State) (i : ℕ) : Type 0 where
   pub here : Cell
@@ -97,20 +97,20 @@ sources_out l i p h e = go p.launched refl
     go true f = h.sourced1 f
     go false f = h.sourced1 (h.back_launched (rw f at e))
 
+-- the packet stands above the passenger, and what is left of it below
+pub meet_stretch : (s : State) (i : ℕ) (r : Meets s i) → Stretch s (put_cell s.cells i (cell_met r.here r.who r.what)) (Down i r.what ∷ Up i r.who ∷ []) (pathmeet.met_items i (meeting r.who r.what).passenger (meeting r.who r.what).packet)
+meet_stretch s i r =
+    let q = (meeting r.who r.what).passenger in
+    let o = (meeting r.who r.what).packet in
+    stage_stretch s i r.here (cell_met r.here r.who r.what) (Down i r.what ∷ Up i r.who ∷ []) (pathmeet.met_items i q o) r.at_here (rw (r.sits, r.lies, r.apart) refl) (items_met i q o)
+
 pub meet_kept : {rest out : List ℕ} (l : Plan) (s : State) (x : Machine) (i : ℕ) → bar l s (Meet i) ≡ None → Sound l s rest out x → Sound l (moved l s (Meet i)) rest out x
 meet_kept {rest} {out} l s x i e h =
     let r = meet_ready l s i (bar_row l s (Meet i) e) in
-    let p = place s.cells i r.here r.at_here in
-    let d : Cell = cell_met r.here r.who r.what in
-    let up = column_from (suc i) p.above in
-    let under = column_from 1 p.below in
     let q = (meeting r.who r.what).passenger in
     let o = (meeting r.who r.what).packet in
-    let was : column s ≡ up ++ ((Down i r.what ∷ Up i r.who ∷ []) ++ under) =
-    ap (column_from 1) p.split ∙ column-at i p.below p.above r.here p.number ∙ rw (r.sits, r.lies, r.apart) in
-    let is : column_from 1 (put_cell s.cells i d) ≡ up ++ (pathmeet.met_items i q o ++ under) =
-    ap (column_from 1) (p.set d) ∙ column-at i p.below p.above d p.number ∙ ap (λ (m : List Item). up ++ (m ++ under)) (items_met i q o) in
-    rw (next-meet l s i r.here r.who r.what r.at_here r.sits r.lies) (changed l s x (put_cell s.cells i d) up (Down i r.what ∷ Up i r.who ∷ []) (pathmeet.met_items i q o) under was is (put_size s.cells i d) (λ k. record {
+    let p = meet_stretch s i r in
+    rw (next-meet l s i r.here r.who r.what r.at_here r.sits r.lies) (changed l s x (put_cell s.cells i (cell_met r.here r.who r.what)) p.above (Down i r.what ∷ Up i r.who ∷ []) (pathmeet.met_items i q o) p.below p.was p.is p.size (λ k. record {
       path = record { fit = pathmeet.meet_fits (isa_of l) i r.who r.what _; follows = pathmeet.meet_walk (isa_of l) i r.who r.what _ };
       lone = lones.meet_lone l i r.who r.what _ k.stands.0;
       stands = met_stands l i q o (meet_rider l i r.who r.what k.stands.0);

@@ -9,13 +9,12 @@ use Rattle.cf_layout.specs.Layout.{Plan, launch_stage, recover_stage, siding_of}
 use Rattle.cf_refinement.proofs.walks.Answering.{Landed, fit_landed, walk_landed}
 use Rattle.cf_refinement.proofs.walks.Returning.{back, back_dead, back_finished, back_fits, back_lone, back_lone_fits, back_past, back_port, back_port_fits}
 use Rattle.cf_refinement.proofs.column.Change.{docked, ends_port, here, past_safe, reshaped, walk_safe}
-use Rattle.cf_refinement.proofs.walks.Finishing.{finish_dead, finish_flags, finish_kind, finish_lone, finish_port, finish_risks, finish_shuts, plain_quiet}
+use Rattle.cf_refinement.proofs.walks.Finishing.{finish_dead, finish_flags, finish_kind, finish_lone, finish_port, finish_shuts, finish_turned, plain_quiet}
 use Rattle.cf_refinement.proofs.moves.Execute.{goes_straight, sure_finishes}
 use Rattle.cf_refinement.proofs.column.Fold.{Replaces, fit_append, fit_back, fit_follows, fit_front, prefaced, walk-append, walk_follows}
 use Rattle.cf_refinement.proofs.moves.Rows.{bar_row, put_size}
 use Rattle.cf_refinement.proofs.moves.Launch.{in_port}
-use Rattle.cf_refinement.proofs.walks.Loading.{loaded_risks, loaded_shuts, memory_finishes, memory_goes}
-use Rattle.cf_refinement.proofs.instructions.Memory.{is_memory-is}
+use Rattle.cf_refinement.proofs.walks.Loading.{loaded_calm, loaded_shuts, memory_finishes, memory_goes}
 use Rattle.cf_refinement.proofs.walks.PathFinish.{Finishes, finish_fits, finish_walk, pc_stays}
 use Rattle.cf_refinement.proofs.moves.Recovering.{Recovers, back_moored, hauls, next-recover, recover_ready}
 use Rattle.cf_refinement.proofs.column.Sidings.{last_answer, last_set, plain_last, put_here, put_other}
@@ -43,7 +42,8 @@ use Rattle.cf_refinement.proofs.walks.Path as paths
 use Rattle.cf_refinement.proofs.walks.Port as ports
 use Rattle.cf_refinement.proofs.invariant.Sure as sure
 use Rattle.cf_semantics.specs.Path as trail
-use Rattle.cf_semantics.specs.Soundness.{IsAnswer, in_siding, operations_of}
+use Rattle.cf_semantics.specs.Soundness.{IsAnswer, in_siding, operations_of, may_turn}
+use Rattle.cf_refinement.proofs.instructions.Classes.{memory_is}
 
 label : (isa : Isa) (i : ℕ) (p : Passenger) (w : trail.Walk) → Replaces trail.Walk (sure.Fits isa) (trail.past isa) paths.Follows (Up i (back p) ∷ []) (Up i (back p) ∷ []) w
 label isa i p w = record { fit = λ h. h; follows = λ h. record { barred = λ b. b; machine = λ _. refl; goto = λ _. refl; settled = λ _ e. e; trapped = λ _ e. e; coming = λ _ r c. c } }
@@ -123,7 +123,7 @@ plain_kept {rest} {out} l s x i acc r d m h =
     (prefaced _ (sure.Fits (isa_of l)) (trail.past (isa_of l)) paths.Follows (Up i p) (Up i b) new _ (back_fits (isa_of l) i p _) (back_past (isa_of l) i p _) (record { fit = finish_fits (isa_of l) i b _ None y.wide d u (sure_finishes (isa_of l) b _ u m1 m2 c); follows = walks _ }))
     (prefaced _ lone.Fits (lone.past l) lones.Follows (Up i p) (Up i b) new _ (back_lone_fits i p _) (back_lone l i p _) (finish_lone l i b _ (finish_shuts l i b c low y.stands.0.guess)))
     (back_finished l i p None d r.out (behind_here l p k i r.siding r.at_stage) (plain_quiet (kind p) c) y.stands.0, tt)
-    (docked l s t x q.above old new q.below q.was (q.is f) (top_other l s t x k refl refl (other_port l p k acc r.siding m)) refl (prefaced _ (dock.Fits (isa_of l)) (dock.past (isa_of l)) ports.Follows (Up i p) (Up i b) new _ (back_port_fits (isa_of l) i p _ m) (back_port (isa_of l) i p _ m) (finish_port (isa_of l) i b _ c y.safe (finish_risks b d u c (y.stands.0.unended u) y.stands.0.guess) (walks _) (rw y.same (back_fits (isa_of l) i p _ y.path_fit.0, tt)))) h)
+    (docked l s t x q.above old new q.below q.was (q.is f) (top_other l s t x k refl refl (other_port l p k acc r.siding m)) refl (prefaced _ (dock.Fits (isa_of l)) (dock.past (isa_of l)) ports.Follows (Up i p) (Up i b) new _ (back_port_fits (isa_of l) i p _ m) (back_port (isa_of l) i p _ m) (finish_port (isa_of l) i b _ c y.safe (finish_turned i b d u c (y.stands.0.unended u) y.stands.0.guess) (walks _) (rw y.same (back_fits (isa_of l) i p _ y.path_fit.0, tt)))) h)
     (back_moored l s t i r q f g refl (q.is f) ((finish_flags b None).1) h.moored)
     h
   where
@@ -138,7 +138,7 @@ landed l acc (Up i p ∷ xs) e = go (ahead.flies p) refl (λ z. landed l acc xs 
     out : ahead.flies p ≡ true → in_siding l (port l) p ≡ true
     out f =
         let m : is_memory (kind p) ≡ true = grind arith in
-        let z : siding_of l (kind p) ≡ Some (port l) = rw (is_memory-is (kind p) m) acc.memory in
+        let z : siding_of l (kind p) ≡ Some (port l) = rw (memory_is (kind p) m) acc.memory in
         let same : ((port l) == (port l)) ≡ true = grind arith in
         let a : p.launched ≡ true = grind arith in
         let b : p.recovered ≡ false = grind arith in
@@ -180,12 +180,12 @@ loaded_port isa i p w a m d o n g e f q s =
     let d2 : ahead.has_served b ≡ false = grind arith in
     let e1 : ahead.flies p ≡ true = grind arith in
     let e2 : ahead.flies b ≡ false = grind arith in
-    let z = loaded_risks (back p) a m g e in
+    let z = loaded_calm i (back p) a m g e in
     let pc : b.pc ≡ p.pc = pc_stays (back p) (Some a) in
     record {
       path = q;
       safe = s;
-      risky = λ y. more w.risky (dock.risks b) (dock.risks p) z y;
+      risky = λ y. more w.risky (may_turn (Up i b)) (may_turn (Up i p)) z y;
       mem = rw (c1, c2, pc) refl;
       code = rw (d1, d2) refl;
       rest = rw (d1, d2) refl;

@@ -1,5 +1,5 @@
 -- Send keeps the invariant.
-use Rattle.std.proofs.Common.{◌≡◌, ℕ, suc, List, [], ◌∷◌, ◌++◌, Option, Some, None, Bool, true, false, refl, ap, ◌∙◌, arith, append-nil}
+use Rattle.std.proofs.Common.{◌≡◌, ℕ, List, [], ◌∷◌, Option, Some, None, true, refl, arith}
 use Rattle.cf_bind.specs.declared.cell.Cell.{Cell}
 use Rattle.cf_bind.specs.declared.moves.Bar.TheVariants.{NoSuchSite}
 use Rattle.cf_bind.specs.declared.moves.Move.TheVariants.{Send}
@@ -7,13 +7,13 @@ use Rattle.cf_bind.specs.declared.packet.Packet.{Packet}
 use Rattle.cf_bind.specs.declared.passenger.Passenger.{Passenger}
 use Rattle.cf_layout.specs.Layout.{Plan}
 use Rattle.cf_refinement.proofs.column.Change.{changed}
-use Rattle.cf_refinement.proofs.column.Column.{column-at, place}
+use Rattle.cf_refinement.proofs.column.Stretch.{Stretch, stage_stretch}
 use Rattle.cf_refinement.proofs.column.Fold.{Replaces}
-use Rattle.cf_refinement.proofs.moves.Rows.{bar_row, put_size}
+use Rattle.cf_refinement.proofs.moves.Rows.{bar_row}
 use Rattle.cf_refinement.proofs.walks.Stands.{send_stands}
 use Rattle.cf_refinement.proofs.invariant.Invariant.{Sound}
 use Rattle.cf_semantics.specs.Bars.{bar, row_bar, send_bar}
-use Rattle.cf_semantics.specs.Column.{Down, Item, Up, column, column_from, in_order}
+use Rattle.cf_semantics.specs.Column.{Down, Up}
 use Rattle.cf_semantics.specs.Layouts.{isa_of}
 use Rattle.cf_semantics.specs.Moves.{moved}
 use Rattle.cf_semantics.specs.Options.{is_some, on}
@@ -28,6 +28,7 @@ use Rattle.cf_refinement.proofs.walks.PortMoves as portmoves
 use Rattle.cf_refinement.proofs.walks.Port as ports
 use Rattle.cf_refinement.proofs.invariant.Sure as sure
 use Rattle.cf_semantics.specs.Path as trail
+use Rattle.cf_refinement.proofs.column.Column.{alone}
 
 pub record Sends (s : State) (i : ℕ) : Type 0 where
   pub here : Cell
@@ -57,26 +58,22 @@ pub next-send : (l : Plan) (s : State) (i : ℕ) (c : Cell) (p : Passenger) (k :
 unfolding moved
 next-send l s i c p k e f g = rw (e, f, g)
 
-pub alone : (m : Bool) (xs : List Item) → in_order m xs [] ≡ xs
-alone true xs = append-nil xs
-alone false xs = refl
-
 send_port : (isa : Isa) (i : ℕ) (p : Passenger) (k : Packet) (w : dock.Dock) → p.owes ≡ Some k → (w.path.barred ≡ true → w.risky ≡ true) → Everywhere (sure.Fits isa) (trail.past isa) (Up i p ∷ []) w.path → Replaces dock.Dock (dock.Fits isa) (dock.past isa) ports.Follows (Up i p ∷ []) (Up i (record p { owes = None }) ∷ Down i k ∷ []) w
 send_port isa i p k w e s f = record { fit = portmoves.send_fits isa i p k w e; follows = portmoves.send_walk isa i p k w e s (paths.send_walk isa i p k w.path e f) }
+
+-- what is owed stands below its owner
+pub send_stretch : (s : State) (i : ℕ) (r : Sends s i) → Stretch s (put_cell s.cells i (record { passenger = Some (record r.who { owes = None }); packet = Some r.what; met = true })) (Up i r.who ∷ []) (Up i (record r.who { owes = None }) ∷ Down i r.what ∷ [])
+send_stretch s i r =
+    let q : Passenger = record r.who { owes = None } in
+    stage_stretch s i r.here (record { passenger = Some q; packet = Some r.what; met = true }) (Up i r.who ∷ []) (Up i q ∷ Down i r.what ∷ []) r.at_here (rw (r.sits, r.free, alone r.here.met (Up i r.who ∷ [])) refl) refl
 
 pub send_kept : {rest out : List ℕ} (l : Plan) (s : State) (x : Machine) (i : ℕ) → bar l s (Send i) ≡ None → Sound l s rest out x → Sound l (moved l s (Send i)) rest out x
 send_kept {rest} {out} l s x i e h =
     let r = send_ready l s i (bar_row l s (Send i) e) in
-    let p = place s.cells i r.here r.at_here in
     let q : Passenger = record r.who { owes = None } in
     let d : Cell = record { passenger = Some q; packet = Some r.what; met = true } in
-    let up = column_from (suc i) p.above in
-    let under = column_from 1 p.below in
-    let was : column s ≡ up ++ ((Up i r.who ∷ []) ++ under) =
-    ap (column_from 1) p.split ∙ column-at i p.below p.above r.here p.number ∙ rw (r.sits, r.free, alone r.here.met (Up i r.who ∷ [])) in
-    let is : column_from 1 (put_cell s.cells i d) ≡ up ++ ((Up i q ∷ Down i r.what ∷ []) ++ under) =
-    ap (column_from 1) (p.set d) ∙ column-at i p.below p.above d p.number in
-    rw (next-send l s i r.here r.who r.what r.at_here r.sits r.owes) (changed l s x (put_cell s.cells i d) up (Up i r.who ∷ []) (Up i q ∷ Down i r.what ∷ []) under was is (put_size s.cells i d) (λ k. record {
+    let p = send_stretch s i r in
+    rw (next-send l s i r.here r.who r.what r.at_here r.sits r.owes) (changed l s x (put_cell s.cells i d) p.above (Up i r.who ∷ []) (Up i q ∷ Down i r.what ∷ []) p.below p.was p.is p.size (λ k. record {
       path = record { fit = paths.send_fits (isa_of l) i r.who r.what _ r.owes; follows = paths.send_walk (isa_of l) i r.who r.what _ r.owes };
       lone = lones.send_lone l i r.who r.what _ r.owes k.stands.0;
       stands = (send_stands l i r.who k.stands.0, tt);

@@ -17,14 +17,13 @@ use Rattle.cf_refinement.proofs.invariant.Stands.{Between, Stands}
 use Rattle.cf_refinement.proofs.invariant.Suited.{Suits}
 use Rattle.cf_semantics.specs.Bars.{bar, is_full, row_bar, serve_bar}
 use Rattle.cf_semantics.specs.Column.{Down, Item, Up, column, column_from, packet_in}
-use Rattle.cf_semantics.specs.Instructions.{Bad, Fetched, Goes, Got, Stops, fetched, is_serial, serve_of, step_at}
+use Rattle.cf_semantics.specs.Instructions.{Bad, Fetched, Goes, Got, Stops, fetched, serve_of, step_at}
 use Rattle.cf_semantics.specs.Layouts.{isa_of}
 use Rattle.cf_semantics.specs.Moves.{answered, next, served, with_passenger}
 use Rattle.cf_semantics.specs.Options.{Where, on}
 use Rattle.cf_semantics.specs.Passengers.{goto, instruction, kind}
 use Rattle.cf_semantics.specs.State.{Moment, State, cell_at, put_cell}
 use Rattle.cf_semantics.specs.Walks.{Everywhere, walk}
-use Rattle.rv_inst.specs.declared.classes.Class.{Class}
 use Rattle.rv_inst.specs.declared.classes.Class.TheVariants.{Serial}
 use Rattle.rv_inst.specs.declared.isa.Isa.{Isa}
 use Rattle.rv_machine.specs.Call.{Answer, Called}
@@ -39,6 +38,10 @@ use Rattle.cf_refinement.proofs.walks.Path as paths
 use Rattle.cf_refinement.proofs.invariant.Sure as sure
 use Rattle.cf_semantics.specs.Path as trail
 use Rattle.cf_semantics.specs.Soundness.{Holds, is_lone, operations_of}
+use Rattle.cf_refinement.proofs.instructions.Classes.{serial_is}
+use Rattle.cf_refinement.proofs.walks.Path.{sure_at}
+use Rattle.cf_refinement.proofs.walks.Lone.{no_rider, shut_past}
+use Rattle.cf_refinement.proofs.walks.Loose.{result_fits}
 
 pub record Serves (l : Plan) (s : State) : Type 0 where
   pub here : Cell
@@ -50,15 +53,12 @@ pub record Serves (l : Plan) (s : State) : Type 0 where
   pub serial : kind who ≡ Serial
   pub clear : is_full here ≡ false
 
-pub is_serial-is : (c : Class) → is_serial c ≡ true → c ≡ Serial
-is_serial-is c e = grind arith
-
 pub serve_ready : (l : Plan) (s : State) → row_bar l s Serve ≡ None → Serves l s
 serve_ready l s e = go (cell_at s.cells l.stages) refl e
   where
     inner : (c : Cell) (o : Option Passenger) → cell_at s.cells l.stages ≡ Some c → c.passenger ≡ o → serve_bar c ≡ None → Serves l s
     inner c None f h e = absurd (grind arith)
-    inner c (Some p) f h e = record { here = c; who = p; at_here = f; sits = h; live = grind arith; undone = grind arith; serial = is_serial-is (kind p) (grind arith); clear = grind arith }
+    inner c (Some p) f h e = record { here = c; who = p; at_here = f; sits = h; live = grind arith; undone = grind arith; serial = serial_is (kind p) (grind arith); clear = grind arith }
 
     go : (a : Option Cell) → cell_at s.cells l.stages ≡ a → on a (Some NoSuchSite) serve_bar ≡ None → Serves l s
     go None f e = absurd (cc)
@@ -70,10 +70,6 @@ next-serve l m c p a e f g = rw (e, f, g) refl
 
 abbrev pub quit : Passenger → ℕ → Passenger
 quit p e = record p { done = true; ending = Some (Exit e) }
-
-top_sure : (isa : Isa) (n : ℕ) (p : Passenger) (w : trail.Walk) → p.dead ≡ false → w.barred ≡ false → sure.Fits isa (Up n p) w → sure.SureAt isa p w
-unfolding sure.Fits
-top_sure isa n p w d b h = grind arith
 
 -- on the path
 pub gave_at : (isa : Isa) (p : Passenger) (w : trail.Walk) (a : Answer) → length w.machine.hart.regs ≡ 32 → kind p ≡ Serial → p.done ≡ false → serve_of (instruction p) w.machine.hart.regs w.machine.hart.mem w.machine.rest ≡ called.Value a → sure.SureAt isa p w → sure.SureAt isa (answered p a.value) w
@@ -89,13 +85,16 @@ quit_at isa p w e k d q h =
         path = h.0.path;
         reads = reads (fetched isa w.machine.hart.mem p.pc) h.0.reads;
         shape = λ j z. record { one = (h.0.shape j z).one; two = (h.0.shape j z).two; three = (h.0.shape j z).three };
-        value1 = h.0.value1;
-        value2 = h.0.value2;
-        value3 = h.0.value3;
-        goes = λ _ z. absurd (cc);
-        next = λ _ z. absurd (cc);
-        known = λ _ z. absurd (cc);
-        ends = λ b z. let y : Exit e ≡ b = cc in s ∙ ap Stops y;
+        values = record {
+          first = h.0.values.first;
+          second = h.0.values.second;
+          destination = h.0.values.destination;
+          owed = rw o tt;
+          goes = λ _ z. absurd (cc);
+          next = λ _ z. absurd (cc);
+          done = λ _ z. absurd (cc);
+          ends = λ b z. let y : Exit e ≡ b = cc in s ∙ ap Stops y;
+        };
         unended = λ z. absurd (cc);
         unowing = λ z. absurd (cc);
         owed = rw o tt;
@@ -130,18 +129,9 @@ Idle [] = Unit {0}
 Idle (Up i p ∷ xs) = ⊥
 Idle (Down i k ∷ xs) = Idle xs
 
-shut_past : (l : Plan) (i : Item) → lone.past l i true ≡ true
-unfolding lone.past
-shut_past l (Up i p) = refl
-shut_past l (Down i k) = refl
-
-shut_rider : (i : ℕ) (p : Passenger) → lone.Fits (Up i p) true → ⊥
-unfolding lone.Fits
-shut_rider i p h = cc
-
 idle : (l : Plan) (xs : List Item) → Everywhere lone.Fits (lone.past l) xs true → Idle xs
 idle l [] h = tt
-idle l (Up i p ∷ xs) h = shut_rider i p h.0
+idle l (Up i p ∷ xs) h = no_rider i p h.0
 idle l (Down i k ∷ xs) h = idle l xs (subst (λ (b : Bool). Everywhere lone.Fits (lone.past l) xs b) (shut_past l (Down i k)) h.1)
 
 holds_past : (l : Plan) (n : ℕ) (p : Passenger) → is_lone p ≡ true → lone.past l (Up n p) false ≡ true
@@ -152,7 +142,7 @@ past_idle : (isa : Isa) (i : ℕ) (k : _) (w : dock.Dock) → Unchanged w (dock.
 unfolding dock.past
 past_idle isa i k w = record { mem = refl; code = refl; rest = refl; out = refl }
 
-walk_idle : (isa : Isa) (xs : List Item) (w : dock.Dock) → Idle xs → Unchanged w (walk (dock.past isa) xs w)
+pub walk_idle : (isa : Isa) (xs : List Item) (w : dock.Dock) → Idle xs → Unchanged w (walk (dock.past isa) xs w)
 walk_idle isa [] w h = record { mem = refl; code = refl; rest = refl; out = refl }
 walk_idle isa (Up i p ∷ xs) w h = absurd h
 walk_idle isa (Down i k ∷ xs) w h =
@@ -160,20 +150,16 @@ walk_idle isa (Down i k ∷ xs) w h =
     let b = walk_idle isa xs (dock.past isa (Down i k) w) h in
     record { mem = b.mem ∙ a.mem; code = b.code ∙ a.code; rest = b.rest ∙ a.rest; out = b.out ∙ a.out }
 
-result_fits : (isa : Isa) (i : ℕ) (k : _) (w : dock.Dock) → dock.Fits isa (Down i k) w
-unfolding dock.Fits
-result_fits isa i k w = tt
-
-fit_idle : (isa : Isa) (xs : List Item) (w : dock.Dock) → Idle xs → Everywhere (dock.Fits isa) (dock.past isa) xs w
+pub fit_idle : (isa : Isa) (xs : List Item) (w : dock.Dock) → Idle xs → Everywhere (dock.Fits isa) (dock.past isa) xs w
 fit_idle isa [] w h = tt
 fit_idle isa (Up i p ∷ xs) w h = absurd h
 fit_idle isa (Down i k ∷ xs) w h = (result_fits isa i k w, fit_idle isa xs (dock.past isa (Down i k) w) h)
 
-serial_docked : (isa : Isa) (n : ℕ) (q : Passenger) (w : dock.Dock) → kind q ≡ Serial → w.risky ≡ false → dock.Fits isa (Up n q) w
+pub serial_docked : (isa : Isa) (n : ℕ) (q : Passenger) (w : dock.Dock) → kind q ≡ Serial → w.risky ≡ false → dock.Fits isa (Up n q) w
 unfolding dock.Fits dock.DockedAt
 serial_docked isa n q w k r = record { live = λ a b. absurd (grind arith); order = λ a b. absurd (grind arith); served = λ a. r; permitted = λ a b. absurd (grind arith); answered = λ a. absurd (grind arith) }
 
-not_yet : (isa : Isa) (n : ℕ) (q : Passenger) (w : dock.Dock) → kind q ≡ Serial → ahead.has_served q ≡ false → Unchanged w (dock.past isa (Up n q) w)
+pub not_yet : (isa : Isa) (n : ℕ) (q : Passenger) (w : dock.Dock) → kind q ≡ Serial → ahead.has_served q ≡ false → Unchanged w (dock.past isa (Up n q) w)
 unfolding dock.past
 not_yet isa n q w k s =
     let z : ahead.has_ported q w.answer ≡ false = grind arith in
@@ -273,7 +259,7 @@ scene {rest} {out} l s x r h =
       below = below;
       was = was;
       is = λ q. c.set (with_passenger r.here q) ∙ ap (λ (z : List Item). z ++ column_from 1 c.below) (rider_put n r.here p q r.sits r.clear);
-      certain = top_sure (isa_of l) n p (trail.top s x) r.live refl fit.0;
+      certain = sure_at (isa_of l) n p (trail.top s x) r.live refl fit.0;
       stands = stand.0;
       holds = hold.0;
       unserved = hold.1;

@@ -18,6 +18,7 @@ use Rattle.cf_semantics.specs.Walks.{Everywhere, walk}
 use Rattle.cf_semantics.specs.Soundness.{AreUnanswered, IsUnanswered, LastAnswered}
 use Rattle.rv_machine.specs.Machine.{Machine}
 use Rattle.cf_refinement.proofs.invariant.Port as dock
+use Rattle.cf_refinement.proofs.column.Change.{beside}
 
 pub record Slides (s : State) (k c : ℕ) : Type 0 where
   pub what : Op
@@ -71,17 +72,7 @@ slide_kept {rest} {out} l s x k c e h =
     let n = some_cells old c (Some r.what) r.here in
     let t : State = with_siding s k new in
     let top = top_same l s t x refl (answer_here l s t k new n.0 refl n.1 (λ _. slide_answer old c r.what r.here r.there (h.moored.front k))) in
-    rw (next-slide l s k c r.what r.here) (record {
-      regs = h.regs;
-      wide = h.wide;
-      size = h.size;
-      path_fit = h.path_fit;
-      path_ends = h.path_ends;
-      cache = h.cache;
-      lone_fit = h.lone_fit;
-      lone_ends = h.lone_ends;
-      stands = h.stands;
-      port_fit = subst (λ (w : dock.Dock). Everywhere (dock.Fits (isa_of l)) (dock.past (isa_of l)) (column s) w) (sym top) h.port_fit;
-      port_ends = subst (λ (w : dock.Dock). dock.Ends (walk (dock.past (isa_of l)) (column s) w) s.mem rest out) (sym top) h.port_ends;
-      moored = rehung l s t (column s) (column s) k new refl n.0 n.1 (slide_size old c r.what) (operations-slide old c r.what r.here r.there ∙ h.moored.operations k) (λ j a. refl) (slide_front old c r.what r.here (h.moored.front k)) (λ a. slide_plain old c r.what r.here (h.moored.plain k a)) h.moored;
-    })
+    rw (next-slide l s k c r.what r.here) (beside l s x t.sidings t.mem (record {
+      fit = subst (λ (w : dock.Dock). Everywhere (dock.Fits (isa_of l)) (dock.past (isa_of l)) (column s) w) (sym top) h.port_fit;
+      ends = subst (λ (w : dock.Dock). dock.Ends (walk (dock.past (isa_of l)) (column s) w) s.mem rest out) (sym top) h.port_ends;
+    }) (rehung l s t (column s) (column s) k new refl n.0 n.1 (slide_size old c r.what) (operations-slide old c r.what r.here r.there ∙ h.moored.operations k) (λ j a. refl) (slide_front old c r.what r.here (h.moored.front k)) (λ a. slide_plain old c r.what r.here (h.moored.plain k a)) h.moored) h)

@@ -89,7 +89,7 @@ step_mem isa p x g h e f = go (fetched isa x.hart.mem p.pc) refl h.reads
     go (Got i) a k =
         let c : kind p ≡ kind_of i = ap (λ (o : Option Instr). on o Free kind_of) k in
         mem_at (step_at isa x p.pc) x p.pc (rw (step_is isa x p.pc i a) (class_mem (kind_of i) i (value_read x.hart.regs (src1_of i)) (value_read x.hart.regs (src2_of i)) (at_pc x p.pc) (rw c at e) (rw c at f)))
-    go (Bad b) a k = rw (h.ends b k.1)
+    go (Bad b) a k = rw (h.values.ends b k.1)
 
 -- a live memory operation has come back, or has not been launched and has a trap
 abbrev pub Settled : List Item → Type 0

@@ -16,6 +16,7 @@ use Rattle.rv_machine.specs.Machine.{Machine}
 use Rattle.cf_semantics.specs.Ahead as ahead
 use Rattle.cf_refinement.proofs.invariant.Port as dock
 use Rattle.cf_semantics.specs.Path as trail
+use Rattle.cf_refinement.proofs.walks.Order.{past_path}
 
 past_path_bounds : (isa : Isa) (i : Item) (w : trail.Walk) → bounds_of (trail.past isa i w).machine.hart.mem ≡ bounds_of w.machine.hart.mem
 unfolding trail.past
@@ -24,11 +25,6 @@ past_path_bounds isa i w = grind (arith, step_bounds)
 pub path_bounds : (isa : Isa) (xs : List Item) (w : trail.Walk) → bounds_of (walk (trail.past isa) xs w).machine.hart.mem ≡ bounds_of w.machine.hart.mem
 path_bounds isa [] w = refl
 path_bounds isa (i ∷ xs) w = path_bounds isa xs (trail.past isa i w) ∙ past_path_bounds isa i w
-
-past_path : (isa : Isa) (i : Item) (w : dock.Dock) → (dock.past isa i w).path ≡ trail.past isa i w.path
-unfolding dock.past
-past_path isa (Up i p) w = refl
-past_path isa (Down i k) w = refl
 
 either : (b : Bool) (y m : Memory) (n : List Bounds) → bounds_of y ≡ n → bounds_of m ≡ n → bounds_of (if b then y else m) ≡ n
 either true y m n e f = e

@@ -5,7 +5,7 @@ use Rattle.cf_refinement.proofs.invariant.Sure.{AreRegisters}
 use Rattle.cf_semantics.specs.Passengers.{cached, cleared, forgets}
 
 -- what is kept of q once r was set
-set_cached : (c : List (Option ℕ)) (r q v : ℕ) (o : Option ℕ) → cached (slice_set c r o) q ≡ Some v → ((q ≡ r) × (o ≡ Some v)) ⊎ ((q ≢ r) × (cached c q ≡ Some v))
+pub set_cached : (c : List (Option ℕ)) (r q v : ℕ) (o : Option ℕ) → cached (slice_set c r o) q ≡ Some v → ((q ≡ r) × (o ≡ Some v)) ⊎ ((q ≢ r) × (cached c q ≡ Some v))
 set_cached [] r q v o e = absurd (grind arith)
 set_cached (a ∷ c) zero zero v o e = inl (refl, e)
 set_cached (a ∷ c) zero (suc q) v o e = inr (λ z. absurd (omega arith), e)
@@ -23,7 +23,7 @@ keep_holds c regs r v e h q u f = go (set_cached c r q u (Some v) f)
     go (inl a) = let z : v ≡ u = cc in rw a.0 (sym z ∙ e)
     go (inr a) = h q u a.1
 
-cached-cleared : (c : List (Option ℕ)) (r : ℕ) → cached (cleared c) r ≡ None
+pub cached-cleared : (c : List (Option ℕ)) (r : ℕ) → cached (cleared c) r ≡ None
 cached-cleared [] r = refl
 cached-cleared (o ∷ c) zero = refl
 cached-cleared (o ∷ c) (suc r) = cached-cleared c r

@@ -3,7 +3,7 @@ use Rattle.cf_semantics.specs.Instructions.{at_pc}
 use Rattle.cf_semantics.specs.Steps.{onward}
 use Rattle.rv_inst.specs.declared.instruction.Instr.{Instr}
 use Rattle.rv_inst.specs.declared.instruction.Instr.TheVariants.{Ebreak}
-use Rattle.std.proofs.Common.{◌≡◌, ℕ, [], ◌∷◌, Option, Some, None, Bool, true, false, ◌&&◌, ◌||◌, refl, sym, ap, ◌∙◌, arith}
+use Rattle.std.proofs.Common.{◌≡◌, ℕ, [], ◌∷◌, Option, Some, None, Bool, true, false, ◌&&◌, ◌||◌, refl, sym, ap, ◌∙◌, arith, true≢false}
 use Rattle.cf_bind.specs.declared.passenger.Guess.TheVariants.{Next}
 use Rattle.cf_bind.specs.declared.passenger.Passenger.{Passenger}
 use Rattle.cf_layout.specs.Layout.{Plan}
@@ -32,7 +32,7 @@ use Rattle.cf_refinement.proofs.walks.Path as paths
 use Rattle.cf_refinement.proofs.walks.Port as ports
 use Rattle.cf_refinement.proofs.invariant.Sure as sure
 use Rattle.cf_semantics.specs.Path as trail
-use Rattle.cf_semantics.specs.Soundness.{Holds, is_lone, operations_of, steers}
+use Rattle.cf_semantics.specs.Soundness.{Holds, is_lone, operations_of, steers, may_turn}
 
 pub execute_finishes : (isa : Isa) (p : Passenger) (x : Machine) (g : Option ℕ) → p.done ≡ false → missing p.src1 ≡ None → missing p.src2 ≡ None → is_plain (kind p) ≡ true → sure.IsSure isa p x (step_at isa x p.pc) g → Finishes p x (step_at isa x p.pc) None
 execute_finishes isa p x g d m1 m2 c h = go (fetched isa x.hart.mem p.pc) refl h.reads
@@ -41,8 +41,8 @@ execute_finishes isa p x g d m1 m2 c h = go (fetched isa x.hart.mem p.pc) refl h
     got i f w =
         let is : instruction p ≡ i = ap (λ (o : Option Instr). on o Ebreak (λ j. j)) w in
         let k : kind p ≡ kind_of i = ap (λ (o : Option Instr). on o Free kind_of) w in
-        let a = source_read p.src1 (src1_of i) x.hart.regs (h.shape i w).one h.value1 m1 in
-        let b = source_read p.src2 (src2_of i) x.hart.regs (h.shape i w).two h.value2 m2 in
+        let a = source_read p.src1 (src1_of i) x.hart.regs (h.shape i w).one h.values.first m1 in
+        let b = source_read p.src2 (src2_of i) x.hart.regs (h.shape i w).two h.values.second m2 in
         let s : step_at isa x p.pc ≡ on (finish_trap (instruction p) p.pc (value_in p.src1) (value_in p.src2)) (Goes (onward (at_pc x p.pc) (next_pc (instruction p) p.pc (value_in p.src1) (value_in p.src2)) (value_written x.hart.regs (dst_of (instruction p)) (value_of (instruction p) p.pc (value_in p.src1) (value_in p.src2))) x.hart.mem)) Stops = rw (is, a, b) (l1 isa x p.pc i f (rw k at c)) in
         record {
           what = w ∙ ap Some (sym is);
@@ -103,11 +103,11 @@ finish_trapless : (p : Passenger) → is_control (kind p) ≡ false → is_plain
 unfolding finish
 finish_trapless p c n e = grind (arith, straight_trap)
 
--- it risked as much before
-pub finish_risks : (p : Passenger) → p.dead ≡ false → p.done ≡ false → is_plain (kind p) ≡ true → p.ending ≡ None → (is_control (kind p) ≡ false → p.guess ≡ Next) → dock.risks (finish p None) ≡ true → dock.risks p ≡ true
-finish_risks p d u c e g r = go (is_control (kind p)) refl
+-- what may turn the program then might before
+pub finish_turned : (i : ℕ) (p : Passenger) → p.dead ≡ false → p.done ≡ false → is_plain (kind p) ≡ true → p.ending ≡ None → (is_control (kind p) ≡ false → p.guess ≡ Next) → may_turn (Up i (finish p None)) ≡ true → may_turn (Up i p) ≡ true
+finish_turned i p d u c e g r = go (is_control (kind p)) refl
   where
-    go : (b : Bool) → is_control (kind p) ≡ b → dock.risks p ≡ true
+    go : (b : Bool) → is_control (kind p) ≡ b → may_turn (Up i p) ≡ true
     go true k = let s = steers_control (kind p) c in grind arith
     go false k =
         let s = steers_control (kind p) c in
@@ -131,13 +131,13 @@ finish_docked isa p w c =
 finish_risky : (a b c : Bool) → (b ≡ true → c ≡ true) → (a || b) ≡ true → (a || c) ≡ true
 finish_risky a b c f e = grind (arith, f)
 
-pub finish_port : (isa : Isa) (i : ℕ) (p : Passenger) (w : dock.Dock) → is_plain (kind p) ≡ true → (w.path.barred ≡ true → w.risky ≡ true) → (dock.risks (finish p None) ≡ true → dock.risks p ≡ true) → (Everywhere (sure.Fits isa) (trail.past isa) (Up i p ∷ []) w.path → paths.Follows (walk (trail.past isa) (Up i p ∷ []) w.path) (walk (trail.past isa) (Up i (finish p None) ∷ []) w.path)) → Everywhere (sure.Fits isa) (trail.past isa) (Up i p ∷ []) w.path → Replaces dock.Dock (dock.Fits isa) (dock.past isa) ports.Follows (Up i p ∷ []) (Up i (finish p None) ∷ []) w
+pub finish_port : (isa : Isa) (i : ℕ) (p : Passenger) (w : dock.Dock) → is_plain (kind p) ≡ true → (w.path.barred ≡ true → w.risky ≡ true) → (may_turn (Up i (finish p None)) ≡ true → may_turn (Up i p) ≡ true) → (Everywhere (sure.Fits isa) (trail.past isa) (Up i p ∷ []) w.path → paths.Follows (walk (trail.past isa) (Up i p ∷ []) w.path) (walk (trail.past isa) (Up i (finish p None) ∷ []) w.path)) → Everywhere (sure.Fits isa) (trail.past isa) (Up i p ∷ []) w.path → Replaces dock.Dock (dock.Fits isa) (dock.past isa) ports.Follows (Up i p ∷ []) (Up i (finish p None) ∷ []) w
 finish_port isa i p w c s r f g = record {
   fit = λ h. (unfold dock.Fits in finish_docked isa p w c, tt);
   follows = λ h. record {
     path = rw (walk_path isa (Up i p ∷ []) w, walk_path isa (Up i (finish p None) ∷ []) w) (f g);
     safe = walk_safe isa (Up i (finish p None) ∷ []) w s;
-    risky = unfold dock.past in finish_risky w.risky (dock.risks (finish p None)) (dock.risks p) r;
+    risky = unfold dock.past in finish_risky w.risky (may_turn (Up i (finish p None))) (may_turn (Up i p)) r;
     mem = unfold dock.past in rw ((no_dock p c).2 w.answer, (no_dock (finish p None) k).2 w.answer);
     code = unfold dock.past in rw ((no_dock p c).0, (no_dock (finish p None) k).0);
     rest = unfold dock.past in rw ((no_dock p c).0, (no_dock (finish p None) k).0);
@@ -152,9 +152,6 @@ finish_port isa i p w c s r f g = record {
 pub finish_flags : (p : Passenger) (a : Option ℕ) → ((finish p a).launched ≡ p.launched) × ((finish p a).recovered ≡ p.recovered) × ((finish p a).guess ≡ p.guess) × ((finish p a).src1 ≡ p.src1) × ((finish p a).src2 ≡ p.src2)
 unfolding finish
 finish_flags p a = grind arith
-
-true_false : true ≡ false → ⊥
-true_false e = cc
 
 pub finish_stands : (l : Plan) (i : ℕ) (p : Passenger) → p.dead ≡ false → p.done ≡ false → is_plain (kind p) ≡ true → p.launched ≡ false → Stands l i p → Stands l i (finish p None)
 finish_stands l i p d u c ashore h =
@@ -177,8 +174,8 @@ finish_stands l i p d u c ashore h =
       unended = λ a. absurd (cc);
       blank = λ a. absurd (cc);
       free_done = λ _. e;
-      out_undone = λ a b z. absurd (true_false (sym b ∙ f.0 ∙ ashore));
-      faulted = λ a b. absurd (let z = (plain_port (kind p) c).0 in let y = rw k at b in true_false (sym y ∙ z));
+      out_undone = λ a b z. absurd (true≢false (sym b ∙ f.0 ∙ ashore));
+      faulted = λ a b. absurd (let z = (plain_port (kind p) c).0 in let y = rw k at b in true≢false (sym y ∙ z));
       sourced1 = λ a. rw f.3 (h.sourced1 (sym f.0 ∙ a));
       sourced2 = λ a. rw f.4 (h.sourced2 (sym f.0 ∙ a));
       homed = λ a. rw k (h.homed (rw k at a));

@@ -1,12 +1,11 @@
 -- A new passenger, on the path.
 use Rattle.rv_inst.specs.declared.instruction.Instr.{Instr}
 use Rattle.std.proofs.Common.{◌≡◌, ℕ, List, [], ◌∷◌, ◌++◌, Option, Some, None, Bool, true, false, ◌==◌, ◌||◌, refl, sym, ap, subst, ◌∙◌, arith}
-use Rattle.cf_bind.specs.declared.binding.Binding.{Binding}
 use Rattle.cf_bind.specs.declared.passenger.End.{End}
 use Rattle.cf_bind.specs.declared.passenger.Guess.{Guess}
 use Rattle.cf_bind.specs.declared.passenger.Passenger.{Passenger}
 use Rattle.cf_refinement.proofs.instructions.Steps.{bad_step, free_bare, step_is}
-use Rattle.cf_refinement.proofs.invariant.Sure.{AreRegisters, Comes, IsSure, SureAt}
+use Rattle.cf_refinement.proofs.invariant.Sure.{AreRegisters, IsSure, SureAt}
 use Rattle.cf_semantics.specs.Instructions.{Bad, Fetched, Goes, Got, Stops, at_pc, behind, dst_of, fetched, free_trap, is_free, kind_of, src1_of, src2_of, step_at, value_read, word_after}
 use Rattle.cf_semantics.specs.Options.{is_some, on}
 use Rattle.cf_semantics.specs.Passengers.{both, destination, fresh, fresh_as, fresh_end, fresh_fence, fresh_undone, goto, instruction, kind, missing, reg_in, requests, source}
@@ -50,22 +49,22 @@ bound_reg o = grind arith
 bound_agrees : (o : Option ℕ) (regs : List ℕ) → HasValue (destination o) regs
 bound_agrees o regs = grind arith
 
-asked_comes : (o : Option Binding) (coming : ℕ → Bool) → ((r : ℕ) → missing o ≡ Some r → coming r ≡ true) → Comes o coming
-asked_comes o coming f = grind (arith, f)
-
 -- the three kinds of new passengers
 end_sure : (isa : Isa) (x : Machine) (pc : ℕ) (g : Guess) (w : Option Instr) (e : End) (t : Option ℕ) → t ≡ Some pc → Holds (fresh_end w pc g e) (fetched isa x.hart.mem pc) → ((i : Instr) → w ≡ Some i → kind_of i ≡ Free) → step_at isa x pc ≡ Stops e → IsSure isa (fresh_end w pc g e) x (step_at isa x pc) t
 end_sure isa x pc g w e t p r c s = record {
   path = p;
   reads = r;
   shape = λ i k. let b = free_bare i (c i k) in record { one = sym b.0; two = sym b.1; three = sym b.2 };
-  value1 = tt;
-  value2 = tt;
-  value3 = tt;
-  goes = λ _ k. absurd (cc);
-  next = λ _ k. absurd (cc);
-  known = λ _ k. absurd (cc);
-  ends = λ b k. let q : e ≡ b = cc in s ∙ ap Stops q;
+  values = record {
+    first = tt;
+    second = tt;
+    destination = tt;
+    owed = tt;
+    goes = λ _ k. absurd (cc);
+    next = λ _ k. absurd (cc);
+    done = λ _ k. absurd (cc);
+    ends = λ b k. let q : e ≡ b = cc in s ∙ ap Stops q;
+  };
   unended = λ k. absurd (cc);
   unowing = λ k. absurd (cc);
   owed = tt;
@@ -76,13 +75,16 @@ fence_sure isa x pc g i t p r c s = record {
   path = p;
   reads = r;
   shape = λ j k. let q : i ≡ j = cc in let b = free_bare j (rw q at c) in record { one = sym b.0; two = sym b.1; three = sym b.2 };
-  value1 = tt;
-  value2 = tt;
-  value3 = tt;
-  goes = λ _ _. rw s;
-  next = λ _ _. rw s;
-  known = λ _ _. tt;
-  ends = λ b k. absurd (cc);
+  values = record {
+    first = tt;
+    second = tt;
+    destination = tt;
+    owed = tt;
+    goes = λ _ _. rw s;
+    next = λ _ _. rw s;
+    done = λ _ _. tt;
+    ends = λ b k. absurd (cc);
+  };
   unended = λ k. absurd (cc);
   unowing = λ k. absurd (cc);
   owed = tt;
@@ -93,13 +95,16 @@ undone_sure isa c x pc g i t h p r = record {
   path = p;
   reads = r;
   shape = λ j k. let q : i ≡ j = cc in rw (← q) (record { one = source_reg c (src1_of i); two = source_reg c (src2_of i); three = bound_reg (dst_of i) });
-  value1 = source_agrees c (src1_of i) x.hart.regs h;
-  value2 = source_agrees c (src2_of i) x.hart.regs h;
-  value3 = bound_agrees (dst_of i) (behind (step_at isa x pc) x).hart.regs;
-  goes = λ k. absurd (cc);
-  next = λ k. absurd (cc);
-  known = λ k. absurd (cc);
-  ends = λ b k. absurd (cc);
+  values = record {
+    first = source_agrees c (src1_of i) x.hart.regs h;
+    second = source_agrees c (src2_of i) x.hart.regs h;
+    destination = bound_agrees (dst_of i) (behind (step_at isa x pc) x).hart.regs;
+    owed = tt;
+    goes = λ k. absurd (cc);
+    next = λ k. absurd (cc);
+    done = λ k. absurd (cc);
+    ends = λ b k. absurd (cc);
+  };
   unended = λ _. refl;
   unowing = λ _. refl;
   owed = tt;
@@ -145,7 +150,7 @@ fresh_at isa w c pc g h p a =
     let q = fetched isa w.machine.hart.mem pc in
     let n = fresh c q pc g in
     let s = fetched_sure isa q c w.machine pc g w.goto h p refl in
-    (subst (λ (a : ℕ). IsSure isa n w.machine (step_at isa w.machine a) w.goto) (sym (fresh_pc q c pc g)) s, record { source1 = asked_comes n.src1 w.coming (λ r e. a r (asked1 (missing n.src1) (missing n.src2) r e)); source2 = asked_comes n.src2 w.coming (λ r e. a r (asked2 (missing n.src1) (missing n.src2) r e)) })
+    (subst (λ (a : ℕ). IsSure isa n w.machine (step_at isa w.machine a) w.goto) (sym (fresh_pc q c pc g)) s, record { source1 = λ r e. a r (asked1 (missing n.src1) (missing n.src2) r e); source2 = λ r e. a r (asked2 (missing n.src1) (missing n.src2) r e) })
 
 class_what : (k : Class) (c : List (Option ℕ)) (i : Instr) (pc : ℕ) (g : Guess) → (fresh_as k c i pc g).what ≡ Some i
 class_what Free c i pc g = go (free_trap i pc)

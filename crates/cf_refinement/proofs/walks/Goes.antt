@@ -1,4 +1,4 @@
--- A sure passenger that risks nothing is on the sequential path: its step goes on, to where the program goes.
+-- A sure passenger that may not turn the program is on the sequential path: its step goes on, to where the program goes.
 use Rattle.std.proofs.Common.{◌≡◌, ℕ, Option, Some, None, Bool, true, false, ◌||◌, ◌&&◌, not, refl, sym, ap, ◌∙◌, arith}
 use Rattle.cf_bind.specs.declared.passenger.End.{End}
 use Rattle.cf_bind.specs.declared.passenger.Guess.TheVariants.{Next}
@@ -8,6 +8,7 @@ use Rattle.cf_refinement.proofs.instructions.Memory.{after_access, l2}
 use Rattle.cf_refinement.proofs.instructions.Steps.{kind_is, l1, straight_next, straight_trap}
 use Rattle.cf_refinement.proofs.invariant.Stands.{Stands}
 use Rattle.cf_refinement.proofs.invariant.Suited.{is_plain}
+use Rattle.cf_semantics.specs.Column.{Up}
 use Rattle.cf_semantics.specs.Instructions.{at_pc, Bad, Fetched, Goes, Got, Stepped, Stops, access_trap, behind, dst_of, fetched, is_control, is_free, is_memory, is_serial, kind_of, src1_of, src2_of, step_at, value_read, value_written, word_after}
 use Rattle.cf_semantics.specs.Layouts.{isa_of}
 use Rattle.cf_semantics.specs.Options.{on}
@@ -23,7 +24,7 @@ use Rattle.cf_semantics.specs.Ahead as ahead
 use Rattle.cf_refinement.proofs.invariant.Port as dock
 use Rattle.cf_refinement.proofs.invariant.Sure as sure
 use Rattle.cf_semantics.specs.Path as trail
-use Rattle.cf_semantics.specs.Soundness.{Holds}
+use Rattle.cf_semantics.specs.Soundness.{Holds, may_turn}
 
 -- the step goes on, to g
 pub record On (s : Stepped) (x : Machine) (g : Option ℕ) : Type 0 where
@@ -33,7 +34,7 @@ pub record On (s : Stepped) (x : Machine) (g : Option ℕ) : Type 0 where
 -- once it is done
 done_on : (isa : Isa) (p : Passenger) (w : trail.Walk) → p.done ≡ true → p.ending ≡ None → sure.SureAt isa p w → On (step_at isa w.machine p.pc) w.machine (goto p)
 unfolding sure.SureAt
-done_on isa p w d e h = record { goes = h.0.goes d e; next = at (h.0.next d e) }
+done_on isa p w d e h = record { goes = h.0.values.goes d e; next = at (h.0.values.next d e) }
   where
     at : p.next ≡ Some (behind (step_at isa w.machine p.pc) w.machine).hart.pc → goto p ≡ Some (behind (step_at isa w.machine p.pc) w.machine).hart.pc
     at n = grind (arith, n)
@@ -90,8 +91,8 @@ ported_on l i p w s h k e = go (ahead.has_served p) refl
         out false true x y z = s.back_launched y
         out false false x y z = absurd (grind arith)
 
--- one that risks nothing, and is not a memory operation that is still to be launched
-pub quiet_on : (l : Plan) (i : ℕ) (p : Passenger) (w : dock.Dock) → Stands l i p → sure.SureAt (isa_of l) p w.path → dock.DockedAt (isa_of l) p w → p.dead ≡ false → dock.risks p ≡ false → (is_memory (kind p) && not p.done && not p.launched) ≡ false → On (step_at (isa_of l) w.path.machine p.pc) w.path.machine (goto p)
+-- one that may not turn it, and is not a memory operation that is still to be launched
+pub quiet_on : (l : Plan) (i : ℕ) (p : Passenger) (w : dock.Dock) → Stands l i p → sure.SureAt (isa_of l) p w.path → dock.DockedAt (isa_of l) p w → p.dead ≡ false → may_turn (Up i p) ≡ false → (is_memory (kind p) && not p.done && not p.launched) ≡ false → On (step_at (isa_of l) w.path.machine p.pc) w.path.machine (goto p)
 unfolding dock.DockedAt
 quiet_on l i p w s h k d r b = go p.done (is_memory (kind p)) (is_plain (kind p)) refl refl refl
   where

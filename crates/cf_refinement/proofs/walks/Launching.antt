@@ -2,8 +2,6 @@
 use Rattle.std.proofs.Common.{◌≡◌, ◌≢◌, ℕ, List, [], ◌∷◌, ◌++◌, Option, Some, None, Bool, true, false, refl, sym, ap, ◌∙◌, arith}
 use Rattle.std.specs.Prelude.{if◌then◌else◌}
 use Rattle.cf_bind.specs.declared.cell.Op.{Op}
-use Rattle.cf_bind.specs.declared.packet.Packet.{Packet}
-use Rattle.cf_bind.specs.declared.packet.Packet.TheVariants.{Halt, Turn, Value}
 use Rattle.cf_bind.specs.declared.passenger.Passenger.{Passenger}
 use Rattle.cf_layout.specs.Layout.{Plan, launch_stage, siding_of}
 use Rattle.cf_refinement.proofs.column.Change.{walk_path, walk_safe}
@@ -12,7 +10,7 @@ use Rattle.cf_refinement.proofs.invariant.Stands.{Between, Stands}
 use Rattle.cf_refinement.proofs.invariant.Suited.{Suits}
 use Rattle.cf_semantics.specs.Bars.{last_op}
 use Rattle.cf_semantics.specs.Column.{Down, Item, Up}
-use Rattle.cf_semantics.specs.Instructions.{Bad, Fetched, Got, access_trap, behind, fetched, is_memory, step_at}
+use Rattle.cf_semantics.specs.Instructions.{access_trap, behind, is_memory, step_at}
 use Rattle.cf_semantics.specs.Layouts.{isa_of, launches, port}
 use Rattle.cf_semantics.specs.Options.{on}
 use Rattle.cf_semantics.specs.Passengers.{instruction, kind, missing, value_in}
@@ -25,11 +23,12 @@ use Rattle.cf_semantics.specs.Ahead as ahead
 use Rattle.cf_refinement.proofs.invariant.Port as dock
 use Rattle.cf_refinement.proofs.invariant.Lone as lone
 use Rattle.cf_refinement.proofs.walks.Lone as lones
+use Rattle.cf_refinement.proofs.walks.Marked.{marked_at}
 use Rattle.cf_refinement.proofs.walks.Path as paths
 use Rattle.cf_refinement.proofs.walks.Port as ports
 use Rattle.cf_refinement.proofs.invariant.Sure as sure
 use Rattle.cf_semantics.specs.Path as trail
-use Rattle.cf_semantics.specs.Soundness.{Holds, as_launched, in_siding, operations_in, operations_of}
+use Rattle.cf_semantics.specs.Soundness.{as_launched, in_siding, operations_in, operations_of}
 
 -- launched: the passenger after Launch
 abbrev pub sent_out : Passenger → Passenger
@@ -37,35 +36,7 @@ sent_out p = record p { launched = true }
 
 -- the path takes no notice
 out_at : (isa : Isa) (p : Passenger) (w : trail.Walk) → sure.SureAt isa p w → sure.SureAt isa (sent_out p) w
-unfolding sure.SureAt
-out_at isa p w h = (
-  record {
-    path = h.0.path;
-    reads = reads (fetched isa w.machine.hart.mem p.pc) h.0.reads;
-    shape = λ j k. record { one = (h.0.shape j k).one; two = (h.0.shape j k).two; three = (h.0.shape j k).three };
-    value1 = h.0.value1;
-    value2 = h.0.value2;
-    value3 = h.0.value3;
-    goes = h.0.goes;
-    next = h.0.next;
-    known = h.0.known;
-    ends = h.0.ends;
-    unended = h.0.unended;
-    unowing = h.0.unowing;
-    owed = owed p.owes h.0.owed;
-  },
-  record { source1 = h.1.source1; source2 = h.1.source2 },
-)
-  where
-    reads : (q : Fetched) → Holds p q → Holds (sent_out p) q
-    reads (Got j) k = k
-    reads (Bad b) k = k
-
-    owed : (o : Option Packet) → sure.Owed o p → sure.Owed o (sent_out p)
-    owed None a = a
-    owed (Some (Value s u)) a = a
-    owed (Some (Turn t)) a = a
-    owed (Some Halt) a = a
+out_at isa p w h = marked_at isa true p.recovered p w h
 
 launch_follows : (isa : Isa) (i : ℕ) (p : Passenger) (w : trail.Walk) → paths.Follows (walk (trail.past isa) (Up i p ∷ []) w) (walk (trail.past isa) (Up i (sent_out p) ∷ []) w)
 unfolding trail.past
@@ -164,7 +135,7 @@ flies_out l acc p e = go (siding_of l (kind p)) refl
         let m = acc.alone (kind p) (f ∙ ap Some q) in
         grind arith
 
-past_none : (isa : Isa) (i : Item) (w : dock.Dock) → w.answer ≡ None → (dock.past isa i w).answer ≡ None
+pub past_none : (isa : Isa) (i : Item) (w : dock.Dock) → w.answer ≡ None → (dock.past isa i w).answer ≡ None
 unfolding dock.past
 past_none isa i w e = grind arith
 

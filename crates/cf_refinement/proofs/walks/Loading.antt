@@ -10,16 +10,16 @@ use Rattle.cf_refinement.proofs.walks.Finishing.{finish_done, finish_kind}
 use Rattle.cf_refinement.proofs.instructions.Memory.{after_access, l2}
 use Rattle.cf_refinement.proofs.walks.PathFinish.{Finishes}
 use Rattle.cf_refinement.proofs.instructions.Steps.{sure_dst_below, kind_is, straight_next, straight_trap}
+use Rattle.cf_semantics.specs.Column.{Up}
 use Rattle.cf_semantics.specs.Instructions.{Goes, access_trap, behind, dst_of, is_control, is_memory, kind_of, step_at, value_written}
 use Rattle.cf_semantics.specs.Passengers.{finish, goto_undone, guessed, instruction, kind, missing, reg_in, value_in}
 use Rattle.mem_regions.specs.Access.{bounds_of}
 use Rattle.rv_inst.specs.declared.isa.Isa.{Isa}
 use Rattle.rv_machine.specs.Machine.{Machine}
-use Rattle.cf_refinement.proofs.invariant.Port as dock
 use Rattle.cf_refinement.proofs.invariant.Lone as lone
 use Rattle.cf_refinement.proofs.invariant.Sure as sure
 use Rattle.cf_semantics.specs.Path as trail
-use Rattle.cf_semantics.specs.Soundness.{IsAnswer}
+use Rattle.cf_semantics.specs.Soundness.{IsAnswer, may_turn}
 
 memory_straight : (p : Passenger) → is_memory (kind p) ≡ true → is_control (kind p) ≡ false
 memory_straight p m = grind arith
@@ -66,8 +66,8 @@ loaded_shuts l i p a m g =
     let d = finish_done p (Some a) in
     grind arith
 
-pub loaded_risks : (p : Passenger) (a : ℕ) → is_memory (kind p) ≡ true → p.guess ≡ Next → p.ending ≡ None → dock.risks (finish p (Some a)) ≡ false
-loaded_risks p a m g e =
+pub loaded_calm : (i : ℕ) (p : Passenger) (a : ℕ) → is_memory (kind p) ≡ true → p.guess ≡ Next → p.ending ≡ None → may_turn (Up i (finish p (Some a))) ≡ false
+loaded_calm i p a m g e =
     let t = loaded_turns p a m g in
     let n = loaded_ending p a m e in
     let d = finish_done p (Some a) in

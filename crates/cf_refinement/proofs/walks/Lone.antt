@@ -1,5 +1,5 @@
 -- What nothing may follow: the walk, and each move's change.
-use Rattle.std.proofs.Common.{◌≡◌, ℕ, [], ◌∷◌, Some, None, Bool, true, false, arith, suc}
+use Rattle.std.proofs.Common.{◌≡◌, ℕ, [], ◌∷◌, Some, None, Bool, true, false, arith, suc, refl}
 use Rattle.cf_bind.specs.Meeting.{meeting}
 use Rattle.cf_bind.specs.declared.packet.Packet.{Packet}
 use Rattle.cf_bind.specs.declared.passenger.Passenger.{Passenger}
@@ -40,3 +40,18 @@ send_lone l i p k w e s = record { fit = λ h. grind arith; follows = λ h. grin
 pub meet_lone : (l : Plan) (i : ℕ) (p : Passenger) (k : Packet) (w : Bool) → Stands l i p → Replaces Bool Fits (past l) Follows (Down i k ∷ Up i p ∷ []) (met_items i (meeting p k).passenger (meeting p k).packet) w
 unfolding Fits past meeting
 meet_lone l i p k w s = record { fit = λ h. grind arith; follows = λ h. grind arith }
+
+-- below what nothing may follow
+pub shut_past : (l : Plan) (i : Item) → past l i true ≡ true
+unfolding past
+shut_past l (Up i p) = refl
+shut_past l (Down i k) = refl
+
+pub no_rider : (i : ℕ) (p : Passenger) → Fits (Up i p) true → ⊥
+unfolding Fits
+no_rider i p h = cc
+
+-- above a passenger stands nothing that nothing may follow
+pub lone_open : (i : ℕ) (p : Passenger) (b : Bool) → Fits (Up i p) b → b ≡ false
+unfolding Fits
+lone_open i p b h = h

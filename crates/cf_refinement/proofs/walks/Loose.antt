@@ -3,7 +3,6 @@ use Rattle.std.proofs.Common.{◌≡◌, ℕ, ◌<◌, ◌≤◌, List, [], ◌�
 use Rattle.cf_bind.specs.declared.passenger.Passenger.{Passenger}
 use Rattle.cf_layout.specs.Layout.{Plan, launch_stage, siding_of}
 use Rattle.cf_refinement.proofs.column.Change.{past_safe}
-use Rattle.cf_refinement.proofs.instructions.Memory.{is_memory-is}
 use Rattle.cf_refinement.proofs.column.Sorted.{Riders}
 use Rattle.cf_refinement.proofs.invariant.Stands.{Each, Stands}
 use Rattle.cf_refinement.proofs.invariant.Suited.{Suits}
@@ -16,7 +15,8 @@ use Rattle.rv_inst.specs.declared.isa.Isa.{Isa}
 use Rattle.cf_semantics.specs.Ahead as ahead
 use Rattle.cf_refinement.proofs.invariant.Port as dock
 use Rattle.cf_refinement.proofs.walks.Path as paths
-use Rattle.cf_semantics.specs.Path as trail
+use Rattle.cf_refinement.proofs.instructions.Classes.{memory_is}
+use Rattle.cf_refinement.proofs.walks.Order.{past_path}
 
 -- none of these is launched or served
 abbrev pub Waiting : List Item → Type 0
@@ -28,7 +28,7 @@ ashore : (l : Plan) (i : ℕ) (p : Passenger) → Suits l → i < launch_stage l
 ashore l i p acc n h = go (is_memory (kind p)) p.launched p.recovered refl refl refl
   where
     at : is_memory (kind p) ≡ true → siding_of l (kind p) ≡ Some (port l)
-    at e = rw (is_memory-is (kind p) e) acc.memory
+    at e = rw (memory_is (kind p) e) acc.memory
 
     go : (a b c : Bool) → is_memory (kind p) ≡ a → p.launched ≡ b → p.recovered ≡ c → (is_memory (kind p) && (p.launched || p.recovered)) ≡ false
     go false b c e f g = rw e refl
@@ -54,11 +54,6 @@ pub record Loose (w v : dock.Dock) : Type 0 where
   pub out : v.out ≡ w.out
   pub answer : v.answer ≡ w.answer
 
-past_path : (isa : Isa) (i : Item) (w : dock.Dock) → (dock.past isa i w).path ≡ trail.past isa i w.path
-unfolding dock.past
-past_path isa (Up i p) w = refl
-past_path isa (Down i k) w = refl
-
 rider_loose : (isa : Isa) (i : ℕ) (p : Passenger) (w v : dock.Dock) → (is_memory (kind p) && (p.launched || p.recovered)) ≡ false → ahead.has_served p ≡ false → paths.Follows (dock.past isa (Up i p) w).path (dock.past isa (Up i p) v).path → ((dock.past isa (Up i p) v).path.barred ≡ true → (dock.past isa (Up i p) v).risky ≡ true) → Loose w v → Loose (dock.past isa (Up i p) w) (dock.past isa (Up i p) v)
 unfolding dock.past
 rider_loose isa i p w v a b q s f =
@@ -75,7 +70,7 @@ rider_fits : (isa : Isa) (i : ℕ) (p : Passenger) (v : dock.Dock) → (is_memor
 unfolding dock.Fits dock.DockedAt
 rider_fits isa i p v a b = record { live = λ c d. absurd (grind arith); order = λ c d. absurd (grind arith); served = λ c. absurd (cc); permitted = λ c d. absurd (grind arith); answered = λ c. absurd (grind arith) }
 
-result_fits : (isa : Isa) (i : ℕ) (k : _) (w : dock.Dock) → dock.Fits isa (Down i k) w
+pub result_fits : (isa : Isa) (i : ℕ) (k : _) (w : dock.Dock) → dock.Fits isa (Down i k) w
 unfolding dock.Fits
 result_fits isa i k w = tt
 

@@ -44,7 +44,7 @@ pub from_column : (n i : ℕ) (cells : List Cell) → n ≤ i → From n (column
 from_column n i [] h = tt
 from_column n i (c ∷ cs) h = from_append n (column_from (suc i) cs) (items i c) (from_column n (suc i) cs (omega arith)) (from_items n i c.met c.passenger c.packet h)
 
-past_open : (l : Plan) (i : Item) (b : Bool) → lone.past l i b ≡ false → b ≡ false
+pub past_open : (l : Plan) (i : Item) (b : Bool) → lone.past l i b ≡ false → b ≡ false
 unfolding lone.past
 past_open l i b e = grind arith
 

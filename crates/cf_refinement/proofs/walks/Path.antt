@@ -1,10 +1,9 @@
 -- The path's walk: what a change leaves.
-use Rattle.std.proofs.Common.{◌≡◌, ℕ, [], ◌∷◌, Option, Some, None, Bool, true, false, arith}
-use Rattle.cf_bind.specs.declared.binding.Binding.{Binding}
+use Rattle.std.proofs.Common.{◌≡◌, ℕ, [], ◌∷◌, Some, None, Bool, true, false, arith}
 use Rattle.cf_bind.specs.declared.packet.Packet.{Packet}
 use Rattle.cf_bind.specs.declared.passenger.Passenger.{Passenger}
 use Rattle.cf_refinement.proofs.column.Fold.{Is_walk}
-use Rattle.cf_refinement.proofs.invariant.Sure.{Comes, Fits, IsSourced, SureAt}
+use Rattle.cf_refinement.proofs.invariant.Sure.{Fits, IsSourced, SureAt}
 use Rattle.cf_semantics.specs.Column.{Down, Item, Up}
 use Rattle.cf_semantics.specs.Path.{Walk, is_sure, past, past_packet, past_passenger}
 use Rattle.cf_semantics.specs.Walks.{Everywhere, walk}
@@ -22,12 +21,8 @@ packet_follows : (isa : Isa) (i : ℕ) (k : Packet) (w v : Walk) → Follows w v
 unfolding Fits
 packet_follows isa i k w v f h = grind arith
 
-comes_more : (o : Option Binding) (c d : ℕ → Bool) → ((r : ℕ) → c r ≡ true → d r ≡ true) → Comes o c → Comes o d
-comes_more None c d m h = tt
-comes_more (Some b) c d m h = λ e. m b.reg (h e)
-
 sourced_more : (p : Passenger) (c d : ℕ → Bool) → ((r : ℕ) → c r ≡ true → d r ≡ true) → IsSourced p c → IsSourced p d
-sourced_more p c d m h = record { source1 = comes_more p.src1 c d m h.source1; source2 = comes_more p.src2 c d m h.source2 }
+sourced_more p c d m h = record { source1 = λ r e. m r (h.source1 r e); source2 = λ r e. m r (h.source2 r e) }
 
 sure_follows : (isa : Isa) (p : Passenger) (w v : Walk) → Follows w v → v.barred ≡ false → SureAt isa p w → SureAt isa p v
 unfolding SureAt
@@ -68,3 +63,11 @@ send_fits isa i p k w e h = grind arith
 pub send_walk : (isa : Isa) (i : ℕ) (p : Passenger) (k : Packet) (w : Walk) → p.owes ≡ Some k → Everywhere (Fits isa) (past isa) (Up i p ∷ []) w → Follows (walk (past isa) (Up i p ∷ []) w) (walk (past isa) (Up i (record p { owes = None }) ∷ Down i k ∷ []) w)
 unfolding Fits past SureAt
 send_walk isa i p k w e h = grind arith
+
+-- a live passenger with no barrier above it is sure
+pub sure_at : (isa : Isa) (i : ℕ) (p : Passenger) (w : Walk) → p.dead ≡ false → w.barred ≡ false → Fits isa (Up i p) w → SureAt isa p w
+unfolding Fits
+sure_at isa i p w d b h = grind arith
+
+pub sure_is : (p : Passenger) (w : Walk) → p.dead ≡ false → w.barred ≡ false → is_sure p w ≡ true
+sure_is p w d b = grind arith

@@ -16,7 +16,7 @@ use Rattle.cf_semantics.specs.Options.{on}
 use Rattle.cf_semantics.specs.Passengers.{finish, finished, goto_undone, guessed, instruction, is_place, kind, missing, reg_in, trapped, value_in, value_packet, with_value}
 use Rattle.cf_semantics.specs.Path.{Walk, is_trap, past}
 use Rattle.cf_semantics.specs.Walks.{Everywhere, walk}
-use Rattle.cf_semantics.specs.Soundness.{HasValue, Holds, IsKnown}
+use Rattle.cf_semantics.specs.Soundness.{HasValue, Holds, IsKnown, OwesValue}
 use Rattle.rv_inst.specs.Arithmetic.{next_pc}
 use Rattle.rv_inst.specs.declared.isa.Isa.{Isa}
 use Rattle.rv_machine.specs.Machine.{Machine}
@@ -35,8 +35,12 @@ pub set_known : (o : Option Binding) (v : ℕ) → IsKnown (with_value v o)
 set_known None v = tt
 set_known (Some b) v = (v, refl)
 
-owed_by : (p : Passenger) (s : Bool) (n v : ℕ) (q : Passenger) → q.next ≡ Some n → q.dst ≡ with_value v p.dst → q.ending ≡ None → Owed (if s then value_packet v p.dst else Some (Turn n)) q
-owed_by p s n v q e f g = grind arith
+-- what is owed then: the destination's value, or a turn
+owes_its_value : (o : Option Binding) (s : Bool) (n v : ℕ) → OwesValue (if s then value_packet v o else Some (Turn n)) (with_value v o)
+owes_its_value o s n v = grind arith
+
+owed_by : (o : Option Binding) (s : Bool) (n v : ℕ) (ending : Option End) → ending ≡ None → Owed (if s then value_packet v o else Some (Turn n)) (Some n) ending
+owed_by o s n v ending e = grind arith
 
 -- a step that goes on, with the value v in the destination
 pub record Gives_on (x m : Machine) (d : Option ℕ) (n v : ℕ) : Type 0 where
@@ -50,16 +54,19 @@ finished_sure isa p i x m s g n v l w d e f h =
       path = h.path;
       reads = h.reads;
       shape = λ j k. record { one = (h.shape j k).one; two = (h.shape j k).two; three = set_reg p.dst v ∙ (h.shape j k).three };
-      value1 = h.value1;
-      value2 = h.value2;
-      value3 = rw (y, f.regs) (set_agrees p.dst (dst_of i) v x.hart.regs l (sure_dst_below isa p x s g i w h) (h.shape i w).three);
-      goes = λ _ _. rw e;
-      next = λ _ _. rw (y, f.pc);
-      known = λ _ _. set_known p.dst v;
-      ends = λ b k. h.ends b k;
+      values = record {
+        first = h.values.first;
+        second = h.values.second;
+        destination = rw (y, f.regs) (set_agrees p.dst (dst_of i) v x.hart.regs l (sure_dst_below isa p x s g i w h) (h.shape i w).three);
+        owed = owes_its_value p.dst (is_place (guessed p.guess (instruction p) p.pc) n) n v;
+        goes = λ _ _. rw e;
+        next = λ _ _. rw (y, f.pc);
+        done = λ _ _. set_known p.dst v;
+        ends = h.values.ends;
+      };
       unended = λ k. absurd (cc);
       unowing = λ k. absurd (cc);
-      owed = owed_by p (is_place (guessed p.guess (instruction p) p.pc) n) n v (finished p n v) refl refl (h.unended d);
+      owed = owed_by p.dst (is_place (guessed p.guess (instruction p) p.pc) n) n v p.ending (h.unended d);
     }
 
 pub trapped_sure : (isa : Isa) (p : Passenger) (x : Machine) (s : Stepped) (g : Option ℕ) (e : End) → p.done ≡ false → (i : Instr) → p.what ≡ Some i → s ≡ Stops e → is_trap (Some e) ≡ true → IsSure isa p x s g → IsSure isa (trapped p e) x s g
@@ -67,13 +74,16 @@ trapped_sure isa p x s g e d i w f t h = record {
   path = h.path;
   reads = reads (fetched isa x.hart.mem p.pc) h.reads;
   shape = λ j k. record { one = (h.shape j k).one; two = (h.shape j k).two; three = (h.shape j k).three };
-  value1 = h.value1;
-  value2 = h.value2;
-  value3 = h.value3;
-  goes = λ _ k. absurd (cc);
-  next = λ _ k. absurd (cc);
-  known = λ _ k. absurd (cc);
-  ends = λ b k. let q : e ≡ b = cc in f ∙ ap Stops q;
+  values = record {
+    first = h.values.first;
+    second = h.values.second;
+    destination = h.values.destination;
+    owed = tt;
+    goes = λ _ k. absurd (cc);
+    next = λ _ k. absurd (cc);
+    done = λ _ k. absurd (cc);
+    ends = λ b k. let q : e ≡ b = cc in f ∙ ap Stops q;
+  };
   unended = λ k. absurd (cc);
   unowing = λ k. absurd (cc);
   owed = t;

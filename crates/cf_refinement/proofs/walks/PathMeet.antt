@@ -8,7 +8,7 @@ use Rattle.cf_bind.specs.declared.packet.Packet.TheVariants.{Halt, Turn, Value}
 use Rattle.cf_bind.specs.declared.passenger.Passenger.{Passenger}
 use Rattle.cf_refinement.proofs.walks.Path.{Follows}
 use Rattle.cf_refinement.proofs.instructions.Steps.{sure_keeps}
-use Rattle.cf_refinement.proofs.invariant.Sure.{Comes, Fits, IsSourced, IsSure, Owed, SureAt}
+use Rattle.cf_refinement.proofs.invariant.Sure.{Comes, Fits, IsSourced, IsSure, SureAt}
 use Rattle.cf_semantics.specs.Column.{Down, Item, Up}
 use Rattle.cf_semantics.specs.Instructions.{Stepped, behind, step_at}
 use Rattle.cf_semantics.specs.Passengers.{reg_in}
@@ -36,23 +36,20 @@ garner_sure isa p r v x s g e h = record {
   path = h.path;
   reads = h.reads;
   shape = λ i k. record { one = garner_reg r v p.src1 ∙ (h.shape i k).one; two = garner_reg r v p.src2 ∙ (h.shape i k).two; three = (h.shape i k).three };
-  value1 = garner_agrees r v p.src1 x.hart.regs e h.value1;
-  value2 = garner_agrees r v p.src2 x.hart.regs e h.value2;
-  value3 = h.value3;
-  goes = h.goes;
-  next = h.next;
-  known = h.known;
-  ends = h.ends;
+  values = record {
+    first = garner_agrees r v p.src1 x.hart.regs e h.values.first;
+    second = garner_agrees r v p.src2 x.hart.regs e h.values.second;
+    destination = h.values.destination;
+    owed = h.values.owed;
+    goes = h.values.goes;
+    next = h.values.next;
+    done = h.values.done;
+    ends = h.values.ends;
+  };
   unended = h.unended;
   unowing = h.unowing;
-  owed = owed p.owes h.owed;
+  owed = h.owed;
 }
-  where
-    owed : (o : Option Packet) → Owed o p → Owed o (passenger_met (Value r v) p)
-    owed None a = a
-    owed (Some (Value s u)) a = a
-    owed (Some (Turn t)) a = a
-    owed (Some Halt) a = a
 
 garner_sourced : (p : Passenger) (r v : ℕ) (c : ℕ → Bool) → IsSourced p (λ s. (s == r) || c s) → IsSourced (passenger_met (Value r v) p) c
 garner_sourced p r v c h = record { source1 = garner_comes r v p.src1 c h.source1; source2 = garner_comes r v p.src2 c h.source2 }
@@ -66,7 +63,7 @@ met_value p r v x y keeps e h s u g = grind arith
 
 met_value_at : (isa : Isa) (p : Passenger) (r v : ℕ) (w : Walk) → v ≡ slice_index w.machine.hart.regs r → SureAt isa p (past_packet (Value r v) w) → (s u : ℕ) → passed r v p.dst ≡ Some (Value s u) → u ≡ slice_index (behind (step_at isa w.machine p.pc) w.machine).hart.regs s
 unfolding SureAt
-met_value_at isa p r v w e h s u g = met_value p r v w.machine (behind (step_at isa w.machine p.pc) w.machine) (sure_keeps isa p w.machine _ h.0) e h.0.value3 s u g
+met_value_at isa p r v w e h s u g = met_value p r v w.machine (behind (step_at isa w.machine p.pc) w.machine) (sure_keeps isa p w.machine _ h.0) e h.0.values.destination s u g
 
 pub meet_fits : (isa : Isa) (i : ℕ) (p : Passenger) (k : Packet) (w : Walk) → Everywhere (Fits isa) (past isa) (Down i k ∷ Up i p ∷ []) w → Everywhere (Fits isa) (past isa) (met_items i (meeting p k).passenger (meeting p k).packet) w
 unfolding Fits past meeting

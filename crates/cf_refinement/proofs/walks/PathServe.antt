@@ -54,13 +54,16 @@ served_sure isa p x g a l c d e h =
       path = h.path;
       reads = reads (fetched isa x.hart.mem p.pc) h.reads;
       shape = λ j k. record { one = (h.shape j k).one; two = (h.shape j k).two; three = set_reg p.dst a.value ∙ (h.shape j k).three };
-      value1 = h.value1;
-      value2 = h.value2;
-      value3 = rw y (set_agrees p.dst (dst_of q.0) a.value x.hart.regs l (sure_dst_below isa p x (step_at isa x p.pc) g q.0 q.1 h) (h.shape q.0 q.1).three);
-      goes = λ _ _. rw y refl;
-      next = λ _ _. rw y refl;
-      known = λ _ _. set_known p.dst a.value;
-      ends = h.ends;
+      values = record {
+        first = h.values.first;
+        second = h.values.second;
+        destination = rw y (set_agrees p.dst (dst_of q.0) a.value x.hart.regs l (sure_dst_below isa p x (step_at isa x p.pc) g q.0 q.1 h) (h.shape q.0 q.1).three);
+        owed = tt;
+        goes = λ _ _. rw y refl;
+        next = λ _ _. rw y refl;
+        done = λ _ _. set_known p.dst a.value;
+        ends = h.values.ends;
+      };
       unended = λ k. absurd (cc);
       unowing = λ k. absurd (cc);
       owed = (refl, h.unended d);

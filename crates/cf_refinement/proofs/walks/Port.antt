@@ -5,7 +5,7 @@ use Rattle.cf_bind.specs.declared.packet.Packet.{Packet}
 use Rattle.cf_bind.specs.declared.passenger.Passenger.{Passenger}
 use Rattle.cf_refinement.proofs.column.Fold.{Is_walk}
 use Rattle.cf_semantics.specs.Fetches.{code_of}
-use Rattle.cf_refinement.proofs.invariant.Port.{Dock, DockedAt, Fits, past, past_passenger, risks}
+use Rattle.cf_refinement.proofs.invariant.Port.{Dock, DockedAt, Fits, past, past_passenger}
 use Rattle.cf_semantics.specs.Ahead.{flies, has_ported, has_served}
 use Rattle.cf_semantics.specs.Column.{Down, Item, Up}
 use Rattle.cf_semantics.specs.Instructions.{behind, is_memory, step_at}
@@ -14,6 +14,7 @@ use Rattle.rv_inst.specs.declared.isa.Isa.{Isa}
 use Rattle.rv_machine.specs.Machine.{Machine}
 use Rattle.cf_refinement.proofs.walks.Path as paths
 use Rattle.cf_semantics.specs.Path as trail
+use Rattle.cf_semantics.specs.Soundness.{may_turn}
 
 pub record Follows (w v : Dock) : Type 0 where
   pub path : paths.Follows w.path v.path
@@ -66,19 +67,19 @@ unfolding Fits
 item_follows isa (Up i p) w v f h = docked_follows isa p w v f h
 item_follows isa (Down i k) w v f h = tt
 
-safe_rider : (isa : Isa) (i : ℕ) (p : Passenger) (v : trail.Walk) (risky : Bool) → (v.barred ≡ true → risky ≡ true) → (trail.past isa (Up i p) v).barred ≡ true → (risky || risks p) ≡ true
+safe_rider : (isa : Isa) (i : ℕ) (p : Passenger) (v : trail.Walk) (risky : Bool) → (v.barred ≡ true → risky ≡ true) → (trail.past isa (Up i p) v).barred ≡ true → (risky || may_turn (Up i p)) ≡ true
 unfolding trail.past
 safe_rider isa i p v risky f e = grind arith
 
-safe_packet : (isa : Isa) (i : ℕ) (k : Packet) (v : trail.Walk) (risky : Bool) → (v.barred ≡ true → risky ≡ true) → (trail.past isa (Down i k) v).barred ≡ true → (risky || trail.turns (Some k)) ≡ true
+safe_packet : (isa : Isa) (i : ℕ) (k : Packet) (v : trail.Walk) (risky : Bool) → (v.barred ≡ true → risky ≡ true) → (trail.past isa (Down i k) v).barred ≡ true → (risky || may_turn (Down i k)) ≡ true
 unfolding trail.past
 safe_packet isa i k v risky f e = grind arith
 
-past_rider_follows : (isa : Isa) (i : ℕ) (p : Passenger) (w v : Dock) → Follows w v → DockedAt isa p w → paths.Follows (trail.past isa (Up i p) w.path) (trail.past isa (Up i p) v.path) → Follows (past_passenger isa p (trail.past isa (Up i p) w.path) w) (past_passenger isa p (trail.past isa (Up i p) v.path) v)
+past_rider_follows : (isa : Isa) (i : ℕ) (p : Passenger) (w v : Dock) → Follows w v → DockedAt isa p w → paths.Follows (trail.past isa (Up i p) w.path) (trail.past isa (Up i p) v.path) → Follows (past_passenger isa i p (trail.past isa (Up i p) w.path) w) (past_passenger isa i p (trail.past isa (Up i p) v.path) v)
 past_rider_follows isa i p w v f h q = record {
   path = q;
   safe = safe_rider isa i p v.path v.risky f.safe;
-  risky = more (risks p);
+  risky = more (may_turn (Up i p));
   mem = rw f.answer (either isa (has_ported p w.answer) v.path.machine w.path.machine p.pc (λ m. m.hart.mem) v.mem w.mem (λ e. (not_risky w v f (ported_calm isa p w h e)).2) f.mem);
   code = either isa (has_served p) v.path.machine w.path.machine p.pc (λ m. code_of m.hart.mem) v.code w.code (λ e. (not_risky w v f (served_calm isa p w h e)).2) f.code;
   rest = either isa (has_served p) v.path.machine w.path.machine p.pc (λ m. m.rest) v.rest w.rest (λ e. (not_risky w v f (served_calm isa p w h e)).2) f.rest;
@@ -111,3 +112,11 @@ past_follows isa (Down i k) w v f h = past_packet_follows isa i k w v f (paths.p
 
 pub port_walk : (isa : Isa) → Is_walk Dock (Fits isa) (past isa) Follows
 port_walk isa = record { stays = item_follows isa; goes_on = past_follows isa }
+
+-- where nothing may turn the program there is no barrier
+pub open_of : (w : Dock) → (w.path.barred ≡ true → w.risky ≡ true) → w.risky ≡ false → w.path.barred ≡ false
+open_of w f e = go w.path.barred refl
+  where
+    go : (b : Bool) → w.path.barred ≡ b → w.path.barred ≡ false
+    go false d = d
+    go true d = absurd (let z = f d in cc)

@@ -8,6 +8,7 @@ use Rattle.rv_inst.specs.declared.isa.Isa.{Isa}
 use Rattle.cf_semantics.specs.Ahead as ahead
 use Rattle.cf_refinement.proofs.invariant.Port as dock
 use Rattle.cf_semantics.specs.Path as trail
+use Rattle.cf_semantics.specs.Soundness.{may_turn}
 
 -- what the port comes to
 pub record Unchanged (w v : dock.Dock) : Type 0 where
@@ -16,14 +17,11 @@ pub record Unchanged (w v : dock.Dock) : Type 0 where
   pub rest : v.rest ≡ w.rest
   pub out : v.out ≡ w.out
 
-true_false : true ≡ false → ⊥
-true_false e = cc
-
 rider_quiet : (isa : Isa) (i : ℕ) (p : Passenger) (w : dock.Dock) → dock.Fits isa (Up i p) w → w.risky ≡ true → Unchanged w (dock.past isa (Up i p) w) × ((dock.past isa (Up i p) w).risky ≡ true)
 unfolding dock.past dock.Fits
 rider_quiet isa i p w h e = go (ahead.has_ported p w.answer) (ahead.has_served p) refl refl
   where
-    go : (a b : Bool) → ahead.has_ported p w.answer ≡ a → ahead.has_served p ≡ b → Unchanged w (dock.past_passenger isa p (trail.past isa (Up i p) w.path) w) × ((w.risky || dock.risks p) ≡ true)
+    go : (a b : Bool) → ahead.has_ported p w.answer ≡ a → ahead.has_served p ≡ b → Unchanged w (dock.past_passenger isa i p (trail.past isa (Up i p) w.path) w) × ((w.risky || may_turn (Up i p)) ≡ true)
     go true b f g = absurd (let z = ported_calm isa p w h f in cc)
     go false true f g = absurd (let z = served_calm isa p w h g in cc)
     go false false f g = (record { mem = rw f refl; code = rw g refl; rest = rw g refl; out = rw g refl }, rw e refl)

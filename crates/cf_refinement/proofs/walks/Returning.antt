@@ -1,14 +1,13 @@
 -- A passenger that is marked as recovered, before it finishes.
-use Rattle.std.proofs.Common.{◌≡◌, ℕ, Option, Some, None, Bool, true, false, ◌||◌, refl, sym, ap, ◌∙◌, arith}
+use Rattle.std.proofs.Common.{◌≡◌, ℕ, Option, Bool, true, false, ◌||◌, refl, sym, ap, ◌∙◌, arith}
 use Rattle.std.specs.Prelude.{if◌then◌else◌}
-use Rattle.cf_bind.specs.declared.packet.Packet.{Packet}
-use Rattle.cf_bind.specs.declared.packet.Packet.TheVariants.{Halt, Turn, Value}
 use Rattle.cf_bind.specs.declared.passenger.Passenger.{Passenger}
 use Rattle.cf_layout.specs.Layout.{Plan}
+use Rattle.cf_refinement.proofs.walks.Marked.{marked_at}
 use Rattle.cf_refinement.proofs.walks.Finishing.{finish_dead, finish_done, finish_flags, finish_kind}
 use Rattle.cf_refinement.proofs.invariant.Stands.{Behind, Stands}
 use Rattle.cf_semantics.specs.Column.{Up}
-use Rattle.cf_semantics.specs.Instructions.{Bad, Fetched, Got, fetched, is_free, is_memory, is_serial}
+use Rattle.cf_semantics.specs.Instructions.{is_free, is_memory, is_serial}
 use Rattle.cf_semantics.specs.Passengers.{finish, goto, goto_done, goto_undone, kind}
 use Rattle.rv_inst.specs.declared.classes.Class.{Class}
 use Rattle.rv_inst.specs.declared.classes.Class.TheVariants.{Serial}
@@ -18,42 +17,13 @@ use Rattle.cf_refinement.proofs.invariant.Port as dock
 use Rattle.cf_refinement.proofs.invariant.Lone as lone
 use Rattle.cf_refinement.proofs.invariant.Sure as sure
 use Rattle.cf_semantics.specs.Path as trail
-use Rattle.cf_semantics.specs.Soundness.{Holds}
 
 abbrev pub back : Passenger → Passenger
 back p = record p { recovered = true }
 
 -- on the path
 pub back_at : (isa : Isa) (p : Passenger) (w : trail.Walk) → sure.SureAt isa p w → sure.SureAt isa (back p) w
-unfolding sure.SureAt
-back_at isa p w h = (
-  record {
-    path = h.0.path;
-    reads = reads (fetched isa w.machine.hart.mem p.pc) h.0.reads;
-    shape = λ j k. record { one = (h.0.shape j k).one; two = (h.0.shape j k).two; three = (h.0.shape j k).three };
-    value1 = h.0.value1;
-    value2 = h.0.value2;
-    value3 = h.0.value3;
-    goes = h.0.goes;
-    next = h.0.next;
-    known = h.0.known;
-    ends = h.0.ends;
-    unended = h.0.unended;
-    unowing = h.0.unowing;
-    owed = owed p.owes h.0.owed;
-  },
-  record { source1 = h.1.source1; source2 = h.1.source2 },
-)
-  where
-    reads : (q : Fetched) → Holds p q → Holds (back p) q
-    reads (Got j) k = k
-    reads (Bad b) k = k
-
-    owed : (o : Option Packet) → sure.Owed o p → sure.Owed o (back p)
-    owed None a = a
-    owed (Some (Value s u)) a = a
-    owed (Some (Turn t)) a = a
-    owed (Some Halt) a = a
+back_at isa p w h = marked_at isa p.launched true p w h
 
 pub back_fits : (isa : Isa) (i : ℕ) (p : Passenger) (w : trail.Walk) → sure.Fits isa (Up i p) w → sure.Fits isa (Up i (back p)) w
 unfolding sure.Fits
