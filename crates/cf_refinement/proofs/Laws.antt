@@ -28,7 +28,7 @@ use Rattle.cf_semantics.specs.Soundness.{Holds}
 use Rattle.cf_semantics.specs.Steps.{onward, served, stepped_as}
 use Rattle.cf_refinement.proofs.invariant.Suited.{is_plain}
 use Rattle.cf_refinement.proofs.instructions.Fetches.{fetched_alike}
-use Rattle.cf_refinement.proofs.instructions.Steps.{bad_step, fetched_is, l1, step_executes, step_is, step_keeps, straight_next, straight_trap, word_is}
+use Rattle.cf_refinement.proofs.instructions.Steps.{bad_step, fetched_is, plain_steps, step_executes, step_is, step_keeps, straight_next, straight_trap, word_is}
 use Rattle.cf_refinement.proofs.instructions.Classes.{free_is, memory_is, serial_is}
 
 -- a destination with its value, written
@@ -67,7 +67,7 @@ plain_is c e = grind arith
 
 -- first law
 pub computes_as_finished : ComputesAsFinished
-computes_as_finished isa x i p f c h = l1 isa x x.hart.pc i f (plain_is (kind_of i) c) ∙ sym (finish_departs p i x None x.hart.mem h)
+computes_as_finished isa x i p f c h = plain_steps isa x x.hart.pc i f (plain_is (kind_of i) c) ∙ sym (finish_departs p i x None x.hart.mem h)
 
 -- second law
 pub accesses_as_launched : AccessesAsLaunched

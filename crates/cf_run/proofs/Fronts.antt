@@ -31,7 +31,7 @@ use Rattle.cf_refinement.proofs.layouts.Accepted.{accepted_suits}
 use Rattle.cf_refinement.proofs.moves.Rows.{bar_row}
 use Rattle.cf_refinement.proofs.claims.Output.{output_ahead}
 use Rattle.cf_refinement.proofs.claims.Runs.{going, kept, serve_counts}
-use Rattle.cf_refinement.proofs.moves.Serve.{Serves, Scene, scene, serve_ready, next-serve}
+use Rattle.cf_refinement.proofs.moves.Serve.{Serves, Scene, scene, serve_ready, next_serve}
 use Rattle.cf_confluence.proofs.weight.Bound.{sound_at}
 use Rattle.cf_confluence.proofs.drains.Rested.{after_gained}
 use Rattle.cf_stages.specs.Changes.{passenger_at}
@@ -80,7 +80,7 @@ wrote plan m bytes r unended calls asks is =
     let ecall : instruction r.who ≡ Ecall = calls_there m.state.cells plan.stages r.here r.who r.at_here r.sits calls in
     let a : Answer = record { value = third_argument m.state.regs; mem = m.state.mem; rest = m.rest; output = bytes } in
     let answer : serve_of (instruction r.who) m.state.regs m.state.mem m.rest ≡ called.Value a = serve_ecall (instruction r.who) m.state.regs m.state.mem m.rest ecall ∙ asked_bytes m.state.regs m.state.mem m.rest bytes asks is in
-    let to : next plan m Serve ≡ served m plan.stages r.here r.who (called.Value a) = next-serve plan m r.here r.who (called.Value a) r.at_here r.sits answer in
+    let to : next plan m Serve ≡ served m plan.stages r.here r.who (called.Value a) = next_serve plan m r.here r.who (called.Value a) r.at_here r.sits answer in
     record {
       output = ap (λ (q : Moment). q.output) to;
       count = ap (λ (q : Moment). served_count plan q.state) to ∙ count_there m.state.cells plan.stages r.here r.who (answered r.who a.value) r.at_here (has_answered r.who a.value r.live (ap is_serial r.serial) unended);

@@ -18,7 +18,7 @@ use Rattle.cf_semantics.specs.Moves.{left, next}
 use Rattle.cf_semantics.specs.Options.{on}
 use Rattle.cf_semantics.specs.State.{State, Moment, cell_at}
 use Rattle.cf_refinement.proofs.moves.Rows.{bar_row}
-use Rattle.cf_refinement.proofs.moves.Leave.{Leaves, leave_ready, next-leave}
+use Rattle.cf_refinement.proofs.moves.Leave.{Leaves, leave_ready, next_leave}
 use Rattle.cf_refinement.proofs.claims.Runs.{going, access_counts, climb_counts, emit_counts, execute_counts, exit_counts, fall_counts, issue_counts, launch_counts, meet_counts, recover_counts, send_counts, serve_counts, slide_counts}
 use Rattle.cf_report.specs.Lines.{retired_line}
 use Rattle.cf_run.specs.declared.show.Show.TheVariants as show
@@ -102,7 +102,7 @@ leaves : (plan : Plan) (m : Moment) (e : Event) → bar plan m.state Leave ≡ N
 unfolding next
 leaves plan m e free is =
     let r : Leaves plan m.state = leave_ready plan m.state (bar_row plan m.state Leave free) in
-    leaving plan m r.here r.who e (rw (r.at_here, r.sits) refl) (next-leave plan m.state r.here r.who r.at_here r.sits) (is r.here r.who r.at_here r.sits)
+    leaving plan m r.here r.who e (rw (r.at_here, r.sits) refl) (next_leave plan m.state r.here r.who r.at_here r.sits) (is r.here r.who r.at_here r.sits)
 
 -- what an allowed move retires is what its event tells
 tells : (plan : Plan) (m : Moment) (mv : Move) (e : Event) → bar plan m.state mv ≡ None → IsEvent plan m.state mv e → Tells plan m mv e

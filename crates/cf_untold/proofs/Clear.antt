@@ -4,7 +4,7 @@ use Rattle.cf_bind.specs.Meeting.{meeting}
 use Rattle.cf_bind.specs.declared.packet.Packet.{Packet}
 use Rattle.cf_bind.specs.declared.packet.Packet.TheVariants.{Value, Turn, Halt}
 use Rattle.cf_bind.specs.declared.passenger.Passenger.{Passenger}
-use Rattle.cf_refinement.proofs.column.Fold.{Is_walk, Replaces, replaced}
+use Rattle.cf_refinement.proofs.column.Fold.{IsWalk, Replaces, replaced}
 use Rattle.cf_refinement.proofs.walks.PathMeet.{met_items}
 use Rattle.cf_refinement.proofs.invariant.Stands.{Blank}
 use Rattle.cf_semantics.specs.Column.{Down, Item, Up, column}
@@ -71,7 +71,7 @@ past_follows (Up i p) w v f h = record { fewer = λ r e. grind (arith, f.fewer r
 past_follows (Down i k) w v f h = f
 
 -- the walk, for any change in the middle of the column
-pub clear_walk : Is_walk (ℕ → Bool) Fits past Follows
+pub clear_walk : IsWalk (ℕ → Bool) Fits past Follows
 clear_walk = record { stays = item_follows; goes_on = past_follows }
 
 -- a stretch of the column is replaced by one below which no more is waited for

@@ -6,22 +6,22 @@ use Rattle.cf_bind.specs.declared.moves.Move.TheVariants.{Access, Climb, Execute
 use Rattle.cf_bind.specs.declared.passenger.End.{End}
 use Rattle.cf_bind.specs.declared.passenger.Passenger.{Passenger}
 use Rattle.cf_layout.specs.Layout.{Plan}
-use Rattle.cf_refinement.proofs.moves.Access.{access_ready, next-access}
+use Rattle.cf_refinement.proofs.moves.Access.{access_ready, next_access}
 use Rattle.cf_refinement.proofs.walks.Returning.{back}
 use Rattle.cf_refinement.proofs.column.Change.{here}
 use Rattle.cf_refinement.proofs.walks.Finishing.{finish_done}
-use Rattle.cf_refinement.proofs.moves.Execute.{execute_ready, next-execute}
-use Rattle.cf_refinement.proofs.moves.Fall.{cells_fallen, fall_ready, fall_stretch, next-fall, no_fall}
-use Rattle.cf_refinement.proofs.moves.Climb.{cells_climbed, climb_ready, climb_stretch, next-climb}
-use Rattle.cf_refinement.proofs.moves.Meet.{meet_ready, meet_stretch, next-meet}
+use Rattle.cf_refinement.proofs.moves.Execute.{execute_ready, next_execute}
+use Rattle.cf_refinement.proofs.moves.Fall.{cells_fallen, fall_ready, fall_stretch, next_fall, no_fall}
+use Rattle.cf_refinement.proofs.moves.Climb.{cells_climbed, climb_ready, climb_stretch, next_climb}
+use Rattle.cf_refinement.proofs.moves.Meet.{meet_ready, meet_stretch, next_meet}
 use Rattle.cf_refinement.proofs.moves.Rows.{bar_row}
 use Rattle.cf_refinement.proofs.walks.Launching.{sent_out}
-use Rattle.cf_refinement.proofs.moves.Launch.{Launches, launch_ready, launched_out, launched_trap, next-launch}
+use Rattle.cf_refinement.proofs.moves.Launch.{Launches, launch_ready, launched_out, launched_trap, next_launch}
 use Rattle.cf_refinement.proofs.walks.PathMeet.{met_items}
-use Rattle.cf_refinement.proofs.moves.Recovering.{next-recover, recover_ready}
+use Rattle.cf_refinement.proofs.moves.Recovering.{next_recover, recover_ready}
 use Rattle.cf_refinement.proofs.moves.Recover.{in_dead, in_live}
-use Rattle.cf_refinement.proofs.moves.Serve.{Serves, next-serve, quit, serve_ready}
-use Rattle.cf_refinement.proofs.moves.Slide.{next-slide, slide_ready}
+use Rattle.cf_refinement.proofs.moves.Serve.{Serves, next_serve, quit, serve_ready}
+use Rattle.cf_refinement.proofs.moves.Slide.{next_slide, slide_ready}
 use Rattle.cf_refinement.proofs.column.Spot.{spot}
 use Rattle.cf_refinement.proofs.invariant.Invariant.{Sound}
 use Rattle.cf_semantics.specs.Bars.{bar, row_bar}
@@ -40,14 +40,14 @@ pub climb_clear : (l : Plan) (s : State) (i : ℕ) → bar l s (Climb i) ≡ Non
 climb_clear l s i e h =
     let r = climb_ready l s i (bar_row l s (Climb i) e) in
     let q = climb_stretch l s i r in
-    rw (next-climb l s i r.low r.high r.at_low r.at_high, add-one) (clear_replaced s (record s { cells = cells_climbed s i r.low r.high }) q.above (Up i r.who ∷ []) (Up (suc i) r.who ∷ []) q.below q.was q.is refl (rider_clear i (suc i) r.who r.who _ (λ n g. g)) h)
+    rw (next_climb l s i r.low r.high r.at_low r.at_high, add-one) (clear_replaced s (record s { cells = cells_climbed s i r.low r.high }) q.above (Up i r.who ∷ []) (Up (suc i) r.who ∷ []) q.below q.was q.is refl (rider_clear i (suc i) r.who r.who _ (λ n g. g)) h)
 
 -- Fall to the stage i, from the one above it
 fall_above : (l : Plan) (s : State) (i : ℕ) → row_bar l s (Fall (suc i)) ≡ None → IsClear s → IsClear (moved l s (Fall (suc i)))
 fall_above l s i e h =
     let r = fall_ready l s i e in
     let q = fall_stretch s i r in
-    rw (next-fall l s i r.high r.low r.at_high r.at_low, sub-one) (clear_replaced s (record s { cells = cells_fallen s i r.low r.high }) q.above (Down (suc i) r.what ∷ []) (Down i r.what ∷ []) q.below q.was q.is refl (packet_clear (suc i) i r.what _) h)
+    rw (next_fall l s i r.high r.low r.at_high r.at_low, sub-one) (clear_replaced s (record s { cells = cells_fallen s i r.low r.high }) q.above (Down (suc i) r.what ∷ []) (Down i r.what ∷ []) q.below q.was q.is refl (packet_clear (suc i) i r.what _) h)
 
 -- Fall: a packet stands one stage lower
 pub fall_clear : (l : Plan) (s : State) (i : ℕ) → bar l s (Fall i) ≡ None → IsClear s → IsClear (moved l s (Fall i))
@@ -62,7 +62,7 @@ meet_clear {rest} {out} l s x i e h n =
     let old : List Item = Down i r.what ∷ Up i r.who ∷ [] in
     let new = met_items i (meeting r.who r.what).passenger (meeting r.who r.what).packet in
     let k = here l s x p.above old p.below p.was h in
-    rw (next-meet l s i r.here r.who r.what r.at_here r.sits r.lies) (clear_replaced s (with_cell s i (cell_met r.here r.who r.what)) p.above old new p.below p.was p.is refl (met_clear i r.who r.what _ k.stands.0.blank) n)
+    rw (next_meet l s i r.here r.who r.what r.at_here r.sits r.lies) (clear_replaced s (with_cell s i (cell_met r.here r.who r.what)) p.above old new p.below p.was p.is refl (met_clear i r.who r.what _ k.stands.0.blank) n)
 
 -- what is executed is not waited for
 done_quiet : (p : Passenger) → p.done ≡ true → awaits p ≡ false
@@ -74,13 +74,13 @@ execute_clear l s i e h =
     let r = execute_ready l s i (bar_row l s (Execute i) e) in
     let q = spot s i r.here r.who r.at_here r.sits in
     let f = finish r.who None in
-    rw (next-execute l s i r.here r.who r.at_here r.sits) (clear_replaced s (with_cell s i (with_passenger r.here f)) q.above (Up i r.who ∷ []) (Up i f ∷ []) q.below q.was (q.is f) refl (quiet_clear i i r.who f _ (done_quiet f (finish_done r.who None))) h)
+    rw (next_execute l s i r.here r.who r.at_here r.sits) (clear_replaced s (with_cell s i (with_passenger r.here f)) q.above (Up i r.who ∷ []) (Up i f ∷ []) q.below q.was (q.is f) refl (quiet_clear i i r.who f _ (done_quiet f (finish_done r.who None))) h)
 
 -- Launch: the passenger is launched, or it traps
 pub launch_clear : (l : Plan) (s : State) (i : ℕ) → bar l s (Launch i) ≡ None → IsClear s → IsClear (moved l s (Launch i))
 launch_clear l s i e h =
     let r = launch_ready l s i (bar_row l s (Launch i) e) in
-    rw (next-launch l s i r.here r.who r.at_here r.sits) (go r (launch_trap s r.who) refl)
+    rw (next_launch l s i r.here r.who r.at_here r.sits) (go r (launch_trap s r.who) refl)
   where
     go : (r : Launches l s i) (o : Option End) → launch_trap s r.who ≡ o → IsClear (launched l s i r.here r.who)
     go r None f =
@@ -106,14 +106,14 @@ recover_clear l s i e h =
     let r = recover_ready l s i (bar_row l s (Recover i) e) in
     let q = spot s i r.here r.who r.at_here r.sits in
     let p = back_in r.who r.what.answer in
-    rw (next-recover l s i r.here r.who r.number r.what r.at_here r.sits r.siding r.lies) (clear_replaced s (with_siding (with_cell s i (with_passenger r.here p)) r.number (set_last (siding_at s r.number) None)) q.above (Up i r.who ∷ []) (Up i p ∷ []) q.below q.was (q.is p) refl (quiet_clear i i r.who p _ (back_quiet r.who r.what.answer)) h)
+    rw (next_recover l s i r.here r.who r.number r.what r.at_here r.sits r.siding r.lies) (clear_replaced s (with_siding (with_cell s i (with_passenger r.here p)) r.number (set_last (siding_at s r.number) None)) q.above (Up i r.who ∷ []) (Up i p ∷ []) q.below q.was (q.is p) refl (quiet_clear i i r.who p _ (back_quiet r.who r.what.answer)) h)
 
 -- Serve: the passenger is answered, or ends the program
 pub serve_clear : (l : Plan) (m : Moment) → bar l m.state Serve ≡ None → IsClear m.state → IsClear (next l m Serve).state
 serve_clear l m e h =
     let r = serve_ready l m.state (bar_row l m.state Serve e) in
     let a = serve_of (instruction r.who) m.state.regs m.state.mem m.rest in
-    rw (next-serve l m r.here r.who a r.at_here r.sits refl) (go r a)
+    rw (next_serve l m r.here r.who a r.at_here r.sits refl) (go r a)
   where
     go : (r : Serves l m.state) (a : Called) → IsClear (served m l.stages r.here r.who a).state
     go r (called.Value a) =
@@ -129,10 +129,10 @@ serve_clear l m e h =
 pub slide_clear : (l : Plan) (s : State) (k c : ℕ) → bar l s (Slide k c) ≡ None → IsClear s → IsClear (moved l s (Slide k c))
 slide_clear l s k c e h =
     let r = slide_ready l s k c (bar_row l s (Slide k c) e) in
-    rw (next-slide l s k c r.what r.here) (record { fit = h.fit; ends = h.ends })
+    rw (next_slide l s k c r.what r.here) (record { fit = h.fit; ends = h.ends })
 
 -- Access: the column stays
 pub access_clear : (l : Plan) (s : State) → bar l s Access ≡ None → IsClear s → IsClear (moved l s Access)
 access_clear l s e h =
     let r = access_ready l s (bar_row l s Access e) in
-    rw (next-access l s r.what r.lies) (record { fit = h.fit; ends = h.ends })
+    rw (next_access l s r.what r.lies) (record { fit = h.fit; ends = h.ends })

@@ -11,12 +11,12 @@ use Rattle.cf_bind.specs.declared.passenger.Guess.{Guess}
 use Rattle.cf_bind.specs.declared.passenger.Passenger.{Passenger}
 use Rattle.cf_layout.specs.Layout.{Plan}
 use Rattle.cf_refinement.proofs.column.Column.{rider_first, rider_gone, top_cell}
-use Rattle.cf_refinement.proofs.moves.Emit.{emit_is, emit_ready, next-emit}
-use Rattle.cf_refinement.proofs.moves.Exit.{above_exit, exit_ready, exit_was, next-exit}
-use Rattle.cf_refinement.proofs.column.Fold.{fit_append, fit_back, fit_front, walk-append}
-use Rattle.cf_refinement.proofs.moves.Issue.{issue_items, issue_ready, next-issue}
+use Rattle.cf_refinement.proofs.moves.Emit.{emit_is, emit_ready, next_emit}
+use Rattle.cf_refinement.proofs.moves.Exit.{above_exit, exit_ready, exit_was, next_exit}
+use Rattle.cf_refinement.proofs.column.Fold.{fit_append, fit_back, fit_front, walk_append}
+use Rattle.cf_refinement.proofs.moves.Issue.{issue_items, issue_ready, next_issue}
 use Rattle.cf_refinement.proofs.moves.Rows.{bar_row}
-use Rattle.cf_refinement.proofs.moves.Leave.{leave_ready, left_cells, next-leave}
+use Rattle.cf_refinement.proofs.moves.Leave.{leave_ready, left_cells, next_leave}
 use Rattle.cf_refinement.proofs.invariant.Invariant.{Sound}
 use Rattle.cf_refinement.proofs.invariant.Suited.{Suits}
 use Rattle.cf_semantics.specs.Bars.{bar}
@@ -30,7 +30,7 @@ use Rattle.cf_semantics.specs.Runs.{opened}
 use Rattle.cf_semantics.specs.State.{State, put_cell}
 use Rattle.cf_semantics.specs.Walks.{Everywhere, walk}
 use Rattle.cf_untold.proofs.Clear.{Ends, Fits, IsClear, awaits, none_awaited, past}
-use Rattle.cf_refinement.proofs.walks.Cache.{cached-cleared, set_cached}
+use Rattle.cf_refinement.proofs.walks.Cache.{cached_cleared, set_cached}
 use Rattle.cf_refinement.proofs.claims.Runs.{empty_column}
 
 -- where the processor starts nothing is waited for
@@ -71,7 +71,7 @@ leave_clear l s x acc e h k =
     let same = past_settled n p none_awaited (settled p r.over) in
     let fit = rw was at k.fit in
     let ends = rw was at k.ends in
-    rw (next-leave l s r.here p r.at_here r.sits) (record {
+    rw (next_leave l s r.here p r.at_here r.sits) (record {
       fit = rw is (subst (λ (w : ℕ → Bool). Everywhere Fits past below w) same fit.1);
       ends = rw (is, left_cache s n r.here p) (subst (λ (w : ℕ → Bool). Ends (walk past below w) s.cache) same ends);
     })
@@ -100,7 +100,7 @@ emit_clear l s x acc e h k =
     let t : State = record s { cells = put_cell s.cells n d; lane = r.others } in
     let is : column t ≡ Down n what ∷ column s = emit_is l s r what h.size in
     let same = sym (past_down n what none_awaited) in
-    rw (next-emit l s r.here r.asked r.others r.at_here r.lane) (record {
+    rw (next_emit l s r.here r.asked r.others r.at_here r.lane) (record {
       fit = rw is (fits_first n what, subst (λ (w : ℕ → Bool). Everywhere Fits past (column s) w) same k.fit);
       ends = rw is (subst (λ (w : ℕ → Bool). Ends (walk past (column s) w) s.cache) same k.ends);
     })
@@ -117,7 +117,7 @@ keep_ends w c r v e h q u f = go (set_cached c r q u (Some v) f)
 
 -- where all is cleared no value is kept
 cleared_ends : (w : ℕ → Bool) (c : List (Option ℕ)) → Ends w (cleared c)
-cleared_ends w c r v e = let z = cached-cleared c r in absurd (cc)
+cleared_ends w c r v e = let z = cached_cleared c r in absurd (cc)
 
 -- the new destination is forgotten: it is waited for besides what was
 forget_ends : (i : ℕ) (p : Passenger) (w : ℕ → Bool) (c : List (Option ℕ)) → Ends w c → Ends (past (Up i p) w) (forgets (reg_in p.dst) c)
@@ -157,9 +157,9 @@ issue_clear l s x g acc e h k =
     let was : column s ≡ column_from 2 r.others ++ items 1 r.here = ap (column_from 1) r.cells in
     let is : column t ≡ column s ++ new = ap (λ (q : List Item). column_from 2 r.others ++ q) (issue_items r.here p r.free) ∙ sym (append_assoc (column_from 2 r.others) (items 1 r.here) new) ∙ ap (λ (q : List Item). q ++ new) (sym was) in
     let w = walk past (column s) none_awaited in
-    rw (next-issue l s g r.here r.others r.pc p r.cells r.runs refl) (record {
+    rw (next_issue l s g r.here r.others r.pc p r.cells r.runs refl) (record {
       fit = rw is (fit_append _ Fits past (column s) new none_awaited k.fit (fits_up 1 p w, tt));
-      ends = rw (is, walk-append past (column s) new none_awaited) (forget_ends 1 p w s.cache k.ends);
+      ends = rw (is, walk_append past (column s) new none_awaited) (forget_ends 1 p w s.cache k.ends);
     })
 
 -- Exit
@@ -183,7 +183,7 @@ exit_clear l s x acc e h k =
     let t : State = record s { cells = without_packet r.here ∷ r.others; fetch = turned s.fetch what; cache = keeps l.cache s.cache what } in
     let fit = rw was at k.fit in
     let w = walk past upper none_awaited in
-    rw (next-exit l s r.here r.others what r.cells r.lies) (record {
+    rw (next_exit l s r.here r.others what r.cells r.lies) (record {
       fit = fit_front _ Fits past upper last none_awaited fit;
-      ends = exit_ends 1 what l.cache s.cache w (fit_back _ Fits past upper last none_awaited fit).0 (rw (was, walk-append past upper last none_awaited) at k.ends);
+      ends = exit_ends 1 what l.cache s.cache w (fit_back _ Fits past upper last none_awaited fit).0 (rw (was, walk_append past upper last none_awaited) at k.ends);
     })

@@ -8,9 +8,9 @@ use Rattle.cf_bind.specs.declared.packet.Packet.TheVariants.{Halt, Turn, Value}
 use Rattle.cf_bind.specs.declared.passenger.Passenger.{Passenger}
 use Rattle.cf_layout.specs.Layout.{Plan}
 use Rattle.cf_refinement.proofs.column.Change.{here}
-use Rattle.cf_refinement.proofs.column.Fold.{fit_append, fit_back, fit_front, walk-append}
+use Rattle.cf_refinement.proofs.column.Fold.{fit_append, fit_back, fit_front, walk_append}
 use Rattle.cf_refinement.proofs.moves.Rows.{bar_row}
-use Rattle.cf_refinement.proofs.moves.Send.{next-send, send_ready, send_stretch}
+use Rattle.cf_refinement.proofs.moves.Send.{next_send, send_ready, send_stretch}
 use Rattle.cf_refinement.proofs.invariant.Invariant.{Sound}
 use Rattle.cf_refinement.proofs.invariant.Lone as lone
 use Rattle.cf_refinement.proofs.invariant.Suited.{Suits}
@@ -68,7 +68,7 @@ send_clear l s x i acc e h k =
     let same = past_sent i who r.what w in
     let fit = rw was at k.fit in
     let back = fit_back _ Fits past up ((Up i who ∷ []) ++ under) none_awaited fit in
-    rw (next-send l s i r.here who r.what r.at_here r.sits r.owes) (record {
+    rw (next_send l s i r.here who r.what r.at_here r.sits r.owes) (record {
       fit = rw is (fit_append _ Fits past up (new ++ under) none_awaited (fit_front _ Fits past up ((Up i who ∷ []) ++ under) none_awaited fit) (fits_up i q w, (fits_sent i q r.what w done free, subst (λ (v : ℕ → Bool). Everywhere Fits past under v) same back.1)));
-      ends = rw (is, walk-append past up (new ++ under) none_awaited) (subst (λ (v : ℕ → Bool). Ends (walk past under v) s.cache) same (rw (was, walk-append past up ((Up i who ∷ []) ++ under) none_awaited) at k.ends));
+      ends = rw (is, walk_append past up (new ++ under) none_awaited) (subst (λ (v : ℕ → Bool). Ends (walk past under v) s.cache) same (rw (was, walk_append past up ((Up i who ∷ []) ++ under) none_awaited) at k.ends));
     })

@@ -24,17 +24,17 @@ same_between : (xs ys zs bytes : List ℕ) (at : ℕ) → (xs ++ ys) ++ zs ≡ b
 same_between xs ys zs bytes at e f = rw (← e, ← f) (overwritten-between xs ys zs ys refl)
 
 -- bytes that are written over themselves stay
-overwritten-same : (bytes : List ℕ) (at len : ℕ) → at + len ≤ length bytes → overwritten bytes at (take len (drop at bytes)) ≡ bytes
-overwritten-same bytes at len b =
+overwritten_same : (bytes : List ℕ) (at len : ℕ) → at + len ≤ length bytes → overwritten bytes at (take len (drop at bytes)) ≡ bytes
+overwritten_same bytes at len b =
     let whole : (take at bytes ++ take len (drop at bytes)) ++ drop len (drop at bytes) ≡ bytes = rw (append_assoc, take-append-drop, take-append-drop) refl in
     let front : length (take at bytes) ≡ at = rw length-take (omega arith) in
     same_between (take at bytes) (take len (drop at bytes)) (drop len (drop at bytes)) bytes at whole front
 
-area_with-same : (addr len : ℕ) (a : Area) → writes_in addr len a ≡ true → area_with addr (bytes_in addr len a) a ≡ a
-area_with-same addr len a e = ap (λ (bytes : List ℕ). let b : Area = record a { bytes = bytes } in b) (overwritten-same a.bytes (addr - a.base) len (within addr len a e))
+area_with_same : (addr len : ℕ) (a : Area) → writes_in addr len a ≡ true → area_with addr (bytes_in addr len a) a ≡ a
+area_with_same addr len a e = ap (λ (bytes : List ℕ). let b : Area = record a { bytes = bytes } in b) (overwritten_same a.bytes (addr - a.base) len (within addr len a e))
 
-bytes_in-length : (addr len : ℕ) (a : Area) → writes_in addr len a ≡ true → length (bytes_in addr len a) ≡ len
-bytes_in-length addr len a e = let b = within addr len a e in rw (length-take, length-drop) (omega (arith, b))
+bytes_in_length : (addr len : ℕ) (a : Area) → writes_in addr len a ≡ true → length (bytes_in addr len a) ≡ len
+bytes_in_length addr len a e = let b = within addr len a e in rw (length-take, length-drop) (omega (arith, b))
 
 -- what is known of the bytes that a write writes over, by the regions
 record Found (addr len : ℕ) (old : List ℕ) (areas : List Area) : Type 0 where
@@ -50,8 +50,8 @@ found addr len old (x ∷ xs) e = by (writes_in addr len x) refl e (found addr l
     by true f e later =
         let is : bytes_in addr len x ≡ old = cc in
         record {
-          long = ap length (sym is) ∙ bytes_in-length addr len x f;
-          same = rw f (ap (λ (a : Area). a ∷ xs) (ap (λ (w : List ℕ). area_with addr w x) (sym is) ∙ area_with-same addr len x f));
+          long = ap length (sym is) ∙ bytes_in_length addr len x f;
+          same = rw f (ap (λ (a : Area). a ∷ xs) (ap (λ (w : List ℕ). area_with addr w x) (sym is) ∙ area_with_same addr len x f));
         }
     by false f e later = let h = later e in record { long = h.long; same = rw f (ap (λ (rest : List Area). x ∷ rest) h.same) }
 

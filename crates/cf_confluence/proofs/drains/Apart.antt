@@ -29,9 +29,9 @@ use Rattle.cf_semantics.specs.Path as trail
 use Rattle.cf_refinement.proofs.invariant.Invariant.{HoldsAfter, Sound}
 use Rattle.cf_refinement.proofs.invariant.Suited.{Suits}
 use Rattle.cf_refinement.proofs.invariant.Sure as sure
-use Rattle.cf_refinement.proofs.column.Fold.{walk-append, walk_follows}
+use Rattle.cf_refinement.proofs.column.Fold.{walk_append, walk_follows}
 use Rattle.cf_refinement.proofs.walks.Fresh.{among_front, fresh_is, fresh_pc}
-use Rattle.cf_refinement.proofs.moves.Issue.{Issues, issue_items, issue_ready, next-issue}
+use Rattle.cf_refinement.proofs.moves.Issue.{Issues, issue_items, issue_ready, next_issue}
 use Rattle.cf_refinement.proofs.moves.Rows.{bar_row}
 use Rattle.cf_refinement.proofs.claims.Level.{empty_column}
 use Rattle.cf_refinement.proofs.claims.Runs as runs
@@ -68,8 +68,8 @@ grown {rest} {out} l s x g r h =
     let is : column t ≡ column s ++ new = ap (λ (q : List Item). column_from 2 r.others ++ q) (issue_items r.here p r.free) ∙ sym (append_assoc (column_from 2 r.others) (items 1 r.here) new) ∙ ap (λ (q : List Item). q ++ new) (sym was) in
     let f = lane_way s t x (requests p) refl in
     let q = walk_follows _ (Fits (isa_of l)) (past (isa_of l)) Follows (way_walk (isa_of l)) (column s) _ _ f (fits_way (isa_of l) (column s) (trail.top s x) (begin s x) refl h.path_fit) in
-    let w : way (isa_of l) t x ≡ past (isa_of l) (Up 1 p) (walk (past (isa_of l)) (column s) (begin t x)) = ap (λ (z : List Item). walk (past (isa_of l)) z (begin t x)) is ∙ walk-append (past (isa_of l)) (column s) new (begin t x) in
-    rw (next-issue l s g r.here r.others r.pc p r.cells r.runs refl) (record { above = walk (past (isa_of l)) (column s) (begin t x); count = q.count; stop = q.stop; is = w; first = λ e. ap (λ (z : List Item). walk (past (isa_of l)) z (begin t x)) e })
+    let w : way (isa_of l) t x ≡ past (isa_of l) (Up 1 p) (walk (past (isa_of l)) (column s) (begin t x)) = ap (λ (z : List Item). walk (past (isa_of l)) z (begin t x)) is ∙ walk_append (past (isa_of l)) (column s) new (begin t x) in
+    rw (next_issue l s g r.here r.others r.pc p r.cells r.runs refl) (record { above = walk (past (isa_of l)) (column s) (begin t x); count = q.count; stop = q.stop; is = w; first = λ e. ap (λ (z : List Item). walk (past (isa_of l)) z (begin t x)) e })
 
 -- a passenger more takes nothing from the way
 pub past_grows : (isa : Isa) (i : ℕ) (p : Passenger) (w : Way) → (w.count ≤ (past isa (Up i p) w).count) × (w.stop ≡ true → (past isa (Up i p) w).stop ≡ true)

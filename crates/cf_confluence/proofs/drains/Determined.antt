@@ -14,11 +14,11 @@ use Rattle.cf_refinement.proofs.column.Column.{Top, rider_first, rider_gone, top
 use Rattle.cf_confluence.proofs.weight.Bound.{sound_at}
 use Rattle.cf_confluence.proofs.drains.Rested.{after_gained, rested, retired_is}
 use Rattle.cf_confluence.proofs.drains.Tidy.{IsTidy, tidy_run}
-use Rattle.cf_refinement.proofs.moves.Emit.{emit_is, emit_path, emit_ready, next-emit}
-use Rattle.cf_refinement.proofs.moves.Exit.{above_exit, exit_ready, exit_was, next-exit}
-use Rattle.cf_refinement.proofs.column.Fold.{walk-append, walk_follows}
+use Rattle.cf_refinement.proofs.moves.Emit.{emit_is, emit_path, emit_ready, next_emit}
+use Rattle.cf_refinement.proofs.moves.Exit.{above_exit, exit_ready, exit_was, next_exit}
+use Rattle.cf_refinement.proofs.column.Fold.{walk_append, walk_follows}
 use Rattle.cf_refinement.proofs.moves.Rows.{bar_row}
-use Rattle.cf_refinement.proofs.moves.Leave.{Leaves, at_top, dead_path, leave_kept, leave_ready, left_dead, left_on, left_over, live_path, next-leave, sure_goes, sure_stops}
+use Rattle.cf_refinement.proofs.moves.Leave.{Leaves, at_top, dead_path, leave_kept, leave_ready, left_dead, left_on, left_over, live_path, next_leave, sure_goes, sure_stops}
 use Rattle.cf_confluence.proofs.drains.Right.{Fits, Follows, past_path, way_walk}
 use Rattle.cf_confluence.proofs.drains.Steadies.{access_steady, climb_steady, execute_steady, fall_steady, launch_steady, meet_steady, recover_steady, send_steady, serve_steady, slide_steady}
 use Rattle.cf_confluence.proofs.drains.Ways.{Steady, fits_way}
@@ -65,7 +65,7 @@ emit_steady {rest} {out} l s x e h =
     let f = emit_way (isa_of l) s t x n r.asked v (emit_path (isa_of l) s t x n r.asked v r.others r.lane refl) in
     let q = walk_follows _ (Fits (isa_of l)) (past (isa_of l)) Follows (way_walk (isa_of l)) (column s) _ _ f (fits_way (isa_of l) (column s) (trail.top s x) (begin s x) refl h.path_fit) in
     let w : way (isa_of l) t x ≡ walk (past (isa_of l)) (column s) (past (isa_of l) (Down n k) (begin t x)) = ap (λ (z : List Item). walk (past (isa_of l)) z (begin t x)) is in
-    rw (next-emit l s r.here r.asked r.others r.at_here r.lane) (record { count = ap (λ (z : Way). z.count) w ∙ q.count; stop = ap (λ (z : Way). z.stop) w ∙ q.stop })
+    rw (next_emit l s r.here r.asked r.others r.at_here r.lane) (record { count = ap (λ (z : Way). z.count) w ∙ q.count; stop = ap (λ (z : Way). z.stop) w ∙ q.stop })
 
 -- Exit
 result_way : (isa : Isa) (k : Packet) (w : Way) → ((past isa (Down 1 k) w).count ≡ w.count) × ((past isa (Down 1 k) w).stop ≡ w.stop)
@@ -77,9 +77,9 @@ exit_steady {rest} {out} l s x e h =
     let r = exit_ready l s (bar_row l s Exit e) in
     let k = r.what in
     let above = above_exit r in
-    let w : way (isa_of l) s x ≡ past (isa_of l) (Down 1 k) (walk (past (isa_of l)) above (begin s x)) = ap (λ (z : List Item). walk (past (isa_of l)) z (begin s x)) (exit_was s r) ∙ walk-append (past (isa_of l)) above (Down 1 k ∷ []) (begin s x) in
+    let w : way (isa_of l) s x ≡ past (isa_of l) (Down 1 k) (walk (past (isa_of l)) above (begin s x)) = ap (λ (z : List Item). walk (past (isa_of l)) z (begin s x)) (exit_was s r) ∙ walk_append (past (isa_of l)) above (Down 1 k ∷ []) (begin s x) in
     let c = result_way (isa_of l) k (walk (past (isa_of l)) above (begin s x)) in
-    rw (next-exit l s r.here r.others k r.cells r.lies) (record { count = sym (ap (λ (z : Way). z.count) w ∙ c.0); stop = sym (ap (λ (z : Way). z.stop) w ∙ c.1) })
+    rw (next_exit l s r.here r.others k r.cells r.lies) (record { count = sym (ap (λ (z : Way). z.count) w ∙ c.0); stop = sym (ap (λ (z : Way). z.stop) w ∙ c.1) })
 
 -- Leave
 dead_way : (isa : Isa) (s t : State) (x : Machine) (n : ℕ) (p : Passenger) → p.dead ≡ true → paths.Follows (trail.past isa (Up n p) (trail.top s x)) (trail.top t x) → Follows (past isa (Up n p) (begin s x)) (begin t x)
@@ -187,7 +187,7 @@ leave_total {rest} {out} l s x n b z e h k = go (leave_ready l s (bar_row l s Le
         t = moved l s Leave
 
         here : moved l s Leave ≡ left s l.stages r.here p
-        here = next-leave l s r.here p r.at_here r.sits
+        here = next_leave l s r.here p r.at_here r.sits
 
         c : Top s.cells l.stages r.here
         c = top_cell s.cells l.stages r.here h.size r.at_here

@@ -18,14 +18,14 @@ use Rattle.cf_semantics.specs.Options.{is_some, on}
 use Rattle.cf_semantics.specs.State.{State, Moment, cell_at}
 use Rattle.cf_semantics.specs.Weight.{counts, is_issue}
 use Rattle.cf_refinement.proofs.moves.Rows.{bar_row}
-use Rattle.cf_refinement.proofs.moves.Leave.{leave_ready, left_dead, left_on, left_over, next-leave}
+use Rattle.cf_refinement.proofs.moves.Leave.{leave_ready, left_dead, left_on, left_over, next_leave}
 use Rattle.cf_refinement.proofs.claims.Runs as runs
 
 -- Leave
 leave_retires : (l : Plan) (s : State) (e : Event) → bar l s Leave ≡ None → IsEvent l s Leave e → (moved l s Leave).retired ≡ s.retired + counts (is_retirement e) 1
 leave_retires l s e b v =
     let r = leave_ready l s (bar_row l s Leave b) in
-    rw (next-leave l s r.here r.who r.at_here r.sits) (go l.stages r.here r.who e (v r.here r.who r.at_here r.sits))
+    rw (next_leave l s r.here r.who r.at_here r.sits) (go l.stages r.here r.who e (v r.here r.who r.at_here r.sits))
   where
     go : (n : ℕ) (c : Cell) (p : Passenger) (e : Event) → IsLeaving p e → (left s n c p).retired ≡ s.retired + counts (is_retirement e) 1
     go n c p (event.Retired shown) w = rw (left_on s n c p w.0 w.1) (omega arith)

@@ -2,7 +2,7 @@
 use Rattle.std.proofs.Common.{◌≡◌, ℕ, Bool, true, false, ◌&&◌, refl, sym, ap, ◌∙◌, arith, true≢false}
 use Rattle.cf_bind.specs.declared.packet.Packet.{Packet}
 use Rattle.cf_bind.specs.declared.passenger.Passenger.{Passenger}
-use Rattle.cf_refinement.proofs.column.Fold.{Is_walk}
+use Rattle.cf_refinement.proofs.column.Fold.{IsWalk}
 use Rattle.cf_semantics.specs.Column.{Down, Item, Up}
 use Rattle.cf_semantics.specs.Passengers.{is_place}
 use Rattle.cf_semantics.specs.Right.{Way, follows, past, past_passenger, stops}
@@ -91,7 +91,7 @@ item_goes_on : (isa : Isa) (i : Item) (w v : Way) → Follows w v → Fits isa i
 item_goes_on isa (Up i p) w v f h = rider_follows isa i p w v f h
 item_goes_on isa (Down i k) w v f h = packet_follows isa i k w v f
 
-pub way_walk : (isa : Isa) → Is_walk Way (Fits isa) (past isa) Follows
+pub way_walk : (isa : Isa) → IsWalk Way (Fits isa) (past isa) Follows
 way_walk isa = record { stays = item_stays isa; goes_on = item_goes_on isa }
 
 -- Execute, Recover: what turns is behind a wrong guess

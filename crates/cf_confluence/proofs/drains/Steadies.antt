@@ -10,28 +10,28 @@ use Rattle.cf_bind.specs.declared.passenger.End.{End}
 use Rattle.cf_bind.specs.declared.passenger.Passenger.{Passenger}
 use Rattle.cf_layout.specs.Layout.{Plan}
 use Rattle.cf_refinement.proofs.walks.Answering.{walk_landed}
-use Rattle.cf_refinement.proofs.moves.Access.{access_ready, next-access}
+use Rattle.cf_refinement.proofs.moves.Access.{access_ready, next_access}
 use Rattle.cf_refinement.proofs.walks.Returning.{back, back_at, back_fits, back_past, goto_class}
 use Rattle.cf_refinement.proofs.walks.Bounds.{core_bounds}
 use Rattle.cf_refinement.proofs.column.Change.{Here, here}
-use Rattle.cf_refinement.proofs.moves.Execute.{execute_ready, goes_straight, next-execute, sure_finishes}
-use Rattle.cf_refinement.proofs.moves.Fall.{cells_fallen, fall_ready, fall_stretch, next-fall, no_fall}
-use Rattle.cf_refinement.proofs.moves.Climb.{cells_climbed, climb_ready, climb_stretch, next-climb}
-use Rattle.cf_refinement.proofs.moves.Meet.{meet_ready, meet_stretch, next-meet}
+use Rattle.cf_refinement.proofs.moves.Execute.{execute_ready, goes_straight, next_execute, sure_finishes}
+use Rattle.cf_refinement.proofs.moves.Fall.{cells_fallen, fall_ready, fall_stretch, next_fall, no_fall}
+use Rattle.cf_refinement.proofs.moves.Climb.{cells_climbed, climb_ready, climb_stretch, next_climb}
+use Rattle.cf_refinement.proofs.moves.Meet.{meet_ready, meet_stretch, next_meet}
 use Rattle.cf_refinement.proofs.moves.Rows.{bar_row}
 use Rattle.cf_refinement.proofs.walks.Launching.{launch_path, sent_out}
-use Rattle.cf_refinement.proofs.moves.Launch.{Launches, in_port, launch_ready, launched_out, launched_trap, next-launch, refused, trap_at, trap_path}
+use Rattle.cf_refinement.proofs.moves.Launch.{Launches, in_port, launch_ready, launched_out, launched_trap, next_launch, refused, trap_at, trap_path}
 use Rattle.cf_refinement.proofs.walks.Loading.{memory_goes}
-use Rattle.cf_refinement.proofs.instructions.Memory.{l2}
+use Rattle.cf_refinement.proofs.instructions.Memory.{memory_steps}
 use Rattle.cf_refinement.proofs.walks.PathFinish.{Finishes}
-use Rattle.cf_refinement.proofs.moves.Recovering.{Recovers, hauls, next-recover, recover_ready}
+use Rattle.cf_refinement.proofs.moves.Recovering.{Recovers, hauls, next_recover, recover_ready}
 use Rattle.cf_refinement.proofs.moves.Recover.{docked_live, in_dead, in_live, landed, other_port, plain_class, sure_loads}
 use Rattle.cf_confluence.proofs.drains.Right.{Fits, Follows, finish_way, past_path}
 use Rattle.cf_confluence.proofs.drains.RightMoves.{launch_count, serve_ahead, trap_ahead}
-use Rattle.cf_refinement.proofs.moves.Send.{next-send, send_ready, send_stretch}
-use Rattle.cf_refinement.proofs.moves.Serve.{Scene, Serves, gave_at, gave_path, next-serve, quit, quit_at, quit_path, scene, serial_nowhere, serve_ready}
+use Rattle.cf_refinement.proofs.moves.Send.{next_send, send_ready, send_stretch}
+use Rattle.cf_refinement.proofs.moves.Serve.{Scene, Serves, gave_at, gave_path, next_serve, quit, quit_at, quit_path, scene, serial_nowhere, serve_ready}
 use Rattle.cf_refinement.proofs.column.Sidings.{last_answer, plain_last}
-use Rattle.cf_refinement.proofs.moves.Slide.{next-slide, slide_ready}
+use Rattle.cf_refinement.proofs.moves.Slide.{next_slide, slide_ready}
 use Rattle.cf_refinement.proofs.column.Spot.{Spot, spot}
 use Rattle.cf_confluence.proofs.drains.Ways.{Steady, finished_way, follows_self, meet_way, packet_relabel, rider_relabel, send_way, walk_way, way_changed}
 use Rattle.cf_refinement.proofs.invariant.Invariant.{Sound}
@@ -66,14 +66,14 @@ climb_steady {rest} {out} l s x i e h =
     let r = climb_ready l s i (bar_row l s (Climb i) e) in
     let q = climb_stretch l s i r in
     let t : State = record s { cells = cells_climbed s i r.low r.high } in
-    rw (next-climb l s i r.low r.high r.at_low r.at_high, add-one) (way_changed (isa_of l) s t x q.above (Up i r.who ∷ []) (Up (suc i) r.who ∷ []) q.below q.was q.is refl h.path_fit (λ _. rider_relabel (isa_of l) i (suc i) r.who _))
+    rw (next_climb l s i r.low r.high r.at_low r.at_high, add-one) (way_changed (isa_of l) s t x q.above (Up i r.who ∷ []) (Up (suc i) r.who ∷ []) q.below q.was q.is refl h.path_fit (λ _. rider_relabel (isa_of l) i (suc i) r.who _))
 
 fall_up : {rest out : List ℕ} (l : Plan) (s : State) (x : Machine) (i : ℕ) → bar l s (Fall (suc i)) ≡ None → Sound l s rest out x → Steady (way (isa_of l) s x) (way (isa_of l) (moved l s (Fall (suc i))) x)
 fall_up {rest} {out} l s x i e h =
     let r = fall_ready l s i (bar_row l s (Fall (suc i)) e) in
     let q = fall_stretch s i r in
     let t : State = record s { cells = cells_fallen s i r.low r.high } in
-    rw (next-fall l s i r.high r.low r.at_high r.at_low, sub-one) (way_changed (isa_of l) s t x q.above (Down (suc i) r.what ∷ []) (Down i r.what ∷ []) q.below q.was q.is refl h.path_fit (λ _. packet_relabel (isa_of l) (suc i) i r.what _))
+    rw (next_fall l s i r.high r.low r.at_high r.at_low, sub-one) (way_changed (isa_of l) s t x q.above (Down (suc i) r.what ∷ []) (Down i r.what ∷ []) q.below q.was q.is refl h.path_fit (λ _. packet_relabel (isa_of l) (suc i) i r.what _))
 
 pub fall_steady : {rest out : List ℕ} (l : Plan) (s : State) (x : Machine) (i : ℕ) → bar l s (Fall i) ≡ None → Sound l s rest out x → Steady (way (isa_of l) s x) (way (isa_of l) (moved l s (Fall i)) x)
 fall_steady {rest} {out} l s x zero e h = absurd (no_fall l s (bar_row l s (Fall zero) e))
@@ -86,7 +86,7 @@ meet_steady {rest} {out} l s x i e h =
     let old : List Item = Down i r.what ∷ Up i r.who ∷ [] in
     let new = pathmeet.met_items i (meeting r.who r.what).passenger (meeting r.who r.what).packet in
     let k = here l s x p.above old p.below p.was h in
-    rw (next-meet l s i r.here r.who r.what r.at_here r.sits r.lies) (way_changed (isa_of l) s (with_cell s i (cell_met r.here r.who r.what)) x p.above old new p.below p.was p.is refl h.path_fit (λ _. meet_way (isa_of l) i r.who r.what _ (subst (λ (w : trail.Walk). Everywhere (sure.Fits (isa_of l)) (trail.past (isa_of l)) old w) (sym (walk_way (isa_of l) p.above (begin s x))) k.path_fit)))
+    rw (next_meet l s i r.here r.who r.what r.at_here r.sits r.lies) (way_changed (isa_of l) s (with_cell s i (cell_met r.here r.who r.what)) x p.above old new p.below p.was p.is refl h.path_fit (λ _. meet_way (isa_of l) i r.who r.what _ (subst (λ (w : trail.Walk). Everywhere (sure.Fits (isa_of l)) (trail.past (isa_of l)) old w) (sym (walk_way (isa_of l) p.above (begin s x))) k.path_fit)))
 
 pub send_steady : {rest out : List ℕ} (l : Plan) (s : State) (x : Machine) (i : ℕ) → bar l s (Send i) ≡ None → Sound l s rest out x → Steady (way (isa_of l) s x) (way (isa_of l) (moved l s (Send i)) x)
 send_steady {rest} {out} l s x i e h =
@@ -94,7 +94,7 @@ send_steady {rest} {out} l s x i e h =
     let q : Passenger = record r.who { owes = None } in
     let d : Cell = record { passenger = Some q; packet = Some r.what; met = true } in
     let p = send_stretch s i r in
-    rw (next-send l s i r.here r.who r.what r.at_here r.sits r.owes) (way_changed (isa_of l) s (with_cell s i d) x p.above (Up i r.who ∷ []) (Up i q ∷ Down i r.what ∷ []) p.below p.was p.is refl h.path_fit (send_way (isa_of l) i r.who r.what _ r.owes))
+    rw (next_send l s i r.here r.who r.what r.at_here r.sits r.owes) (way_changed (isa_of l) s (with_cell s i d) x p.above (Up i r.who ∷ []) (Up i q ∷ Down i r.what ∷ []) p.below p.was p.is refl h.path_fit (send_way (isa_of l) i r.who r.what _ r.owes))
 
 owes_nothing : (l : Plan) (i : ℕ) (p : Passenger) → p.done ≡ false → Stands l i p → p.owes ≡ None
 owes_nothing l i p d h = go p.owes refl
@@ -112,18 +112,18 @@ execute_steady {rest} {out} l s x i acc e h =
     let c = acc.plain (kind p) i r.unit in
     let u = walk (past (isa_of l)) q.above (begin s x) in
     let fits : sure.Fits (isa_of l) (Up i p) u.path = subst (λ (w : trail.Walk). sure.Fits (isa_of l) (Up i p) w) (sym (walk_way (isa_of l) q.above (begin s x))) k.path_fit.0 in
-    rw (next-execute l s i r.here p r.at_here r.sits) (way_changed (isa_of l) s (with_cell s i (with_passenger r.here (finish p None))) x q.above (Up i p ∷ []) (Up i (finish p None) ∷ []) q.below q.was (q.is (finish p None)) refl h.path_fit (finished_way (isa_of l) i p None u r.undone (owes_nothing l i p r.undone k.stands.0) (goes_straight p c) (λ d b. sure_finishes (isa_of l) p u.path r.undone r.has1 r.has2 c (sure_at (isa_of l) i p u.path d b fits))))
+    rw (next_execute l s i r.here p r.at_here r.sits) (way_changed (isa_of l) s (with_cell s i (with_passenger r.here (finish p None))) x q.above (Up i p ∷ []) (Up i (finish p None) ∷ []) q.below q.was (q.is (finish p None)) refl h.path_fit (finished_way (isa_of l) i p None u r.undone (owes_nothing l i p r.undone k.stands.0) (goes_straight p c) (λ d b. sure_finishes (isa_of l) p u.path r.undone r.has1 r.has2 c (sure_at (isa_of l) i p u.path d b fits))))
 
 -- the column and the lane stay
 pub slide_steady : (l : Plan) (s : State) (x : Machine) (k c : ℕ) → bar l s (Slide k c) ≡ None → Steady (way (isa_of l) s x) (way (isa_of l) (moved l s (Slide k c)) x)
 slide_steady l s x k c e =
     let r = slide_ready l s k c (bar_row l s (Slide k c) e) in
-    rw (next-slide l s k c r.what r.here) (record { count = refl; stop = refl })
+    rw (next_slide l s k c r.what r.here) (record { count = refl; stop = refl })
 
 pub access_steady : (l : Plan) (s : State) (x : Machine) → bar l s Access ≡ None → Steady (way (isa_of l) s x) (way (isa_of l) (moved l s Access) x)
 access_steady l s x e =
     let r = access_ready l s (bar_row l s Access e) in
-    rw (next-access l s r.what r.lies) (record { count = refl; stop = refl })
+    rw (next_access l s r.what r.lies) (record { count = refl; stop = refl })
 
 -- Launch
 launch_lost : (isa : Isa) (i : ℕ) (p : Passenger) (u : Way) → (past isa (Up i p) u).path.barred ≡ false → (past isa (Up i (sent_out p)) u).path.barred ≡ true → ⊥
@@ -138,13 +138,13 @@ out_way isa i p u h =
 
 sure_traps : (isa : Isa) (p : Passenger) (w : trail.Walk) (e : End) → is_memory (kind p) ≡ true → missing p.src1 ≡ None → missing p.src2 ≡ None → access_trap (instruction p) p.pc (value_in p.src1) (bounds_of w.machine.hart.mem) ≡ Some e → sure.SureAt isa p w → step_at isa w.machine p.pc ≡ Stops e
 unfolding sure.SureAt
-sure_traps isa p w e m m1 m2 t h = let q = l2 isa p w.machine w.goto m m1 m2 h.0 in rw t at q.1
+sure_traps isa p w e m m1 m2 t h = let q = memory_steps isa p w.machine w.goto m m1 m2 h.0 in rw t at q.1
 
 pub launch_steady : {rest out : List ℕ} (l : Plan) (s : State) (x : Machine) (i : ℕ) → bar l s (Launch i) ≡ None → Sound l s rest out x → Steady (way (isa_of l) s x) (way (isa_of l) (moved l s (Launch i)) x)
 launch_steady {rest} {out} l s x i e h = go (launch_ready l s i (bar_row l s (Launch i) e))
   where
     go : Launches l s i → Steady (way (isa_of l) s x) (way (isa_of l) (moved l s (Launch i)) x)
-    go r = rw (next-launch l s i r.here r.who r.at_here r.sits) (by (launch_trap s r.who) refl)
+    go r = rw (next_launch l s i r.here r.who r.at_here r.sits) (by (launch_trap s r.who) refl)
       where
         by : (o : Option End) → launch_trap s r.who ≡ o → Steady (way (isa_of l) s x) (way (isa_of l) (launched l s i r.here r.who) x)
         by None f =
@@ -177,7 +177,7 @@ pub recover_steady : {rest out : List ℕ} (l : Plan) (s : State) (x : Machine) 
 recover_steady {rest} {out} l s x i acc e h = go (recover_ready l s i (bar_row l s (Recover i) e))
   where
     go : Recovers l s i → Steady (way (isa_of l) s x) (way (isa_of l) (moved l s (Recover i)) x)
-    go r = rw (next-recover l s i r.here r.who r.number r.what r.at_here r.sits r.siding r.lies) (by r.who.dead (is_memory (kind r.who)) r.what.answer refl refl refl)
+    go r = rw (next_recover l s i r.here r.who r.number r.what r.at_here r.sits r.siding r.lies) (by r.who.dead (is_memory (kind r.who)) r.what.answer refl refl refl)
       where
         p : Passenger
         p = r.who
@@ -261,8 +261,8 @@ serve_steady l m x e h = go (serve_ready l m.state (bar_row l m.state Serve e))
         by (called.Value a) f =
             let g = asks (called.Value a) f in
             let fw = (gave_path (isa_of l) l.stages p (trail.top s x) a.value r.live refl (gave_at (isa_of l) p (trail.top s x) a h.wide r.serial r.undone g)).follows (fits, tt) in
-            rw (next-serve l m r.here p (called.Value a) r.at_here r.sits f) (way_changed (isa_of l) s (record s { cells = put_cell s.cells l.stages (with_passenger r.here (answered p a.value)); mem = a.mem }) x [] (Up l.stages p ∷ []) (Up l.stages (answered p a.value) ∷ []) c.below c.was (c.is (answered p a.value)) refl h.path_fit (λ _. finish_way (isa_of l) l.stages p (answered p a.value) (begin s x) refl refl fw (λ a d _. serve_ahead (isa_of l) l.stages p (begin s x) d a (serial_nowhere p r.serial r.undone)) quiet))
+            rw (next_serve l m r.here p (called.Value a) r.at_here r.sits f) (way_changed (isa_of l) s (record s { cells = put_cell s.cells l.stages (with_passenger r.here (answered p a.value)); mem = a.mem }) x [] (Up l.stages p ∷ []) (Up l.stages (answered p a.value) ∷ []) c.below c.was (c.is (answered p a.value)) refl h.path_fit (λ _. finish_way (isa_of l) l.stages p (answered p a.value) (begin s x) refl refl fw (λ a d _. serve_ahead (isa_of l) l.stages p (begin s x) d a (serial_nowhere p r.serial r.undone)) quiet))
         by (called.Exit z) f =
             let g = asks (called.Exit z) f in
             let fw = (quit_path (isa_of l) l.stages p (trail.top s x) z r.live refl r.undone r.serial (c.stands.unended r.undone) (quit_at (isa_of l) p (trail.top s x) z r.serial r.undone g)).follows (fits, tt) in
-            rw (next-serve l m r.here p (called.Exit z) r.at_here r.sits f) (way_changed (isa_of l) s (record s { cells = put_cell s.cells l.stages (with_passenger r.here (quit p z)) }) x [] (Up l.stages p ∷ []) (Up l.stages (quit p z) ∷ []) c.below c.was (c.is (quit p z)) refl h.path_fit (λ _. finish_way (isa_of l) l.stages p (quit p z) (begin s x) refl refl fw (λ a d t. absurd (let y = sym quiet ∙ t in cc)) quiet))
+            rw (next_serve l m r.here p (called.Exit z) r.at_here r.sits f) (way_changed (isa_of l) s (record s { cells = put_cell s.cells l.stages (with_passenger r.here (quit p z)) }) x [] (Up l.stages p ∷ []) (Up l.stages (quit p z) ∷ []) c.below c.was (c.is (quit p z)) refl h.path_fit (λ _. finish_way (isa_of l) l.stages p (quit p z) (begin s x) refl refl fw (λ a d t. absurd (let y = sym quiet ∙ t in cc)) quiet))

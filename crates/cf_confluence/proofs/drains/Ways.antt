@@ -3,7 +3,7 @@ use Rattle.std.proofs.Common.{◌≡◌, ℕ, List, [], ◌∷◌, ◌++◌, Opt
 use Rattle.cf_bind.specs.Meeting.{meeting}
 use Rattle.cf_bind.specs.declared.packet.Packet.{Packet}
 use Rattle.cf_bind.specs.declared.passenger.Passenger.{Passenger}
-use Rattle.cf_refinement.proofs.column.Fold.{fit_back, fit_front, walk-append, walk_follows}
+use Rattle.cf_refinement.proofs.column.Fold.{fit_back, fit_front, walk_append, walk_follows}
 use Rattle.cf_refinement.proofs.walks.PathFinish.{Finishes, finish_walk, pc_stays, sources_stay}
 use Rattle.cf_confluence.proofs.drains.Right.{Fits, Follows, finish_way, past_path, way_walk}
 use Rattle.cf_confluence.proofs.drains.RightMoves.{finish_ahead, meet_count, packet_label, rider_label, send_count}
@@ -41,8 +41,8 @@ way_changed isa s t x above old new below was is lane h f =
     let g = f (fit_front _ (Fits isa) (past isa) old below u mid) in
     let q = walk_follows _ (Fits isa) (past isa) Follows (way_walk isa) below (walk (past isa) old u) (walk (past isa) new u) g (fit_back _ (Fits isa) (past isa) old below u mid) in
     let top : begin t x ≡ begin s x = rw lane refl in
-    let ws : way isa s x ≡ walk (past isa) below (walk (past isa) old u) = ap (λ (z : List Item). walk (past isa) z (begin s x)) was ∙ walk-append (past isa) above (old ++ below) (begin s x) ∙ walk-append (past isa) old below u in
-    let wt : way isa t x ≡ walk (past isa) below (walk (past isa) new u) = ap (λ (z : List Item). walk (past isa) z (begin t x)) is ∙ ap (λ (z : Way). walk (past isa) (above ++ (new ++ below)) z) top ∙ walk-append (past isa) above (new ++ below) (begin s x) ∙ walk-append (past isa) new below u in
+    let ws : way isa s x ≡ walk (past isa) below (walk (past isa) old u) = ap (λ (z : List Item). walk (past isa) z (begin s x)) was ∙ walk_append (past isa) above (old ++ below) (begin s x) ∙ walk_append (past isa) old below u in
+    let wt : way isa t x ≡ walk (past isa) below (walk (past isa) new u) = ap (λ (z : List Item). walk (past isa) z (begin t x)) is ∙ ap (λ (z : Way). walk (past isa) (above ++ (new ++ below)) z) top ∙ walk_append (past isa) above (new ++ below) (begin s x) ∙ walk_append (past isa) new below u in
     record { count = ap (λ (z : Way). z.count) wt ∙ q.count ∙ ap (λ (z : Way). z.count) (sym ws); stop = ap (λ (z : Way). z.stop) wt ∙ q.stop ∙ ap (λ (z : Way). z.stop) (sym ws) }
 
 pub follows_self : (w : Way) → Follows w w

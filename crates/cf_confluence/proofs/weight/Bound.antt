@@ -9,7 +9,7 @@ use Rattle.cf_layout.specs.Layout.{Plan, SidingPlan}
 use Rattle.cf_refinement.proofs.moves.Execute.{ashore}
 use Rattle.cf_confluence.proofs.weight.Falls.{access_falls, climb_falls, emit_falls, execute_falls, exit_falls, fall_falls, launch_falls, leave_falls, meet_falls, recover_falls, send_falls, serve_falls, slide_falls}
 use Rattle.cf_refinement.proofs.walks.Fresh.{fresh_is}
-use Rattle.cf_refinement.proofs.moves.Issue.{issue_ready, next-issue}
+use Rattle.cf_refinement.proofs.moves.Issue.{issue_ready, next_issue}
 use Rattle.cf_refinement.proofs.moves.Rows.{bar_row}
 use Rattle.cf_refinement.proofs.claims.Runs.{going, holds_after, kept}
 use Rattle.cf_refinement.proofs.moves.Serve.{serial_aboard}
@@ -71,7 +71,7 @@ issue_rises l s g z e =
     let lane = more_lane (2 * l.stages + 1) (length s.lane) (length (requests p)) (asks_size (missing p.src1) (missing p.src2)) in
     let both : (2 * l.stages + 1) * length (s.lane ++ requests p) ≡ (2 * l.stages + 1) * (length s.lane + length (requests p)) = ap (λ (j : ℕ). (2 * l.stages + 1) * j) (length-append s.lane (requests p)) in
     let was : cells_weight l.stages (most_cells l.sidings) 1 s.cells ≡ cell_weight l.stages (most_cells l.sidings) 1 r.here + cells_weight l.stages (most_cells l.sidings) 2 r.others = ap (cells_weight l.stages (most_cells l.sidings) 1) r.cells in
-    rw (next-issue l s g r.here r.others r.pc p r.cells r.runs refl) (sum l.stages (most_cells l.sidings) _ _ (cells_weight l.stages (most_cells l.sidings) 2 r.others) (sidings_weight s.sidings) _ _ _ c (omega (arith, lane, both)) was)
+    rw (next_issue l s g r.here r.others r.pc p r.cells r.runs refl) (sum l.stages (most_cells l.sidings) _ _ (cells_weight l.stages (most_cells l.sidings) 2 r.others) (sidings_weight s.sidings) _ _ _ c (omega (arith, lane, both)) was)
   where
     sum : (n d a b r q x y w : ℕ) → b ≤ a + (2 * n + (2 * n + (d + 3))) → y ≤ x + ((2 * n + 1) + (2 * n + 1)) → w ≡ a + r → suc (((b + r) + q) + y) ≤ ((w + q) + x) + (8 * n + d + 8)
     sum n d a b r q x y w e f g = omega arith

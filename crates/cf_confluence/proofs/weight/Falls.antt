@@ -10,25 +10,25 @@ use Rattle.cf_bind.specs.declared.packet.Packet.TheVariants.{Value}
 use Rattle.cf_bind.specs.declared.passenger.End.{End}
 use Rattle.cf_bind.specs.declared.passenger.Passenger.{Passenger}
 use Rattle.cf_layout.specs.Layout.{Plan, SidingPlan, cells_of, no_siding, unit_at}
-use Rattle.cf_refinement.proofs.moves.Access.{access_ready, first_out, next-access}
+use Rattle.cf_refinement.proofs.moves.Access.{access_ready, first_out, next_access}
 use Rattle.cf_refinement.proofs.walks.Returning.{back}
-use Rattle.cf_refinement.proofs.moves.Emit.{emit_ready, next-emit}
-use Rattle.cf_refinement.proofs.moves.Execute.{execute_ready, next-execute}
-use Rattle.cf_refinement.proofs.moves.Exit.{exit_ready, next-exit}
-use Rattle.cf_refinement.proofs.moves.Fall.{fall_ready, next-fall, no_fall}
-use Rattle.cf_refinement.proofs.column.Flown.{operations-last}
-use Rattle.cf_refinement.proofs.moves.Climb.{climb_ready, next-climb}
-use Rattle.cf_refinement.proofs.moves.Meet.{meet_ready, next-meet}
+use Rattle.cf_refinement.proofs.moves.Emit.{emit_ready, next_emit}
+use Rattle.cf_refinement.proofs.moves.Execute.{execute_ready, next_execute}
+use Rattle.cf_refinement.proofs.moves.Exit.{exit_ready, next_exit}
+use Rattle.cf_refinement.proofs.moves.Fall.{fall_ready, next_fall, no_fall}
+use Rattle.cf_refinement.proofs.column.Flown.{operations_last}
+use Rattle.cf_refinement.proofs.moves.Climb.{climb_ready, next_climb}
+use Rattle.cf_refinement.proofs.moves.Meet.{meet_ready, next_meet}
 use Rattle.cf_refinement.proofs.moves.Rows.{bar_row}
 use Rattle.cf_refinement.proofs.walks.Launching.{flies_out, sent_out}
-use Rattle.cf_refinement.proofs.moves.Launch.{Launches, first_free, launch_ready, launched_out, launched_trap, next-launch}
-use Rattle.cf_refinement.proofs.moves.Leave.{Leaves, leave_ready, left_dead, left_on, left_over, next-leave}
-use Rattle.cf_refinement.proofs.moves.Recovering.{next-recover, recover_ready}
+use Rattle.cf_refinement.proofs.moves.Launch.{Launches, first_free, launch_ready, launched_out, launched_trap, next_launch}
+use Rattle.cf_refinement.proofs.moves.Leave.{Leaves, leave_ready, left_dead, left_on, left_over, next_leave}
+use Rattle.cf_refinement.proofs.moves.Recovering.{next_recover, recover_ready}
 use Rattle.cf_refinement.proofs.moves.Recover.{in_dead, in_live}
-use Rattle.cf_refinement.proofs.moves.Send.{next-send, send_ready}
-use Rattle.cf_refinement.proofs.moves.Serve.{Serves, next-serve, serve_ready}
+use Rattle.cf_refinement.proofs.moves.Send.{next_send, send_ready}
+use Rattle.cf_refinement.proofs.moves.Serve.{Serves, next_serve, serve_ready}
 use Rattle.cf_refinement.proofs.column.Sidings.{berthed, set_last_size, some_cells}
-use Rattle.cf_refinement.proofs.moves.Slide.{next-slide, slide_ready, slide_size}
+use Rattle.cf_refinement.proofs.moves.Slide.{next_slide, slide_ready, slide_size}
 use Rattle.cf_confluence.proofs.weight.Weighs.{cell_weighs, last_weighs, pair_weighs, siding_weighs, slide_weight}
 use Rattle.cf_refinement.proofs.invariant.Invariant.{Sound}
 use Rattle.cf_refinement.proofs.invariant.Suited.{Suits}
@@ -100,13 +100,13 @@ unfolding cell_weight
 emit_cell n d c k l e = grind arith
 
 -- a sum of which one part falls
-less3 : (a b c x : ℕ) → x < a → (x + b) + c < (a + b) + c
-less3 a b c x h = omega arith
+less_within : (a b c x : ℕ) → x < a → (x + b) + c < (a + b) + c
+less_within a b c x h = omega arith
 
 -- the cells fall and all else stays
 cells_fall : (l : Plan) (s : State) (cells : List Cell) → cells_weight l.stages (most_cells l.sidings) 1 cells < cells_weight l.stages (most_cells l.sidings) 1 s.cells → weight l (record s { cells = cells }) < weight l s
 unfolding weight
-cells_fall l s cells h = less3 (cells_weight l.stages (most_cells l.sidings) 1 s.cells) (sidings_weight s.sidings) ((2 * l.stages + 1) * length s.lane) (cells_weight l.stages (most_cells l.sidings) 1 cells) h
+cells_fall l s cells h = less_within (cells_weight l.stages (most_cells l.sidings) 1 s.cells) (sidings_weight s.sidings) ((2 * l.stages + 1) * length s.lane) (cells_weight l.stages (most_cells l.sidings) 1 cells) h
 
 put_falls : (l : Plan) (s : State) (i : ℕ) (c e : Cell) → cell_at s.cells i ≡ Some c → cell_weight l.stages (most_cells l.sidings) i e < cell_weight l.stages (most_cells l.sidings) i c → cells_weight l.stages (most_cells l.sidings) 1 (put_cell s.cells i e) < cells_weight l.stages (most_cells l.sidings) 1 s.cells
 put_falls l s i c e f h =
@@ -123,14 +123,14 @@ climb_falls l s i z e =
     let r = climb_ready l s i (bar_row l s (Climb i) e) in
     let w = pair_weighs l.stages (most_cells l.sidings) s.cells i r.low r.high r.at_low r.at_high in
     let c = climb_cells l.stages (most_cells l.sidings) i r.low r.high r.who (omega (arith, w.high)) r.sits r.empty r.clear in
-    rw (next-climb l s i r.low r.high r.at_low r.at_high, add-one) (cells_fall l s _ (omega (arith, w.now, w.up (without_passenger r.low) (record r.high { passenger = r.low.passenger; met = false }), c)))
+    rw (next_climb l s i r.low r.high r.at_low r.at_high, add-one) (cells_fall l s _ (omega (arith, w.now, w.up (without_passenger r.low) (record r.high { passenger = r.low.passenger; met = false }), c)))
 
 fall_up : (l : Plan) (s : State) (i : ℕ) → bar l s (Fall (suc i)) ≡ None → weight l (moved l s (Fall (suc i))) < weight l s
 fall_up l s i e =
     let r = fall_ready l s i (bar_row l s (Fall (suc i)) e) in
     let w = pair_weighs l.stages (most_cells l.sidings) s.cells i r.low r.high r.at_low r.at_high in
     let c = fall_cells l.stages (most_cells l.sidings) i r.low r.high r.what w.low r.empty r.lies r.clear in
-    rw (next-fall l s i r.high r.low r.at_high r.at_low, sub-one) (cells_fall l s _ (omega (arith, w.now, w.down (record r.low { packet = r.high.packet; met = false }) (without_packet r.high), c)))
+    rw (next_fall l s i r.high r.low r.at_high r.at_low, sub-one) (cells_fall l s _ (omega (arith, w.now, w.down (record r.low { packet = r.high.packet; met = false }) (without_packet r.high), c)))
 
 pub fall_falls : (l : Plan) (s : State) (i : ℕ) → bar l s (Fall i) ≡ None → weight l (moved l s (Fall i)) < weight l s
 fall_falls l s zero e = absurd (no_fall l s (bar_row l s (Fall zero) e))
@@ -140,25 +140,25 @@ pub send_falls : (l : Plan) (s : State) (i : ℕ) → length s.cells ≡ l.stage
 send_falls l s i z e =
     let r = send_ready l s i (bar_row l s (Send i) e) in
     let w = cell_weighs l.stages (most_cells l.sidings) s.cells i r.here r.at_here in
-    rw (next-send l s i r.here r.who r.what r.at_here r.sits r.owes) (cells_fall l s _ (put_falls l s i r.here _ r.at_here (send_cell l.stages (most_cells l.sidings) i r.here r.who r.what w.low (omega (arith, w.high)) r.sits r.owes r.free)))
+    rw (next_send l s i r.here r.who r.what r.at_here r.sits r.owes) (cells_fall l s _ (put_falls l s i r.here _ r.at_here (send_cell l.stages (most_cells l.sidings) i r.here r.who r.what w.low (omega (arith, w.high)) r.sits r.owes r.free)))
 
 pub meet_falls : (l : Plan) (s : State) (i : ℕ) → bar l s (Meet i) ≡ None → weight l (moved l s (Meet i)) < weight l s
 meet_falls l s i e =
     let r = meet_ready l s i (bar_row l s (Meet i) e) in
     let w = cell_weighs l.stages (most_cells l.sidings) s.cells i r.here r.at_here in
-    rw (next-meet l s i r.here r.who r.what r.at_here r.sits r.lies) (cells_fall l s _ (put_falls l s i r.here _ r.at_here (meet_cell l.stages (most_cells l.sidings) i r.here r.who r.what w.low r.sits r.lies r.apart)))
+    rw (next_meet l s i r.here r.who r.what r.at_here r.sits r.lies) (cells_fall l s _ (put_falls l s i r.here _ r.at_here (meet_cell l.stages (most_cells l.sidings) i r.here r.who r.what w.low r.sits r.lies r.apart)))
 
 pub execute_falls : (l : Plan) (s : State) (i : ℕ) → ((p : Passenger) (c : Cell) → cell_at s.cells i ≡ Some c → c.passenger ≡ Some p → unit_at l (kind p) i ≡ true → p.dead ≡ false → p.done ≡ false → p.launched ≡ false) → bar l s (Execute i) ≡ None → weight l (moved l s (Execute i)) < weight l s
 execute_falls l s i a e =
     let r = execute_ready l s i (bar_row l s (Execute i) e) in
-    rw (next-execute l s i r.here r.who r.at_here r.sits) (cells_fall l s _ (put_falls l s i r.here _ r.at_here (finish_cell l.stages (most_cells l.sidings) i r.here r.who r.sits r.live r.undone (a r.who r.here r.at_here r.sits r.unit r.live r.undone))))
+    rw (next_execute l s i r.here r.who r.at_here r.sits) (cells_fall l s _ (put_falls l s i r.here _ r.at_here (finish_cell l.stages (most_cells l.sidings) i r.here r.who r.sits r.live r.undone (a r.who r.here r.at_here r.sits r.unit r.live r.undone))))
 
 pub leave_falls : (l : Plan) (s : State) → bar l s Leave ≡ None → weight l (moved l s Leave) < weight l s
 unfolding weight
 leave_falls l s e = go (leave_ready l s (bar_row l s Leave e))
   where
     go : Leaves l s → weight l (moved l s Leave) < weight l s
-    go r = rw (next-leave l s r.here r.who r.at_here r.sits) (by r.who.dead r.who.ending refl refl)
+    go r = rw (next_leave l s r.here r.who r.at_here r.sits) (by r.who.dead r.who.ending refl refl)
       where
         cells : cells_weight l.stages (most_cells l.sidings) 1 (put_cell s.cells l.stages (without_passenger r.here)) < cells_weight l.stages (most_cells l.sidings) 1 s.cells
         cells = put_falls l s l.stages r.here _ r.at_here (leave_cell l.stages (most_cells l.sidings) l.stages r.here r.who r.sits r.clear)
@@ -186,8 +186,8 @@ serve_falls l m u e = go (serve_ready l m.state (bar_row l m.state Serve e))
         cells q f g = put_falls l s l.stages r.here _ r.at_here (served_cells l.stages (most_cells l.sidings) l.stages r.here r.who q r.sits r.live r.undone (u r) f g)
 
         by : (a : Called) → serve_of (instruction r.who) s.regs s.mem m.rest ≡ a → weight l (next l m Serve).state < weight l m.state
-        by (called.Value a) f = rw (next-serve l m r.here r.who (called.Value a) r.at_here r.sits f) (cells_fall l s _ (cells _ r.live refl))
-        by (called.Exit z) f = rw (next-serve l m r.here r.who (called.Exit z) r.at_here r.sits f) (cells_fall l s _ (cells _ r.live refl))
+        by (called.Value a) f = rw (next_serve l m r.here r.who (called.Value a) r.at_here r.sits f) (cells_fall l s _ (cells _ r.live refl))
+        by (called.Exit z) f = rw (next_serve l m r.here r.who (called.Exit z) r.at_here r.sits f) (cells_fall l s _ (cells _ r.live refl))
 
 pub exit_falls : (l : Plan) (s : State) → bar l s Exit ≡ None → weight l (moved l s Exit) < weight l s
 unfolding weight
@@ -195,10 +195,10 @@ exit_falls l s e =
     let r = exit_ready l s (bar_row l s Exit e) in
     let h = exit_cell l.stages (most_cells l.sidings) r.here r.what r.lies in
     let f : cells_weight l.stages (most_cells l.sidings) 1 (without_packet r.here ∷ r.others) < cells_weight l.stages (most_cells l.sidings) 1 s.cells = subst (λ (q : List Cell). cells_weight l.stages (most_cells l.sidings) 1 (without_packet r.here ∷ r.others) < cells_weight l.stages (most_cells l.sidings) 1 q) (sym r.cells) (omega (arith, h)) in
-    rw (next-exit l s r.here r.others r.what r.cells r.lies) (cells_fall l s (without_packet r.here ∷ r.others) f)
+    rw (next_exit l s r.here r.others r.what r.cells r.lies) (cells_fall l s (without_packet r.here ∷ r.others) f)
 
-less4 : (a x b k n : ℕ) → x < a + k → (x + b) + k * n < (a + b) + k * suc n
-less4 a x b k n h = let e : k * suc n ≡ k * n + k = grind arith in omega (arith, e)
+less_with_one : (a x b k n : ℕ) → x < a + k → (x + b) + k * n < (a + b) + k * suc n
+less_with_one a x b k n h = let e : k * suc n ≡ k * n + k = grind arith in omega (arith, e)
 
 pub emit_falls : (l : Plan) (s : State) → length s.cells ≡ l.stages → bar l s Emit ≡ None → weight l (moved l s Emit) < weight l s
 unfolding weight
@@ -209,8 +209,8 @@ emit_falls l s z e =
     let w = cell_weighs l.stages (most_cells l.sidings) s.cells l.stages r.here r.at_here in
     let c = emit_cell l.stages (most_cells l.sidings) r.here k w.low r.free in
     let h : cells_weight l.stages (most_cells l.sidings) 1 (put_cell s.cells l.stages d) < cells_weight l.stages (most_cells l.sidings) 1 s.cells + (2 * l.stages + 1) = omega (arith, w.now, w.put d, c) in
-    let all = less4 (cells_weight l.stages (most_cells l.sidings) 1 s.cells) (cells_weight l.stages (most_cells l.sidings) 1 (put_cell s.cells l.stages d)) (sidings_weight s.sidings) (2 * l.stages + 1) (length r.others) h in
-    rw (next-emit l s r.here r.asked r.others r.at_here r.lane) (subst (λ (q : List ℕ). (cells_weight l.stages (most_cells l.sidings) 1 (put_cell s.cells l.stages d) + sidings_weight s.sidings) + (2 * l.stages + 1) * length r.others < (cells_weight l.stages (most_cells l.sidings) 1 s.cells + sidings_weight s.sidings) + (2 * l.stages + 1) * length q) (sym r.lane) all)
+    let all = less_with_one (cells_weight l.stages (most_cells l.sidings) 1 s.cells) (cells_weight l.stages (most_cells l.sidings) 1 (put_cell s.cells l.stages d)) (sidings_weight s.sidings) (2 * l.stages + 1) (length r.others) h in
+    rw (next_emit l s r.here r.asked r.others r.at_here r.lane) (subst (λ (q : List ℕ). (cells_weight l.stages (most_cells l.sidings) 1 (put_cell s.cells l.stages d) + sidings_weight s.sidings) + (2 * l.stages + 1) * length r.others < (cells_weight l.stages (most_cells l.sidings) 1 s.cells + sidings_weight s.sidings) + (2 * l.stages + 1) * length q) (sym r.lane) all)
 
 -- with a siding changed as well
 both_fall : (l : Plan) (s : State) (cells : List Cell) (k n : ℕ) (q : List (Option Op)) → length (siding_at s k) ≡ suc n → length q ≡ length (siding_at s k) → cells_weight l.stages (most_cells l.sidings) 1 cells + siding_weight (length (siding_at s k)) 0 q < cells_weight l.stages (most_cells l.sidings) 1 s.cells + siding_weight (length (siding_at s k)) 0 (siding_at s k) → weight l (with_siding (record s { cells = cells }) k q) < weight l s
@@ -246,7 +246,7 @@ pub launch_falls : {rest out : List ℕ} (l : Plan) (s : State) (x : Machine) (i
 launch_falls {rest} {out} l s x i acc e h = go (launch_ready l s i (bar_row l s (Launch i) e))
   where
     go : Launches l s i → weight l (moved l s (Launch i)) < weight l s
-    go r = rw (next-launch l s i r.here r.who r.at_here r.sits) (by (launch_trap s r.who) refl)
+    go r = rw (next_launch l s i r.here r.who r.at_here r.sits) (by (launch_trap s r.who) refl)
       where
         by : (o : Option End) → launch_trap s r.who ≡ o → weight l (launched l s i r.here r.who) < weight l s
         by (Some b) f = rw (launched_trap l s i r.here r.who b f) (cells_fall l s _ (put_falls l s i r.here _ r.at_here (trap_cell l.stages (most_cells l.sidings) i r.here r.who b r.sits r.live r.undone r.aboard)))
@@ -269,7 +269,7 @@ slide_falls l s k c e =
     let r = slide_ready l s k c (bar_row l s (Slide k c) e) in
     let n = some_cells (siding_at s k) c (Some r.what) r.here in
     let w = slide_weight (length (siding_at s k)) 0 (siding_at s k) c r.what (omega arith) r.here r.there in
-    rw (next-slide l s k c r.what r.here) (both_fall l s s.cells k n.0 (slice_set (slice_set (siding_at s k) c None) (suc c) (Some r.what)) n.1 (slide_size (siding_at s k) c r.what) (omega (arith, w)))
+    rw (next_slide l s k c r.what r.here) (both_fall l s s.cells k n.0 (slice_set (slice_set (siding_at s k) c None) (suc c) (Some r.what)) n.1 (slide_size (siding_at s k) c r.what) (omega (arith, w)))
 
 answer_weight : (n c : ℕ) (op : Op) (a : ℕ) → is_memory (kind_of op.instr) ≡ true → op.answer ≡ None → op_weight n c (Some (record op { answer = Some a })) < op_weight n c (Some op)
 unfolding op_weight
@@ -285,7 +285,7 @@ access_falls {rest} {out} l s x acc e h =
     let k = (port l) in
     let q = siding_at s k in
     let n = berthed l acc s (column s) k h.moored Memory acc.memory in
-    let f = first_out l k (column s) (record r.what { answer = None }) (operations_in (set_last q None)) (sym (h.moored.operations k) ∙ operations-last q r.what r.lies) in
+    let f = first_out l k (column s) (record r.what { answer = None }) (operations_in (set_last q None)) (sym (h.moored.operations k) ∙ operations_last q r.what r.lies) in
     let flies = flies_out l acc f.who f.out in
     let m : is_memory (kind f.who) ≡ true = grind arith in
     let class : is_memory (kind_of r.what.instr) ≡ true = ap (λ (o : Op). is_memory (kind_of o.instr)) (sym f.op) ∙ memory_word f.who m in
@@ -293,7 +293,7 @@ access_falls {rest} {out} l s x acc e h =
     let w = last_weighs (length q) 0 n.0 q n.1 in
     let lies : op_weight (length q) (0 + n.0) (last_op q) ≡ op_weight (length q) (0 + n.0) (Some r.what) = ap (op_weight (length q) (0 + n.0)) r.lies in
     let less = answer_weight (length q) (0 + n.0) r.what a class r.unanswered in
-    rw (next-access l s r.what r.lies) (both_fall l s s.cells k n.0 (set_last q (Some (record r.what { answer = Some a }))) n.1 (set_last_size q (Some (record r.what { answer = Some a }))) (omega (arith, w.now, w.put (Some (record r.what { answer = Some a })), lies, less)))
+    rw (next_access l s r.what r.lies) (both_fall l s s.cells k n.0 (set_last q (Some (record r.what { answer = Some a }))) n.1 (set_last_size q (Some (record r.what { answer = Some a }))) (omega (arith, w.now, w.put (Some (record r.what { answer = Some a })), lies, less)))
 
 gone_weight : (n c : ℕ) (op : Op) → c < n → op_weight n c None < op_weight n c (Some op)
 unfolding op_weight
@@ -309,7 +309,7 @@ recover_falls {rest} {out} l s x i acc e h u =
     let lies : op_weight (length q) (0 + n.0) (last_op q) ≡ op_weight (length q) (0 + n.0) (Some r.what) = ap (op_weight (length q) (0 + n.0)) r.lies in
     let less = gone_weight (length q) (0 + n.0) r.what (omega (arith, n.1)) in
     let cells = at_most r.who r.here r.what.answer r.at_here r.sits (λ d. u r.who d r.out r.never r.here r.at_here r.sits) r.who.dead refl in
-    rw (next-recover l s i r.here r.who k r.what r.at_here r.sits r.siding r.lies) (both_fall l s (put_cell s.cells i (with_passenger r.here (back_in r.who r.what.answer))) k n.0 (set_last q None) n.1 (set_last_size q None) (omega (arith, w.now, w.put None, lies, less, cells)))
+    rw (next_recover l s i r.here r.who k r.what r.at_here r.sits r.siding r.lies) (both_fall l s (put_cell s.cells i (with_passenger r.here (back_in r.who r.what.answer))) k n.0 (set_last q None) n.1 (set_last_size q None) (omega (arith, w.now, w.put None, lies, less, cells)))
   where
     at_most : (p : Passenger) (c : Cell) (a : Option ℕ) → cell_at s.cells i ≡ Some c → c.passenger ≡ Some p → (p.dead ≡ false → p.done ≡ false) → (d : Bool) → p.dead ≡ d → cells_weight l.stages (most_cells l.sidings) 1 (put_cell s.cells i (with_passenger c (back_in p a))) ≤ cells_weight l.stages (most_cells l.sidings) 1 s.cells
     at_most p c a f g v true d = rw (in_dead p a d) (put_most l s i c _ f (same_cell l.stages (most_cells l.sidings) i c p g d))

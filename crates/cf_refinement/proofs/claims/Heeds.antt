@@ -14,7 +14,7 @@ use Rattle.cf_refinement.proofs.column.Fold.{fit_front}
 use Rattle.cf_refinement.proofs.walks.Goes.{quiet_on}
 use Rattle.cf_refinement.proofs.moves.Rows.{bar_row}
 use Rattle.cf_refinement.proofs.claims.Lines.{gained_is}
-use Rattle.cf_refinement.proofs.moves.Leave.{Leaves, leave_ready, left_dead, next-leave}
+use Rattle.cf_refinement.proofs.moves.Leave.{Leaves, leave_ready, left_dead, next_leave}
 use Rattle.cf_refinement.proofs.claims.Runs.{going, holds_after}
 use Rattle.cf_refinement.proofs.moves.Serve.{serve_ready}
 use Rattle.cf_refinement.proofs.column.Sorted.{Riders, Sorted, over, sorted}
@@ -200,7 +200,7 @@ leave_acts {rest} {out} l s x e h = go (leave_ready l s (bar_row l s Leave e))
         by r.who.dead refl under was f.0
       where
         by : (d : Bool) → r.who.dead ≡ d → (under : List Item) → column s ≡ Up l.stages r.who ∷ under → sure.Fits (isa_of l) (Up l.stages r.who) (trail.top s x) → Untouched s (moved l s Leave) ⊎ Acted l s x Leave
-        by true d under was f = inl (rw (next-leave l s r.here r.who r.at_here r.sits, left_dead s l.stages r.here r.who d) (dead_unmoved s l.stages r.here))
+        by true d under was f = inl (rw (next_leave l s r.here r.who r.at_here r.sits, left_dead s l.stages r.here r.who d) (dead_unmoved s l.stages r.here))
         by false d under was f = inr (record { above = []; below = under; stage = l.stages; who = r.who; was = was; acts = refl; way = top_way (isa_of l) s x l.stages r.who d f })
 
 serve_acts : {rest out : List ℕ} (l : Plan) (s : State) (x : Machine) → bar l s Serve ≡ None → Sound l s rest out x → Acted l s x Serve

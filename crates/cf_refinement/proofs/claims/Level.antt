@@ -16,7 +16,7 @@ use Rattle.cf_semantics.specs.Options.{is_some, on}
 use Rattle.cf_semantics.specs.State.{Moment, State, cell_at, put_cell}
 use Rattle.cf_semantics.specs.Walks.{walk}
 use Rattle.cf_refinement.proofs.moves.Rows.{bar_row}
-use Rattle.cf_refinement.proofs.moves.Leave.{Leaves, leave_ready, left_cells, next-leave}
+use Rattle.cf_refinement.proofs.moves.Leave.{Leaves, leave_ready, left_cells, next_leave}
 use Rattle.cf_refinement.proofs.claims.Runs as runs
 use Rattle.std.proofs.lemmas.Bool.{or_parts}
 
@@ -77,7 +77,7 @@ left_unserved cells (suc k) c = go cells k
 leave_unserved : (plan : Plan) (s : State) → bar plan s Leave ≡ None → served_count plan (moved plan s Leave) ≡ 0
 leave_unserved plan s free =
     let r : Leaves plan s = leave_ready plan s (bar_row plan s Leave free) in
-    rw (next-leave plan s r.here r.who r.at_here r.sits, left_cells s plan.stages r.here r.who) (left_unserved s.cells plan.stages r.here)
+    rw (next_leave plan s r.here r.who r.at_here r.sits, left_cells s plan.stages r.here r.who) (left_unserved s.cells plan.stages r.here)
 
 -- where an instruction has just retired no call was served, so that the output is level: as where a run stops at its limit
 pub retired_unserved : (plan : Plan) (m : Moment) (mv : Move) → bar plan m.state mv ≡ None → m.state.retired < (next plan m mv).state.retired → served_count plan (next plan m mv).state ≡ 0

@@ -9,7 +9,7 @@ use Rattle.cf_layout.specs.Layout.{Plan}
 use Rattle.cf_refinement.proofs.claims.Ahead.{docked_of, sure_pc}
 use Rattle.cf_refinement.proofs.column.Change.{here}
 use Rattle.cf_refinement.proofs.column.Column.{top_cell}
-use Rattle.cf_refinement.proofs.column.Fold.{walk-append}
+use Rattle.cf_refinement.proofs.column.Fold.{walk_append}
 use Rattle.cf_refinement.proofs.walks.Goes.{done_goes}
 use Rattle.cf_refinement.proofs.walks.Port.{open_of, served_calm}
 use Rattle.cf_refinement.proofs.moves.Serve.{Idle}
@@ -154,7 +154,7 @@ heard {rest} {out} l s x h = go l.stages refl h.size
         let w = walk (dock.past (isa_of l)) q.above (dock.top l s x) in
         let v = rider_mute (isa_of l) l.stages p w g in
         let d = mute l q.below (dock.past (isa_of l) (Up l.stages p) w) q.under (each_back l (Up l.stages p ∷ []) q.below (each_back l q.above ((Up l.stages p ∷ []) ++ q.below) each)) in
-        let ends = subst (λ (z : dock.Dock). dock.Ends z s.mem rest out) (ap (λ (z : List Item). walk (dock.past (isa_of l)) z (dock.top l s x)) q.was ∙ walk-append (dock.past (isa_of l)) q.above ((Up l.stages p ∷ []) ++ q.below) (dock.top l s x)) h.port_ends in
+        let ends = subst (λ (z : dock.Dock). dock.Ends z s.mem rest out) (ap (λ (z : List Item). walk (dock.past (isa_of l)) z (dock.top l s x)) q.was ∙ walk_append (dock.past (isa_of l)) q.above ((Up l.stages p ∷ []) ++ q.below) (dock.top l s x)) h.port_ends in
         inl (record { count = z; is_rest = ends.is_rest ∙ d.rest ∙ v.rest ∙ u.rest; is_out = ends.is_out ∙ d.out ∙ v.out ∙ u.out })
     rides c p e f true g =
         let q = spot s l.stages c p e f in
@@ -174,7 +174,7 @@ heard {rest} {out} l s x h = go l.stages refl h.size
         let st = subst (λ (z : Machine). step_at (isa_of l) z p.pc ≡ Goes (behind (step_at (isa_of l) z p.pc) z)) mach (done_goes (isa_of l) p w.path g certain) in
         let v = served_past (isa_of l) l.stages p w g in
         let d = mute l q.below (dock.past (isa_of l) (Up l.stages p) w) q.under (each_back l (Up l.stages p ∷ []) q.below (each_back l q.above ((Up l.stages p ∷ []) ++ q.below) each)) in
-        let ends = subst (λ (z : dock.Dock). dock.Ends z s.mem rest out) (ap (λ (z : List Item). walk (dock.past (isa_of l)) z (dock.top l s x)) q.was ∙ walk-append (dock.past (isa_of l)) q.above ((Up l.stages p ∷ []) ++ q.below) (dock.top l s x)) h.port_ends in
+        let ends = subst (λ (z : dock.Dock). dock.Ends z s.mem rest out) (ap (λ (z : List Item). walk (dock.past (isa_of l)) z (dock.top l s x)) q.was ∙ walk_append (dock.past (isa_of l)) q.above ((Up l.stages p ∷ []) ++ q.below) (dock.top l s x)) h.port_ends in
         inr (record {
           above = q.above;
           below = q.below;

@@ -16,7 +16,7 @@ use Rattle.cf_semantics.specs.Walks.{Everywhere, walk}
 use Rattle.cf_refinement.proofs.invariant.Invariant.{Sound}
 use Rattle.cf_refinement.proofs.invariant.Lone as lone
 use Rattle.cf_refinement.proofs.layouts.Accepted.{launch_is}
-use Rattle.cf_refinement.proofs.column.Fold.{fit_back, walk-append}
+use Rattle.cf_refinement.proofs.column.Fold.{fit_back, walk_append}
 use Rattle.cf_refinement.proofs.walks.Lone.{no_rider, shut_past}
 
 -- below what nothing may follow
@@ -43,7 +43,7 @@ alone plan s x above i below e shut h =
     let b = walk (lone.past plan) above false in
     let fit = fit_back _ lone.Fits (lone.past plan) above (i ∷ below) false (rw e at h.lone_fit) in
     let all : walk (lone.past plan) (column s) false ≡ true =
-    ap (λ (z : List Item). walk (lone.past plan) z false) e ∙ walk-append (lone.past plan) above (i ∷ below) false ∙ ap (walk (lone.past plan) below) (shut b) ∙ shut_walk plan below in
+    ap (λ (z : List Item). walk (lone.past plan) z false) e ∙ walk_append (lone.past plan) above (i ∷ below) false ∙ ap (walk (lone.past plan) below) (shut b) ∙ shut_walk plan below in
     (harmless plan below (subst (λ (z : Bool). Everywhere lone.Fits (lone.past plan) below z) (shut b) fit.1), h.lone_ends all)
 
 -- (h) no follower

@@ -35,7 +35,7 @@ pub certain : (isa : Isa) (i : ℕ) (p : Passenger) (w : Walk) → sure.Fits isa
 unfolding sure.Fits
 certain isa i p w h = h.1
 
-fitting : (isa : Isa) (i : ℕ) (k : Packet) (w : Walk) → sure.Fits isa (Down i k) w → When (not w.barred) (sure.Packet_fits k w)
+fitting : (isa : Isa) (i : ℕ) (k : Packet) (w : Walk) → sure.Fits isa (Down i k) w → When (not w.barred) (sure.PacketFits k w)
 unfolding sure.Fits
 fitting isa i k w h = h
 
@@ -44,7 +44,7 @@ has_values : (isa : Isa) (p : Passenger) (w : Walk) → sure.SureAt isa p w → 
 unfolding sure.SureAt
 has_values isa p w h = h.0.values
 
-packet_value : (k : Packet) (w : Walk) → sure.Packet_fits k w → PacketHasValue k w
+packet_value : (k : Packet) (w : Walk) → sure.PacketFits k w → PacketHasValue k w
 packet_value (Value r v) w h = h
 packet_value (Turn pc) w h = tt
 packet_value Halt w h = tt
@@ -101,7 +101,7 @@ level : (isa : Isa) (xs : List Item) (w : Walk) → Everywhere (sure.Fits isa) (
 level isa [] w f h = h
 level isa (i ∷ xs) w f h = level isa xs (trail.past isa i w) f.1 (past_level isa i w f.0 h)
 
-first_packet : (k : Packet) (w : Walk) → (w.settled ≡ true → w.goto ≡ Some w.machine.hart.pc) → sure.Packet_fits k w → IsFirstBarrier k w.machine w.settled w.trapped
+first_packet : (k : Packet) (w : Walk) → (w.settled ≡ true → w.goto ≡ Some w.machine.hart.pc) → sure.PacketFits k w → IsFirstBarrier k w.machine w.settled w.trapped
 first_packet (Value r v) w g h = tt
 first_packet (Turn pc) w g h = (same pc w.machine.hart.pc (sym h.0 ∙ g h.1), h.1)
   where
@@ -143,7 +143,7 @@ first_barrier plan s x h = record {
       under (is_sure p.who w) (first_owed (isa_of plan) p.who w k e) (certain (isa_of plan) p.stage p.who w q.path_fit.0);
 }
   where
-    lying : (b : Bool) (k : Packet) (w : Walk) → w.barred ≡ b → Level w → When (not b) (sure.Packet_fits k w) → When (not b) (IsFirstBarrier k w.machine w.settled w.trapped)
+    lying : (b : Bool) (k : Packet) (w : Walk) → w.barred ≡ b → Level w → When (not b) (sure.PacketFits k w) → When (not b) (IsFirstBarrier k w.machine w.settled w.trapped)
     lying true k w e l h = tt
     lying false k w e l h = first_packet k w (l e) h
 

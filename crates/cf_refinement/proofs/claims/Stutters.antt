@@ -27,7 +27,7 @@ use Rattle.cf_refinement.proofs.invariant.Suited.{Suits}
 use Rattle.cf_refinement.proofs.invariant.Port as dock
 use Rattle.cf_refinement.proofs.invariant.Sure as sure
 use Rattle.cf_refinement.proofs.walks.Answering.{walk_risky}
-use Rattle.cf_refinement.proofs.moves.Access.{access_scene, next-access}
+use Rattle.cf_refinement.proofs.moves.Access.{access_scene, next_access}
 use Rattle.cf_refinement.proofs.claims.Ahead.{OnPath, dead_on, live_on, result_past, sure_pc}
 use Rattle.cf_refinement.proofs.column.Change.{past_safe}
 use Rattle.cf_refinement.proofs.column.Fold.{fit_front}
@@ -38,7 +38,7 @@ use Rattle.cf_refinement.proofs.claims.Lines.{gained_is}
 use Rattle.cf_refinement.proofs.walks.Order.{past_path}
 use Rattle.cf_refinement.proofs.walks.PathServe.{after_call}
 use Rattle.cf_refinement.proofs.claims.Runs.{Counts, access_counts, climb_counts, emit_counts, execute_counts, exit_counts, fall_counts, going, issue_counts, launch_counts, meet_counts, recover_counts, send_counts, serve_counts, slide_counts}
-use Rattle.cf_refinement.proofs.moves.Serve.{Serves, next-serve, scene, serve_ready, sure_step}
+use Rattle.cf_refinement.proofs.moves.Serve.{Serves, next_serve, scene, serve_ready, sure_step}
 use Rattle.cf_refinement.proofs.column.Sorted.{Sorted, over, sorted}
 use Rattle.cf_refinement.proofs.walks.Stands.{each_front}
 
@@ -96,7 +96,7 @@ serve_steps l m x e h =
     let c = scene l m.state x r h in
     let a = serve_of (instruction r.who) m.state.regs m.state.mem m.rest in
     let f : serve_of (instruction r.who) x.hart.regs x.hart.mem x.rest ≡ a = rw (← h.regs, ← c.mem, ← c.input) refl in
-    by r a (next-serve l m r.here r.who a r.at_here r.sits refl) f c.certain c.mem c.input c.output
+    by r a (next_serve l m r.here r.who a r.at_here r.sits refl) f c.certain c.mem c.input c.output
   where
     by : (r : Serves l m.state) (a : Called) → next l m Serve ≡ served m l.stages r.here r.who a → serve_of (instruction r.who) x.hart.regs x.hart.mem x.rest ≡ a
         → sure.SureAt (isa_of l) r.who (trail.top m.state x) → m.state.mem ≡ x.hart.mem → m.rest ≡ x.rest → m.output ≡ x.output → Served l m x
@@ -189,7 +189,7 @@ access_steps {rest} {out} l start s x acc count e h =
       behind = y;
       step = ap (step_at (isa_of l) u.path.machine) (sym (sure_pc (isa_of l) p u.path u.path.machine.hart.pc on.goto z.certain)) ∙ z.goes;
       before = z.before;
-      mem = ap (λ (t : State). t.mem) (next-access l s z.ready.what z.ready.lies) ∙ z.stored;
+      mem = ap (λ (t : State). t.mem) (next_access l s z.ready.what z.ready.lies) ∙ z.stored;
     }
 
 stored_steps : (l : Plan) (start : Machine) (m : Moment) (x : Machine) (mv : Move) → Suits l → after (isa_of l) start (gained start m.state) ≡ Some x → bar l m.state mv ≡ None → Sound l m.state m.rest m.output x → StepsStored (isa_of l) start m mv (next l m mv)

@@ -51,14 +51,14 @@ pub walk_safe : (isa : Isa) (xs : List Item) (w : dock.Dock) → (w.path.barred 
 walk_safe isa [] w s e = s e
 walk_safe isa (i ∷ xs) w s e = walk_safe isa xs (dock.past isa i w) (past_safe isa i w s) e
 
-pub flown-append : (l : Plan) (k : ℕ) (xs ys : List Item) → operations_of l k (xs ++ ys) ≡ operations_of l k xs ++ operations_of l k ys
-flown-append l k [] ys = refl
-flown-append l k (Up i p ∷ xs) ys = go (in_siding l k p) (flown-append l k xs ys)
+pub flown_append : (l : Plan) (k : ℕ) (xs ys : List Item) → operations_of l k (xs ++ ys) ≡ operations_of l k xs ++ operations_of l k ys
+flown_append l k [] ys = refl
+flown_append l k (Up i p ∷ xs) ys = go (in_siding l k p) (flown_append l k xs ys)
   where
     go : (b : Bool) → operations_of l k (xs ++ ys) ≡ operations_of l k xs ++ operations_of l k ys → (if b then operation p ∷ operations_of l k (xs ++ ys) else operations_of l k (xs ++ ys)) ≡ (if b then operation p ∷ operations_of l k xs else operations_of l k xs) ++ operations_of l k ys
     go true e = ap (λ q. operation p ∷ q) e
     go false e = e
-flown-append l k (Down i q ∷ xs) ys = flown-append l k xs ys
+flown_append l k (Down i q ∷ xs) ys = flown_append l k xs ys
 
 -- what is known at a place
 pub record Here (l : Plan) (s : State) (x : Machine) (above old : List Item) : Type 0 where
@@ -123,7 +123,7 @@ each_changed : (l : Plan) (above old new below : List Item) → Each l new → E
 each_changed l above old new below n h = each_append l above (new ++ below) (each_front l above (old ++ below) h) (each_append l new below n (each_back l old below (each_back l above (old ++ below) h)))
 
 pub flown_changed : (l : Plan) (k : ℕ) (above old new below : List Item) → operations_of l k old ≡ operations_of l k new → operations_of l k (above ++ (old ++ below)) ≡ operations_of l k (above ++ (new ++ below))
-flown_changed l k above old new below e = rw (flown-append l k above (new ++ below), flown-append l k new below, flown-append l k above (old ++ below), flown-append l k old below, e)
+flown_changed l k above old new below e = rw (flown_append l k above (new ++ below), flown_append l k new below, flown_append l k above (old ++ below), flown_append l k old below, e)
 
 -- a change in the middle of the column, with the port and the sidings by themselves
 pub reshaped : {rest out r o : List ℕ} (l : Plan) (s t : State) (x : Machine) (above old new below : List Item) → column s ≡ above ++ (old ++ below) → column t ≡ above ++ (new ++ below) → Same s t → Replaces trail.Walk (sure.Fits (isa_of l)) (trail.past (isa_of l)) paths.Follows old new (walk (trail.past (isa_of l)) above (trail.top s x)) → Replaces Bool lone.Fits (lone.past l) lones.Follows old new (walk (lone.past l) above false) → Each l new → Docks l t r o x → IsMoored l t (column t) → Sound l s rest out x → Sound l t r o x

@@ -52,21 +52,21 @@ pair (x ∷ cells) (suc (suc k)) c d e f =
     let p = pair cells (suc k) c d e f in
     record { below = x ∷ p.below; above = p.above; number = ap suc p.number; split = ap (λ (l : List Cell). x ∷ l) p.split; set = λ a b. ap (λ (l : List Cell). x ∷ l) (p.set a b); set_down = λ a b. ap (λ (l : List Cell). x ∷ l) (p.set_down a b) }
 
-column-append : (i : ℕ) (xs ys : List Cell) → column_from i (xs ++ ys) ≡ column_from (i + length xs) ys ++ column_from i xs
-column-append i [] ys = rw add-zero (sym (append-nil (column_from i ys)))
-column-append i (x ∷ xs) ys =
+column_append : (i : ℕ) (xs ys : List Cell) → column_from i (xs ++ ys) ≡ column_from (i + length xs) ys ++ column_from i xs
+column_append i [] ys = rw add-zero (sym (append-nil (column_from i ys)))
+column_append i (x ∷ xs) ys =
     let e : suc i + length xs ≡ i + suc (length xs) = omega arith in
-    rw (column-append (suc i) xs ys, e) (append_assoc (column_from (i + suc (length xs)) ys) (column_from (suc i) xs) (items i x))
+    rw (column_append (suc i) xs ys, e) (append_assoc (column_from (i + suc (length xs)) ys) (column_from (suc i) xs) (items i x))
 
-pub column-at : (i : ℕ) (below above : List Cell) (c : Cell) → i ≡ suc (length below) → column_from 1 (below ++ c ∷ above) ≡ column_from (suc i) above ++ (items i c ++ column_from 1 below)
-column-at i below above c n =
+pub column_at : (i : ℕ) (below above : List Cell) (c : Cell) → i ≡ suc (length below) → column_from 1 (below ++ c ∷ above) ≡ column_from (suc i) above ++ (items i c ++ column_from 1 below)
+column_at i below above c n =
     let e : 1 + length below ≡ i = omega arith in
-    rw (column-append 1 below (c ∷ above), e) (append_assoc (column_from (suc i) above) (items i c) (column_from 1 below))
+    rw (column_append 1 below (c ∷ above), e) (append_assoc (column_from (suc i) above) (items i c) (column_from 1 below))
 
-pub column-pair : (i : ℕ) (below above : List Cell) (c d : Cell) → i ≡ suc (length below) → column_from 1 (below ++ c ∷ d ∷ above) ≡ column_from (suc (suc i)) above ++ ((items (suc i) d ++ items i c) ++ column_from 1 below)
-column-pair i below above c d n =
+pub column_pair : (i : ℕ) (below above : List Cell) (c d : Cell) → i ≡ suc (length below) → column_from 1 (below ++ c ∷ d ∷ above) ≡ column_from (suc (suc i)) above ++ ((items (suc i) d ++ items i c) ++ column_from 1 below)
+column_pair i below above c d n =
     let e : 1 + length below ≡ i = omega arith in
-    rw (column-append 1 below (c ∷ d ∷ above), e, append_assoc (column_from (suc (suc i)) above) (items (suc i) d), append_assoc (column_from (suc (suc i)) above))
+    rw (column_append 1 below (c ∷ d ∷ above), e, append_assoc (column_from (suc (suc i)) above) (items (suc i) d), append_assoc (column_from (suc (suc i)) above))
 
 pub climb_was : (i j : ℕ) (c d : Cell) (p : Passenger) → c.passenger ≡ Some p → d.passenger ≡ None → is_full c ≡ false → items j d ++ items i c ≡ packet_in j d.packet ++ (Up i p ∷ packet_in i c.packet)
 climb_was i j c d p e f g = grind arith
@@ -84,7 +84,7 @@ pub top_cell : (cells : List Cell) (n : ℕ) (c : Cell) → length cells ≡ n �
 top_cell cells n c l e =
     let p = place cells n c e in
     let z : p.above ≡ [] = no_more p.below p.above c (ap length (sym p.split) ∙ l ∙ p.number) in
-    let at : (d : Cell) → column_from 1 (p.below ++ d ∷ p.above) ≡ items n d ++ column_from 1 p.below = λ d. rw z (column-at n p.below [] d p.number) in
+    let at : (d : Cell) → column_from 1 (p.below ++ d ∷ p.above) ≡ items n d ++ column_from 1 p.below = λ d. rw z (column_at n p.below [] d p.number) in
     record { below = p.below; number = p.number; was = ap (column_from 1) p.split ∙ at c; set = λ d. ap (column_from 1) (p.set d) ∙ at d }
 
 -- a rider that has met what is in its stage stands first

@@ -12,24 +12,24 @@ use Rattle.cf_semantics.specs.Passengers.{kind}
 use Rattle.cf_semantics.specs.Soundness.{as_launched, in_siding, operations_in, operations_of}
 
 -- Launch: an operation in the first cell comes after all others
-pub operations-launch : (l : List (Option Op)) (op : Op) → operations_in (Some op ∷ l) ≡ operations_in (None ∷ l) ++ as_launched (Some op)
-operations-launch l op = ap (λ (q : List Op). q ++ as_launched (Some op)) (sym (append-nil (operations_in l)))
+pub operations_launch : (l : List (Option Op)) (op : Op) → operations_in (Some op ∷ l) ≡ operations_in (None ∷ l) ++ as_launched (Some op)
+operations_launch l op = ap (λ (q : List Op). q ++ as_launched (Some op)) (sym (append-nil (operations_in l)))
 
 -- Slide
-pub operations-slide : (l : List (Option Op)) (c : ℕ) (op : Op) → slice_get l c ≡ Some (Some op) → slice_get l (suc c) ≡ Some None → operations_in (slice_set (slice_set l c None) (suc c) (Some op)) ≡ operations_in l
-operations-slide [] c op e f = absurd (cc)
-operations-slide (o ∷ []) zero op e f = absurd (cc)
-operations-slide (o ∷ p ∷ l) zero op e f =
+pub operations_slide : (l : List (Option Op)) (c : ℕ) (op : Op) → slice_get l c ≡ Some (Some op) → slice_get l (suc c) ≡ Some None → operations_in (slice_set (slice_set l c None) (suc c) (Some op)) ≡ operations_in l
+operations_slide [] c op e f = absurd (cc)
+operations_slide (o ∷ []) zero op e f = absurd (cc)
+operations_slide (o ∷ p ∷ l) zero op e f =
     let a : o ≡ Some op = cc in
     let b : p ≡ None = cc in
     rw (a, b) (rw (append-nil (operations_in l ++ as_launched (Some op)), append-nil (operations_in l)))
-operations-slide (o ∷ l) (suc c) op e f = ap (λ (q : List Op). q ++ as_launched o) (operations-slide l c op e f)
+operations_slide (o ∷ l) (suc c) op e f = ap (λ (q : List Op). q ++ as_launched o) (operations_slide l c op e f)
 
 -- Access, Recover: the last cell is the first operation
-pub operations-last : (l : List (Option Op)) (op : Op) → last_op l ≡ Some op → operations_in l ≡ as_launched (Some op) ++ operations_in (set_last l None)
-operations-last [] op e = absurd (cc)
-operations-last (o ∷ []) op e = rw e
-operations-last (o ∷ p ∷ l) op e = ap (λ (q : List Op). q ++ as_launched o) (operations-last (p ∷ l) op e) ∙ append_assoc (as_launched (Some op)) (operations_in (set_last (p ∷ l) None)) (as_launched o)
+pub operations_last : (l : List (Option Op)) (op : Op) → last_op l ≡ Some op → operations_in l ≡ as_launched (Some op) ++ operations_in (set_last l None)
+operations_last [] op e = absurd (cc)
+operations_last (o ∷ []) op e = rw e
+operations_last (o ∷ p ∷ l) op e = ap (λ (q : List Op). q ++ as_launched o) (operations_last (p ∷ l) op e) ∙ append_assoc (as_launched (Some op)) (operations_in (set_last (p ∷ l) None)) (as_launched o)
 
 -- below a siding's launch stage none of its passengers is out
 abbrev pub Below : ℕ → List Item → Type 0
@@ -53,7 +53,7 @@ not_out l k i p n h = go p.launched p.recovered (siding_of l (kind p)) refl refl
             decide false e = e
             decide true e = let s : j ≡ k = grind arith in let t : launch_stage l k ≤ i = subst (λ (m : ℕ). launch_stage l m ≤ i) s q in absurd (omega arith)
 
-pub flown-below : (l : Plan) (k : ℕ) (xs : List Item) → Below (launch_stage l k) xs → Each l xs → operations_of l k xs ≡ []
-flown-below l k [] f h = refl
-flown-below l k (Up i p ∷ xs) f h = rw (not_out l k i p f.0 h.0) (flown-below l k xs f.1 h.1)
-flown-below l k (Down i q ∷ xs) f h = flown-below l k xs f.1 h
+pub flown_below : (l : Plan) (k : ℕ) (xs : List Item) → Below (launch_stage l k) xs → Each l xs → operations_of l k xs ≡ []
+flown_below l k [] f h = refl
+flown_below l k (Up i p ∷ xs) f h = rw (not_out l k i p f.0 h.0) (flown_below l k xs f.1 h.1)
+flown_below l k (Down i q ∷ xs) f h = flown_below l k xs f.1 h

@@ -3,9 +3,9 @@ use Rattle.std.proofs.Common.{◌≡◌, List, [], ◌∷◌, ◌++◌, refl, sy
 use Rattle.cf_semantics.specs.Column.{Item}
 use Rattle.cf_semantics.specs.Walks.{Everywhere, walk}
 
-pub walk-append : {W : Type 0} (past : Item → W → W) (xs ys : List Item) (w : W) → walk past (xs ++ ys) w ≡ walk past ys (walk past xs w)
-walk-append past [] ys w = refl
-walk-append past (x ∷ xs) ys w = walk-append past xs ys (past x w)
+pub walk_append : {W : Type 0} (past : Item → W → W) (xs ys : List Item) (w : W) → walk past (xs ++ ys) w ≡ walk past ys (walk past xs w)
+walk_append past [] ys w = refl
+walk_append past (x ∷ xs) ys w = walk_append past xs ys (past x w)
 
 module _ (W : Type 0) (Fits : Item → W → Type 0) (past : Item → W → W) where
   pub fit_append : (xs ys : List Item) (w : W) → Everywhere Fits past xs w → Everywhere Fits past ys (walk past xs w) → Everywhere Fits past (xs ++ ys) w
@@ -21,7 +21,7 @@ module _ (W : Type 0) (Fits : Item → W → Type 0) (past : Item → W → W) w
   fit_back (x ∷ xs) ys w a = fit_back xs ys (past x w) a.1
 
 -- Follows w v: what fits below w fits below v
-pub record Is_walk (W : Type 0) (Fits : Item → W → Type 0) (past : Item → W → W) (Follows : W → W → Type 0) : Type 0 where
+pub record IsWalk (W : Type 0) (Fits : Item → W → Type 0) (past : Item → W → W) (Follows : W → W → Type 0) : Type 0 where
   pub stays : (i : Item) (w v : W) → Follows w v → Fits i w → Fits i v
   pub goes_on : (i : Item) (w v : W) → Follows w v → Fits i w → Follows (past i w) (past i v)
 
@@ -30,7 +30,7 @@ pub record Replaces (W : Type 0) (Fits : Item → W → Type 0) (past : Item →
   pub fit : Everywhere Fits past old w → Everywhere Fits past new w
   pub follows : Everywhere Fits past old w → Follows (walk past old w) (walk past new w)
 
-module _ (W : Type 0) (Fits : Item → W → Type 0) (past : Item → W → W) (Follows : W → W → Type 0) (law : Is_walk W Fits past Follows) where
+module _ (W : Type 0) (Fits : Item → W → Type 0) (past : Item → W → W) (Follows : W → W → Type 0) (law : IsWalk W Fits past Follows) where
   pub fit_follows : (xs : List Item) (w v : W) → Follows w v → Everywhere Fits past xs w → Everywhere Fits past xs v
   fit_follows [] w v f h = tt
   fit_follows (x ∷ xs) w v f h = (law.stays x w v f h.0, fit_follows xs (past x w) (past x v) (law.goes_on x w v f h.0) h.1)
@@ -46,7 +46,7 @@ module _ (W : Type 0) (Fits : Item → W → Type 0) (past : Item → W → W) (
       let ha = fit_front W Fits past old below v h1 in
       let hb = fit_back W Fits past old below v h1 in
       let f = r.follows ha in
-      let f' : Follows (walk past (above ++ (old ++ below)) w) (walk past (above ++ (new ++ below)) w) = rw (walk-append past above (old ++ below), walk-append past above (new ++ below), walk-append past old below, walk-append past new below) (walk_follows below (walk past old v) (walk past new v) f hb) in
+      let f' : Follows (walk past (above ++ (old ++ below)) w) (walk past (above ++ (new ++ below)) w) = rw (walk_append past above (old ++ below), walk_append past above (new ++ below), walk_append past old below, walk_append past new below) (walk_follows below (walk past old v) (walk past new v) f hb) in
       (fit_append W Fits past above (new ++ below) w (fit_front W Fits past above _ w h) (fit_append W Fits past new below v (r.fit ha) (fit_follows below (walk past old v) (walk past new v) f hb)), f')
 
 -- the old item may first be taken for another that the walk does not tell from it

@@ -3,7 +3,7 @@ use Rattle.std.proofs.Common.{◌≡◌, ℕ, suc, ◌<◌, ◌≤◌, List, [],
 use Rattle.cf_bind.specs.declared.cell.Cell.{Cell}
 use Rattle.cf_bind.specs.declared.packet.Packet.{Packet}
 use Rattle.cf_bind.specs.declared.passenger.Passenger.{Passenger}
-use Rattle.cf_refinement.proofs.column.Column.{column-at, place}
+use Rattle.cf_refinement.proofs.column.Column.{column_at, place}
 use Rattle.cf_refinement.proofs.walks.Order.{From, from_column}
 use Rattle.cf_refinement.proofs.column.Sorted.{Riders, Sorted, over, sorted, under}
 use Rattle.cf_semantics.specs.Bars.{is_full}
@@ -48,13 +48,13 @@ spot s i c p e f =
     let down = column_from 1 q.below in
     let ks = packet_in i c.packet in
     let was : column s ≡ (up ++ above_in c.met ks) ++ ((Up i p ∷ []) ++ (below_in c.met ks ++ down)) =
-    ap (column_from 1) q.split ∙ column-at i q.below q.above c q.number ∙ ap (λ (o : Option Passenger). up ++ (in_order c.met (passenger_in i o) ks ++ down)) f ∙ split_items c.met i p ks up down in
+    ap (column_from 1) q.split ∙ column_at i q.below q.above c q.number ∙ ap (λ (o : Option Passenger). up ++ (in_order c.met (passenger_in i o) ks ++ down)) f ∙ split_items c.met i p ks up down in
     let o = subst Sorted was (sorted 1 s.cells) in
     record {
       above = up ++ above_in c.met ks;
       below = below_in c.met ks ++ down;
       was = was;
-      is = λ r. ap (column_from 1) (q.set (with_passenger c r)) ∙ column-at i q.below q.above (with_passenger c r) q.number ∙ split_items c.met i r ks up down;
+      is = λ r. ap (column_from 1) (q.set (with_passenger c r)) ∙ column_at i q.below q.above (with_passenger c r) q.number ∙ split_items c.met i r ks up down;
       over = over (up ++ above_in c.met ks) (below_in c.met ks ++ down) i p o;
       under = under (up ++ above_in c.met ks) (below_in c.met ks ++ down) i p o;
       inside = omega (arith, q.number, ap length q.split ∙ length-append q.below (c ∷ q.above));

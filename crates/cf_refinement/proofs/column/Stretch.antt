@@ -3,7 +3,7 @@ use Rattle.std.proofs.Common.{◌≡◌, ℕ, suc, List, ◌∷◌, ◌++◌, So
 use Rattle.cf_bind.specs.declared.cell.Cell.{Cell}
 use Rattle.cf_semantics.specs.Column.{Item, column, column_from, items}
 use Rattle.cf_semantics.specs.State.{State, cell_at, put_cell}
-use Rattle.cf_refinement.proofs.column.Column.{Pair, column-at, column-pair, place}
+use Rattle.cf_refinement.proofs.column.Column.{Pair, column_at, column_pair, place}
 use Rattle.cf_refinement.proofs.moves.Rows.{put_size}
 
 pub record Stretch (s : State) (cells : List Cell) (old new : List Item) : Type 0 where
@@ -22,8 +22,8 @@ stage_stretch s i c d old new at was is =
     record {
       above = up;
       below = under;
-      was = ap (column_from 1) p.split ∙ column-at i p.below p.above c p.number ∙ ap (λ (m : List Item). up ++ (m ++ under)) was;
-      is = ap (column_from 1) (p.set d) ∙ column-at i p.below p.above d p.number ∙ ap (λ (m : List Item). up ++ (m ++ under)) is;
+      was = ap (column_from 1) p.split ∙ column_at i p.below p.above c p.number ∙ ap (λ (m : List Item). up ++ (m ++ under)) was;
+      is = ap (column_from 1) (p.set d) ∙ column_at i p.below p.above d p.number ∙ ap (λ (m : List Item). up ++ (m ++ under)) is;
       size = put_size s.cells i d;
     }
 
@@ -39,7 +39,7 @@ pair_stretch s i c d a b p cells front old new last put was is =
     record {
       above = up ++ front;
       below = last ++ under;
-      was = ap (column_from 1) p.split ∙ column-pair i p.below p.above c d p.number ∙ ap (λ (m : List Item). up ++ (m ++ under)) was ∙ regroup up front old last under;
-      is = ap (column_from 1) put ∙ column-pair i p.below p.above a b p.number ∙ ap (λ (m : List Item). up ++ (m ++ under)) is ∙ regroup up front new last under;
+      was = ap (column_from 1) p.split ∙ column_pair i p.below p.above c d p.number ∙ ap (λ (m : List Item). up ++ (m ++ under)) was ∙ regroup up front old last under;
+      is = ap (column_from 1) put ∙ column_pair i p.below p.above a b p.number ∙ ap (λ (m : List Item). up ++ (m ++ under)) is ∙ regroup up front new last under;
       size = omega (arith, ap length put, ap length p.split, length-append p.below (a ∷ b ∷ p.above), length-append p.below (c ∷ d ∷ p.above));
     }

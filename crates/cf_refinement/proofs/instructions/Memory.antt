@@ -21,8 +21,8 @@ use Rattle.cf_refinement.proofs.instructions.Classes.{memory_is}
 abbrev pub after_access : Machine → Instr → ℕ → ℕ → ℕ → Machine
 after_access x i pc a b = onward (at_pc x pc) (word_after pc) (value_written x.hart.regs (dst_of i) (answer_of i a b x.hart.mem)) (mem_after i a b x.hart.mem)
 
-pub l2 : (isa : Isa) (p : Passenger) (x : Machine) (g : Option ℕ) → is_memory (kind p) ≡ true → missing p.src1 ≡ None → missing p.src2 ≡ None → sure.IsSure isa p x (step_at isa x p.pc) g → (p.what ≡ Some (instruction p)) × (step_at isa x p.pc ≡ on (access_trap (instruction p) p.pc (value_in p.src1) (bounds_of x.hart.mem)) (Goes (after_access x (instruction p) p.pc (value_in p.src1) (value_in p.src2))) Stops)
-l2 isa p x g c m1 m2 h = go (fetched isa x.hart.mem p.pc) refl h.reads
+pub memory_steps : (isa : Isa) (p : Passenger) (x : Machine) (g : Option ℕ) → is_memory (kind p) ≡ true → missing p.src1 ≡ None → missing p.src2 ≡ None → sure.IsSure isa p x (step_at isa x p.pc) g → (p.what ≡ Some (instruction p)) × (step_at isa x p.pc ≡ on (access_trap (instruction p) p.pc (value_in p.src1) (bounds_of x.hart.mem)) (Goes (after_access x (instruction p) p.pc (value_in p.src1) (value_in p.src2))) Stops)
+memory_steps isa p x g c m1 m2 h = go (fetched isa x.hart.mem p.pc) refl h.reads
   where
     go : (q : Fetched) → fetched isa x.hart.mem p.pc ≡ q → Holds p q → (p.what ≡ Some (instruction p)) × (step_at isa x p.pc ≡ on (access_trap (instruction p) p.pc (value_in p.src1) (bounds_of x.hart.mem)) (Goes (after_access x (instruction p) p.pc (value_in p.src1) (value_in p.src2))) Stops)
     go (Got i) f w =

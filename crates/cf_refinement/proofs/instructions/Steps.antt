@@ -345,9 +345,9 @@ plain_step Free i a b m e = absurd (cc)
 plain_step _ i a b m e = refl
 
 -- units and sidings: the trap of Finish, or the value of Finish in the destination
-pub l1 : (isa : Isa) (x : Machine) (pc : ℕ) (i : Instr) → fetched isa x.hart.mem pc ≡ Got i → is_plain (kind_of i) ≡ true →
+pub plain_steps : (isa : Isa) (x : Machine) (pc : ℕ) (i : Instr) → fetched isa x.hart.mem pc ≡ Got i → is_plain (kind_of i) ≡ true →
     step_at isa x pc ≡ stepped_as Add i (value_read x.hart.regs (src1_of i)) (value_read x.hart.regs (src2_of i)) (at_pc x pc)
-l1 isa x pc i e c =
+plain_steps isa x pc i e c =
     step_is isa x pc i e
     ∙ plain_step (kind_of i) i (value_read x.hart.regs (src1_of i)) (value_read x.hart.regs (src2_of i)) (at_pc x pc) c
 

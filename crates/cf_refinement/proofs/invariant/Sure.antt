@@ -50,10 +50,10 @@ pub record IsSourced (p : Passenger) (coming : ℕ → Bool) : Type 0 where
   pub source2 : Comes p.src2 coming
 
 -- a value is the register's; the first barrier turns to where the program goes, or halts what traps
-abbrev pub Packet_fits : Packet → Walk → Type 0
-Packet_fits (Value r v) w = PacketHasValue (Value r v) w
-Packet_fits (Turn pc) w = (w.goto ≡ Some pc) × (w.settled ≡ true)
-Packet_fits Halt w = (w.goto ≡ None) × (w.trapped ≡ true)
+abbrev pub PacketFits : Packet → Walk → Type 0
+PacketFits (Value r v) w = PacketHasValue (Value r v) w
+PacketFits (Turn pc) w = (w.goto ≡ Some pc) × (w.settled ≡ true)
+PacketFits Halt w = (w.goto ≡ None) × (w.trapped ≡ true)
 
 unfoldable pub SureAt : Isa → Passenger → Walk → Type 0
 SureAt isa p w = IsSure isa p w.machine (step_at isa w.machine p.pc) w.goto × IsSourced p w.coming
@@ -61,7 +61,7 @@ SureAt isa p w = IsSure isa p w.machine (step_at isa w.machine p.pc) w.goto × I
 -- an item, with what is known above it
 unfoldable pub Fits : Isa → Item → Walk → Type 0
 Fits isa (Up i p) w = (p.dead ≡ true → p.owes ≡ None) × When (is_sure p w) (SureAt isa p w)
-Fits isa (Down i k) w = When (not w.barred) (Packet_fits k w)
+Fits isa (Down i k) w = When (not w.barred) (PacketFits k w)
 
 -- below all, with no barrier: fetch runs where the program goes
 abbrev pub Ends : Walk → Fetch → Type 0

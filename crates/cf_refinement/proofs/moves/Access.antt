@@ -13,11 +13,11 @@ use Rattle.cf_layout.specs.Layout.{Plan, launch_stage, recover_stage, siding_of}
 use Rattle.cf_refinement.proofs.walks.Answering.{Landed, Settled, fresh_above, walk_landed}
 use Rattle.cf_refinement.proofs.walks.Accessing.{Waiting, access_fits, walk_waiting}
 use Rattle.cf_refinement.proofs.column.Change.{beside, here}
-use Rattle.cf_refinement.proofs.column.Flown.{operations-last}
-use Rattle.cf_refinement.proofs.column.Fold.{fit_front, walk-append}
+use Rattle.cf_refinement.proofs.column.Flown.{operations_last}
+use Rattle.cf_refinement.proofs.column.Fold.{fit_front, walk_append}
 use Rattle.cf_refinement.proofs.moves.Rows.{bar_row}
 use Rattle.cf_refinement.proofs.walks.Launching.{flies_out, past_none}
-use Rattle.cf_refinement.proofs.instructions.Memory.{after_access, l2}
+use Rattle.cf_refinement.proofs.instructions.Memory.{after_access, memory_steps}
 use Rattle.cf_refinement.proofs.moves.Recover.{docked_live, landed}
 use Rattle.cf_refinement.proofs.column.Sidings.{berthed, front_set_last, last_answer, last_set, put_here, rehung, set_last_size}
 use Rattle.cf_refinement.proofs.column.Sorted.{Riders, Sorted, over, sorted, under}
@@ -64,9 +64,9 @@ access_ready l s e = go (last_op (siding_at s (port l))) refl e
     go None f e = absurd (cc)
     go (Some op) f e = inner op op.answer f refl e
 
-pub next-access : (l : Plan) (s : State) (op : Op) → last_op (siding_at s (port l)) ≡ Some op → moved l s Access ≡ accessed l s op
+pub next_access : (l : Plan) (s : State) (op : Op) → last_op (siding_at s (port l)) ≡ Some op → moved l s Access ≡ accessed l s op
 unfolding moved
-next-access l s op e = rw e refl
+next_access l s op e = rw e refl
 
 -- the first operation is that of the topmost passenger that is out
 pub record First (l : Plan) (k : ℕ) (xs : List Item) (o : Op) : Type 0 where
@@ -140,7 +140,7 @@ write_answers (Some q) d v regs l b e = rw (← e) (get_or-set_same regs q.reg v
 made : (isa : Isa) (p : Passenger) (w : trail.Walk) → length w.machine.hart.regs ≡ 32 → is_memory (kind p) ≡ true → missing p.src1 ≡ None → missing p.src2 ≡ None → access_trap (instruction p) p.pc (value_in p.src1) (bounds_of w.machine.hart.mem) ≡ None → sure.SureAt isa p w → (step_at isa w.machine p.pc ≡ Goes (behind (step_at isa w.machine p.pc) w.machine)) × ((behind (step_at isa w.machine p.pc) w.machine).hart.mem ≡ mem_after (instruction p) (value_in p.src1) (value_in p.src2) w.machine.hart.mem) × IsAnswer p.dst (behind (step_at isa w.machine p.pc) w.machine).hart.regs (answer_of (instruction p) (value_in p.src1) (value_in p.src2) w.machine.hart.mem)
 unfolding sure.SureAt
 made isa p w l m m1 m2 t h =
-    let q = l2 isa p w.machine w.goto m m1 m2 h.0 in
+    let q = memory_steps isa p w.machine w.goto m m1 m2 h.0 in
     let s : step_at isa w.machine p.pc ≡ Goes (after_access w.machine (instruction p) p.pc (value_in p.src1) (value_in p.src2)) = rw t at q.1 in
     (s ∙ ap (λ (z : Stepped). Goes (behind z w.machine)) (sym s), rw s refl, rw s (write_answers p.dst (dst_of (instruction p)) _ w.machine.hart.regs l (sure_dst_below isa p w.machine (step_at isa w.machine p.pc) w.goto (instruction p) q.0 h.0) (h.0.shape (instruction p) q.0).three))
 
@@ -163,10 +163,10 @@ set_twice (a ∷ b ∷ c ∷ q) o = ap (λ (z : List (Option Op)). a ∷ z) (set
 
 answered_operations : (q : List (Option Op)) (n : ℕ) (op : Op) (a : Option ℕ) → length q ≡ suc n → last_op q ≡ Some op → operations_in (set_last q (Some (record op { answer = a }))) ≡ operations_in q
 answered_operations q n op a e f =
-    operations-last (set_last q (Some (record op { answer = a }))) (record op { answer = a }) (last_set q n (Some (record op { answer = a })) e) ∙ ap (λ (z : List (Option Op)). (record op { answer = None } ∷ []) ++ operations_in z) (set_twice q (Some (record op { answer = a }))) ∙ sym (operations-last q op f)
+    operations_last (set_last q (Some (record op { answer = a }))) (record op { answer = a }) (last_set q n (Some (record op { answer = a })) e) ∙ ap (λ (z : List (Option Op)). (record op { answer = None } ∷ []) ++ operations_in z) (set_twice q (Some (record op { answer = a }))) ∙ sym (operations_last q op f)
 
-same4 : {A : Type 0} → (f : Instr → ℕ → ℕ → memory.Memory → A) → {i j : Instr} {a c b d : ℕ} {m n : memory.Memory} → i ≡ j → a ≡ c → b ≡ d → m ≡ n → f i a b m ≡ f j c d n
-same4 f e g h k = rw (e, g, h, k) refl
+access_alike : {A : Type 0} → (f : Instr → ℕ → ℕ → memory.Memory → A) → {i j : Instr} {a c b d : ℕ} {m n : memory.Memory} → i ≡ j → a ≡ c → b ≡ d → m ≡ n → f i a b m ≡ f j c d n
+access_alike f e g h k = rw (e, g, h, k) refl
 
 -- the scene of an access: the operation, its passenger, the topmost that is out, and the machine where that stands
 pub record Scene (l : Plan) (s : State) (x : Machine) : Type 0 where
@@ -191,7 +191,7 @@ access_scene {rest} {out} l s x acc e h =
     let r = access_ready l s (bar_row l s Access e) in
     let k = (port l) in
     let q = siding_at s k in
-    let f = first_out l k (column s) (record r.what { answer = None }) (operations_in (set_last q None)) (sym (h.moored.operations k) ∙ operations-last q r.what r.lies) in
+    let f = first_out l k (column s) (record r.what { answer = None }) (operations_in (set_last q None)) (sym (h.moored.operations k) ∙ operations_last q r.what r.lies) in
     let p = f.who in
     let i = f.stage in
     let was : column s ≡ f.above ++ ((Up i p ∷ []) ++ f.below) = f.was in
@@ -215,7 +215,7 @@ access_scene {rest} {out} l s x acc e h =
     let wide : length u.path.machine.hart.regs ≡ 32 = subst (λ (z : trail.Walk). length z.machine.hart.regs ≡ 32) (sym y.same) y.wide in
     let did = made (isa_of l) p u.path wide m (y.stands.0.sourced1 o.0) (y.stands.0.sourced2 o.0) known.2 certain in
     let past = waiting_mem (isa_of l) f.below (dock.past (isa_of l) (Up i p) u) wait (past_none (isa_of l) (Up i p) u none) in
-    let mem : s.mem ≡ u.path.machine.hart.mem = h.port_ends.is_mem ∙ ap (λ (z : List Item). (walk (dock.past (isa_of l)) z w0).mem) was ∙ ap (λ (z : dock.Dock). z.mem) (walk-append (dock.past (isa_of l)) f.above ((Up i p ∷ []) ++ f.below) w0) ∙ past ∙ past_unported (isa_of l) i p u (unanswered p u.answer none m o.1) ∙ fresh in
+    let mem : s.mem ≡ u.path.machine.hart.mem = h.port_ends.is_mem ∙ ap (λ (z : List Item). (walk (dock.past (isa_of l)) z w0).mem) was ∙ ap (λ (z : dock.Dock). z.mem) (walk_append (dock.past (isa_of l)) f.above ((Up i p ∷ []) ++ f.below) w0) ∙ past ∙ past_unported (isa_of l) i p u (unanswered p u.answer none m o.1) ∙ fresh in
     let code = ap (λ (z : Op). z.instr) (sym f.op) in
     let a1 = ap (λ (z : Op). z.a) (sym f.op) in
     let a2 = ap (λ (z : Op). z.b) (sym f.op) in
@@ -233,8 +233,8 @@ access_scene {rest} {out} l s x acc e h =
       certain = certain;
       before = mem;
       goes = did.0;
-      stored = same4 mem_after code a1 a2 mem ∙ sym did.1;
-      answers = subst (λ (v : ℕ). IsAnswer p.dst (behind (step_at (isa_of l) u.path.machine p.pc) u.path.machine).hart.regs v) (sym (same4 answer_of code a1 a2 mem)) did.2;
+      stored = access_alike mem_after code a1 a2 mem ∙ sym did.1;
+      answers = subst (λ (v : ℕ). IsAnswer p.dst (behind (step_at (isa_of l) u.path.machine p.pc) u.path.machine).hart.regs v) (sym (access_alike answer_of code a1 a2 mem)) did.2;
     }
 
 pub access_kept : {rest out : List ℕ} (l : Plan) (s : State) (x : Machine) → Suits l → bar l s Access ≡ None → Sound l s rest out x → Sound l (moved l s Access) rest out x
@@ -257,7 +257,7 @@ access_kept {rest} {out} l s x acc e h =
     let t : State = accessed l s r.what in
     let cell : last_answer (siding_at t k) ≡ Some a = ap last_answer (put_here s.sidings k (set_last q (Some op)) n.0 n.1) ∙ ap (λ (z : Option Op). on z None (λ z. z.answer)) (last_set q n.0 (Some op) n.1) in
     let top : dock.top l t x ≡ record w0 { answer = Some a } = ap (λ (z : Option ℕ). record w0 { answer = z }) cell in
-    rw (next-access l s r.what r.lies) (beside l s x t.sidings t.mem (record {
+    rw (next_access l s r.what r.lies) (beside l s x t.sidings t.mem (record {
       fit = subst (λ (z : dock.Dock). Everywhere (dock.Fits (isa_of l)) (dock.past (isa_of l)) (column s) z) (sym top) (subst (λ (z : List Item). Everywhere (dock.Fits (isa_of l)) (dock.past (isa_of l)) z (record w0 { answer = Some a })) (sym was) all.0);
       ends = subst (λ (z : dock.Dock). dock.Ends z (mem_after r.what.instr r.what.a r.what.b s.mem) rest out) (sym (ap (λ (z : dock.Dock). walk (dock.past (isa_of l)) (column s) z) top ∙ ap (λ (z : List Item). walk (dock.past (isa_of l)) z (record w0 { answer = Some a })) was ∙ all.1)) (stored_ends l s x f.above f.below i p was z.stored (code_after r.what.instr r.what.a r.what.b s.mem) h);
     }) (rehung l s t (column s) (column s) k (set_last q (Some op)) refl n.0 n.1 (set_last_size q (Some op)) (answered_operations q n.0 r.what (Some a) n.1 r.lies ∙ h.moored.operations k) (λ j z. refl) (front_set_last q (Some op) (h.moored.front k)) (λ z. absurd (z refl)) h.moored) h)

@@ -51,9 +51,9 @@ climb_ready l s i e = go (cell_at s.cells i) (cell_at s.cells (suc i)) refl refl
     go (Some c) None f g e = absurd (grind arith)
     go (Some c) (Some d) f g e = inner c d c.passenger f g refl (rw (f, g) at e)
 
-pub next-climb : (l : Plan) (s : State) (i : ℕ) (c d : Cell) → cell_at s.cells i ≡ Some c → cell_at s.cells (suc i) ≡ Some d → moved l s (Climb i) ≡ climbed s i c d
+pub next_climb : (l : Plan) (s : State) (i : ℕ) (c d : Cell) → cell_at s.cells i ≡ Some c → cell_at s.cells (suc i) ≡ Some d → moved l s (Climb i) ≡ climbed s i c d
 unfolding moved
-next-climb l s i c d e f = let g : cell_at s.cells (i + 1) ≡ Some d = rw add-one f in rw (e, g)
+next_climb l s i c d e f = let g : cell_at s.cells (i + 1) ≡ Some d = rw add-one f in rw (e, g)
 
 path_label : (isa : Isa) (i j : ℕ) (p : Passenger) (w : trail.Walk) → Replaces trail.Walk (sure.Fits isa) (trail.past isa) paths.Follows (Up i p ∷ []) (Up j p ∷ []) w
 unfolding sure.Fits trail.past
@@ -84,7 +84,7 @@ climb_kept {rest} {out} l s x i e h =
     let p = pair s.cells i r.low r.high r.at_low r.at_high in
     let q = climb_stretch l s i r in
     let room : i < l.stages = omega (arith, h.size, p.number, ap length p.split ∙ length-append p.below (r.low ∷ r.high ∷ p.above)) in
-    rw (next-climb l s i r.low r.high r.at_low r.at_high, add-one) (changed l s x (cells_climbed s i r.low r.high) q.above (Up i r.who ∷ []) (Up (suc i) r.who ∷ []) q.below q.was q.is q.size (λ o. record {
+    rw (next_climb l s i r.low r.high r.at_low r.at_high, add-one) (changed l s x (cells_climbed s i r.low r.high) q.above (Up i r.who ∷ []) (Up (suc i) r.who ∷ []) q.below q.was q.is q.size (λ o. record {
       path = path_label (isa_of l) i (suc i) r.who _;
       lone = lones.climb_lone l i (suc i) r.who _ r.nothing;
       stands = (climb_stands l i r.who room r.passes o.stands.0, tt);

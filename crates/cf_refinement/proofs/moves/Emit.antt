@@ -44,9 +44,9 @@ emit_ready l s e = go (cell_at s.cells l.stages) s.lane refl refl e
     go (Some c) [] f g e = absurd (cc)
     go (Some c) (r ∷ q) f g e = record { here = c; asked = r; others = q; at_here = f; lane = g; free = grind arith }
 
-pub next-emit : (l : Plan) (s : State) (c : Cell) (r : ℕ) (lane : List ℕ) → cell_at s.cells l.stages ≡ Some c → s.lane ≡ r ∷ lane → moved l s Emit ≡ emitted s l.stages (r ∷ lane) c
+pub next_emit : (l : Plan) (s : State) (c : Cell) (r : ℕ) (lane : List ℕ) → cell_at s.cells l.stages ≡ Some c → s.lane ≡ r ∷ lane → moved l s Emit ≡ emitted s l.stages (r ∷ lane) c
 unfolding moved
-next-emit l s c r lane e f = rw (e, f)
+next_emit l s c r lane e f = rw (e, f)
 
 -- the packet stands above all
 pub emit_is : (l : Plan) (s : State) (r : Emits l s) (k : Packet) → length s.cells ≡ l.stages → column_from 1 (put_cell s.cells l.stages (record r.here { packet = Some k; met = false })) ≡ Down l.stages k ∷ column s
@@ -92,7 +92,7 @@ emit_kept {rest} {out} l s x e h =
     let f = emit_path (isa_of l) s t x n r.asked v r.others r.lane refl in
     let g = emit_port l s t x n r.asked v refl f in
     let z = nothing_shut l n r.asked v in
-    rw (next-emit l s r.here r.asked r.others r.at_here r.lane) (record {
+    rw (next_emit l s r.here r.asked r.others r.at_here r.lane) (record {
       regs = h.regs;
       wide = h.wide;
       size = put_size s.cells n d ∙ h.size;

@@ -50,9 +50,9 @@ execute_ready l s i e = go (cell_at s.cells i) refl e
     go None f e = absurd (cc)
     go (Some c) f e = inner c c.passenger f refl e
 
-pub next-execute : (l : Plan) (s : State) (i : ℕ) (c : Cell) (p : Passenger) → cell_at s.cells i ≡ Some c → c.passenger ≡ Some p → moved l s (Execute i) ≡ with_cell s i (with_passenger c (finish p None))
+pub next_execute : (l : Plan) (s : State) (i : ℕ) (c : Cell) (p : Passenger) → cell_at s.cells i ≡ Some c → c.passenger ≡ Some p → moved l s (Execute i) ≡ with_cell s i (with_passenger c (finish p None))
 unfolding moved
-next-execute l s i c p e f = rw (e, f)
+next_execute l s i c p e f = rw (e, f)
 
 pub goes_straight : (p : Passenger) → is_plain (kind p) ≡ true → goto_undone (kind p) p ≡ guessed p.guess (instruction p) p.pc
 goes_straight p e = go (kind p) e
@@ -82,7 +82,7 @@ execute_kept {rest} {out} l s x i acc e h =
     let c = acc.plain (kind q) i r.unit in
     let low : is_control (kind q) ≡ true → lone.is_high l i ≡ false = λ a. acc.control_low (kind q) i a r.unit in
     let walks = λ (w : trail.Walk). finish_walk (isa_of l) i q w None r.undone (goes_straight q c) in
-    rw (next-execute l s i r.here q r.at_here r.sits) (changed l s x (put_cell s.cells i d) p.above (Up i q ∷ []) (Up i (finish q None) ∷ []) p.below p.was (p.is (finish q None)) (put_size s.cells i d) (λ k. record {
+    rw (next_execute l s i r.here q r.at_here r.sits) (changed l s x (put_cell s.cells i d) p.above (Up i q ∷ []) (Up i (finish q None) ∷ []) p.below p.was (p.is (finish q None)) (put_size s.cells i d) (λ k. record {
       path = record { fit = finish_fits (isa_of l) i q _ None k.wide r.live r.undone (sure_finishes (isa_of l) q _ r.undone r.has1 r.has2 c); follows = walks _ };
       lone = finish_lone l i q _ (finish_shuts l i q c low k.stands.0.guess);
       stands = (finish_stands l i q r.live r.undone c (ashore l acc i q r.unit r.live r.undone k.stands.0) k.stands.0, tt);

@@ -9,8 +9,8 @@ use Rattle.cf_bind.specs.declared.packet.Packet.{Packet}
 use Rattle.cf_bind.specs.declared.packet.Packet.TheVariants.{Halt, Turn, Value}
 use Rattle.cf_layout.specs.Layout.{Plan}
 use Rattle.cf_refinement.proofs.walks.Cache.{clear_holds, keep_holds}
-use Rattle.cf_refinement.proofs.column.Change.{flown-append}
-use Rattle.cf_refinement.proofs.column.Fold.{fit_back, fit_front, walk-append}
+use Rattle.cf_refinement.proofs.column.Change.{flown_append}
+use Rattle.cf_refinement.proofs.column.Fold.{fit_back, fit_front, walk_append}
 use Rattle.cf_refinement.proofs.moves.Rows.{bar_row}
 use Rattle.cf_refinement.proofs.walks.Stands.{each_front}
 use Rattle.cf_refinement.proofs.invariant.Invariant.{Sound}
@@ -48,9 +48,9 @@ exit_ready l s e = go s.cells refl e
     go [] f e = absurd (cc)
     go (c ∷ cs) f e = inner c cs c.packet f refl e
 
-pub next-exit : (l : Plan) (s : State) (c : Cell) (cs : List Cell) (k : Packet) → s.cells ≡ c ∷ cs → c.packet ≡ Some k → moved l s Exit ≡ record s { cells = without_packet c ∷ cs; fetch = turned s.fetch k; cache = keeps l.cache s.cache k }
+pub next_exit : (l : Plan) (s : State) (c : Cell) (cs : List Cell) (k : Packet) → s.cells ≡ c ∷ cs → c.packet ≡ Some k → moved l s Exit ≡ record s { cells = without_packet c ∷ cs; fetch = turned s.fetch k; cache = keeps l.cache s.cache k }
 unfolding moved
-next-exit l s c cs k e f = rw (e, f)
+next_exit l s c cs k e f = rw (e, f)
 
 exit_items : (c : Cell) (k : Packet) → c.packet ≡ Some k → is_full c ≡ false → items 1 c ≡ passenger_in 1 c.passenger ++ Down 1 k ∷ []
 exit_items c k e f = grind arith
@@ -75,7 +75,7 @@ exit_cache : (isa : Isa) (w : trail.Walk) (k : Packet) (b : Bool) (c : List (Opt
 unfolding sure.Fits trail.past
 exit_cache isa w k b c h e = go w.barred k b h e
   where
-    go : (a : Bool) (k : Packet) (b : Bool) → When (not a) (sure.Packet_fits k w) → sure.Keeps (trail.past_packet k (record w { barred = a })) c → When (not a) (sure.AreRegisters (keeps b c k) w.machine.hart.regs)
+    go : (a : Bool) (k : Packet) (b : Bool) → When (not a) (sure.PacketFits k w) → sure.Keeps (trail.past_packet k (record w { barred = a })) c → When (not a) (sure.AreRegisters (keeps b c k) w.machine.hart.regs)
     go true k b h e = tt
     go false (Value r v) true h e = keep_holds c w.machine.hart.regs r v h e
     go false (Value r v) false h e = e
@@ -91,7 +91,7 @@ unfolding dock.past
 exit_port isa w k m r o e = record { is_mem = e.is_mem; is_code = e.is_code; is_rest = e.is_rest; is_out = e.is_out }
 
 exit_moored : (l : Plan) (s t : State) (rest : List Item) (k : Packet) → t.sidings ≡ s.sidings → IsMoored l s (rest ++ Down 1 k ∷ []) → IsMoored l t rest
-exit_moored l s t rest k e h = rw e (record { operations = λ n. h.operations n ∙ flown-append l n rest (Down 1 k ∷ []) ∙ append-nil (operations_of l n rest); front = h.front; plain = h.plain; berths = h.berths })
+exit_moored l s t rest k e h = rw e (record { operations = λ n. h.operations n ∙ flown_append l n rest (Down 1 k ∷ []) ∙ append-nil (operations_of l n rest); front = h.front; plain = h.plain; berths = h.berths })
 
 pub exit_kept : {rest out : List ℕ} (l : Plan) (s : State) (x : Machine) → bar l s Exit ≡ None → Sound l s rest out x → Sound l (moved l s Exit) rest out x
 exit_kept {rest} {out} l s x e h =
@@ -102,17 +102,17 @@ exit_kept {rest} {out} l s x e h =
     let t : State = record s { cells = without_packet r.here ∷ r.others; fetch = turned s.fetch k; cache = keeps l.cache s.cache k } in
     let fit = rw was at h.path_fit in
     let shut = rw was at h.lone_fit in
-    rw (next-exit l s r.here r.others k r.cells r.lies) (record {
+    rw (next_exit l s r.here r.others k r.cells r.lies) (record {
       regs = h.regs;
       wide = h.wide;
       size = rw r.cells at h.size;
       path_fit = fit_front _ (sure.Fits (isa_of l)) (trail.past (isa_of l)) upper (Down 1 k ∷ []) _ fit;
-      path_ends = exit_ends (isa_of l) _ k s.fetch (fit_back _ (sure.Fits (isa_of l)) (trail.past (isa_of l)) upper (Down 1 k ∷ []) _ fit).0 (rw (was, walk-append (trail.past (isa_of l)) upper (Down 1 k ∷ []) (trail.top s x)) at h.path_ends);
-      cache = exit_cache (isa_of l) _ k l.cache s.cache (fit_back _ (sure.Fits (isa_of l)) (trail.past (isa_of l)) upper (Down 1 k ∷ []) _ fit).0 (rw (was, walk-append (trail.past (isa_of l)) upper (Down 1 k ∷ []) (trail.top s x)) at h.cache);
+      path_ends = exit_ends (isa_of l) _ k s.fetch (fit_back _ (sure.Fits (isa_of l)) (trail.past (isa_of l)) upper (Down 1 k ∷ []) _ fit).0 (rw (was, walk_append (trail.past (isa_of l)) upper (Down 1 k ∷ []) (trail.top s x)) at h.path_ends);
+      cache = exit_cache (isa_of l) _ k l.cache s.cache (fit_back _ (sure.Fits (isa_of l)) (trail.past (isa_of l)) upper (Down 1 k ∷ []) _ fit).0 (rw (was, walk_append (trail.past (isa_of l)) upper (Down 1 k ∷ []) (trail.top s x)) at h.cache);
       lone_fit = fit_front _ lone.Fits (lone.past l) upper (Down 1 k ∷ []) _ shut;
-      lone_ends = exit_lone l _ k s.fetch (fit_back _ lone.Fits (lone.past l) upper (Down 1 k ∷ []) _ shut).0 (rw (was, walk-append (lone.past l) upper (Down 1 k ∷ []) false) at h.lone_ends);
+      lone_ends = exit_lone l _ k s.fetch (fit_back _ lone.Fits (lone.past l) upper (Down 1 k ∷ []) _ shut).0 (rw (was, walk_append (lone.past l) upper (Down 1 k ∷ []) false) at h.lone_ends);
       stands = each_front l upper (Down 1 k ∷ []) (rw was at h.stands);
       port_fit = fit_front _ (dock.Fits (isa_of l)) (dock.past (isa_of l)) upper (Down 1 k ∷ []) _ (rw was at h.port_fit);
-      port_ends = exit_port (isa_of l) _ k s.mem rest out (rw (was, walk-append (dock.past (isa_of l)) upper (Down 1 k ∷ []) (dock.top l s x)) at h.port_ends);
+      port_ends = exit_port (isa_of l) _ k s.mem rest out (rw (was, walk_append (dock.past (isa_of l)) upper (Down 1 k ∷ []) (dock.top l s x)) at h.port_ends);
       moored = exit_moored l s t upper k refl (rw was at h.moored);
     })

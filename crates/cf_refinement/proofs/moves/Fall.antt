@@ -49,9 +49,9 @@ fall_ready l s i e = go (cell_at s.cells (suc i)) (cell_at s.cells i) refl refl 
     go (Some c) None f g e = absurd (grind arith)
     go (Some c) (Some d) f g e = inner c d c.packet f g refl (rw (f, g) at e)
 
-pub next-fall : (l : Plan) (s : State) (i : ℕ) (c d : Cell) → cell_at s.cells (suc i) ≡ Some c → cell_at s.cells i ≡ Some d → moved l s (Fall (suc i)) ≡ fallen s (suc i) c d
+pub next_fall : (l : Plan) (s : State) (i : ℕ) (c d : Cell) → cell_at s.cells (suc i) ≡ Some c → cell_at s.cells i ≡ Some d → moved l s (Fall (suc i)) ≡ fallen s (suc i) c d
 unfolding moved
-next-fall l s i c d e f = let g : cell_at s.cells (suc i - 1) ≡ Some d = rw sub-one f in rw (e, g)
+next_fall l s i c d e f = let g : cell_at s.cells (suc i - 1) ≡ Some d = rw sub-one f in rw (e, g)
 
 path_label : (isa : Isa) (i j : ℕ) (k : Packet) (w : trail.Walk) → Replaces trail.Walk (sure.Fits isa) (trail.past isa) paths.Follows (Down i k ∷ []) (Down j k ∷ []) w
 unfolding sure.Fits trail.past
@@ -83,7 +83,7 @@ fall_above : {rest out : List ℕ} (l : Plan) (s : State) (x : Machine) (i : ℕ
 fall_above {rest} {out} l s x i e h =
     let r = fall_ready l s i e in
     let q = fall_stretch s i r in
-    rw (next-fall l s i r.high r.low r.at_high r.at_low, sub-one) (changed l s x (cells_fallen s i r.low r.high) q.above (Down (suc i) r.what ∷ []) (Down i r.what ∷ []) q.below q.was q.is q.size (λ o. record {
+    rw (next_fall l s i r.high r.low r.at_high r.at_low, sub-one) (changed l s x (cells_fallen s i r.low r.high) q.above (Down (suc i) r.what ∷ []) (Down i r.what ∷ []) q.below q.was q.is q.size (λ o. record {
       path = path_label (isa_of l) (suc i) i r.what _;
       lone = lones.fall_lone l i r.what _;
       stands = tt;

@@ -23,8 +23,8 @@ use Rattle.cf_bind.specs.declared.passenger.Guess.TheVariants.{Next, Taken, To, 
 use Rattle.cf_bind.specs.declared.passenger.Passenger.{Passenger}
 use Rattle.cf_layout.specs.Layout.{Plan, siding_of}
 use Rattle.cf_refinement.proofs.walks.Cache.{forget_holds}
-use Rattle.cf_refinement.proofs.column.Change.{ends_path, ends_port, flown-append, keeps_path, walk_path}
-use Rattle.cf_refinement.proofs.column.Fold.{fit_append, fit_follows, walk-append, walk_follows}
+use Rattle.cf_refinement.proofs.column.Change.{ends_path, ends_port, flown_append, keeps_path, walk_path}
+use Rattle.cf_refinement.proofs.column.Fold.{fit_append, fit_follows, walk_append, walk_follows}
 use Rattle.cf_refinement.proofs.walks.Fresh.{IsFresh, among_back, among_front, fresh_at, fresh_is}
 use Rattle.cf_refinement.proofs.moves.Rows.{bar_row}
 use Rattle.cf_refinement.proofs.walks.Program.{code_fresh}
@@ -71,9 +71,9 @@ issue_ready l s g e = go s.cells s.fetch refl refl e
     go (c ∷ cs) Waiting h k e = absurd (cc)
     go (c ∷ cs) (Running pc) h k e = record { here = c; others = cs; pc = pc; cells = h; runs = k; free = grind arith; guess = grind arith }
 
-pub next-issue : (l : Plan) (s : State) (g : Guess) (c : Cell) (cs : List Cell) (pc : ℕ) (p : Passenger) → s.cells ≡ c ∷ cs → s.fetch ≡ Running pc → p ≡ fresh s.cache (fetched (isa_of l) s.mem pc) pc g → moved l s (Issue g) ≡ record s { cells = record c { passenger = Some p; met = false } ∷ cs; lane = s.lane ++ requests p; fetch = fetch_at (goto p); cache = forgets (reg_in p.dst) s.cache }
+pub next_issue : (l : Plan) (s : State) (g : Guess) (c : Cell) (cs : List Cell) (pc : ℕ) (p : Passenger) → s.cells ≡ c ∷ cs → s.fetch ≡ Running pc → p ≡ fresh s.cache (fetched (isa_of l) s.mem pc) pc g → moved l s (Issue g) ≡ record s { cells = record c { passenger = Some p; met = false } ∷ cs; lane = s.lane ++ requests p; fetch = fetch_at (goto p); cache = forgets (reg_in p.dst) s.cache }
 unfolding moved
-next-issue l s g c cs pc p e f h = rw (e, f, h)
+next_issue l s g c cs pc p e f h = rw (e, f, h)
 
 pub issue_items : (c : Cell) (p : Passenger) → c.passenger ≡ None → items 1 (record c { passenger = Some p; met = false }) ≡ items 1 c ++ Up 1 p ∷ []
 issue_items c p e = grind arith
@@ -243,7 +243,7 @@ not_flown : (l : Plan) (k : ℕ) (p : Passenger) → p.launched ≡ false → op
 not_flown l k p e = rw e
 
 moored : (l : Plan) (s t : State) (col : List Item) (p : Passenger) → t.sidings ≡ s.sidings → p.launched ≡ false → IsMoored l s col → IsMoored l t (col ++ Up 1 p ∷ [])
-moored l s t col p e f h = rw e (record { operations = λ k. h.operations k ∙ sym (flown-append l k col (Up 1 p ∷ []) ∙ ap (λ q. operations_of l k col ++ q) (not_flown l k p f) ∙ append-nil (operations_of l k col)); front = h.front; plain = h.plain; berths = h.berths })
+moored l s t col p e f h = rw e (record { operations = λ k. h.operations k ∙ sym (flown_append l k col (Up 1 p ∷ []) ∙ ap (λ q. operations_of l k col ++ q) (not_flown l k p f) ∙ append-nil (operations_of l k col)); front = h.front; plain = h.plain; berths = h.berths })
 
 -- units or a siding are there for it
 fresh_homed : (l : Plan) → Suits l → (mem : Memory) (c : List (Option ℕ)) (pc : ℕ) (g : Guess) → is_plain (kind (fresh c (fetched (isa_of l) mem pc) pc g)) ≡ true → is_homed l (kind (fresh c (fetched (isa_of l) mem pc) pc g)) ≡ true
@@ -281,18 +281,18 @@ issue_kept {rest} {out} l s x g acc e h =
     let ended = ends_port _ _ s.mem rest out df h.port_ends in
     let same : code_of s.mem ≡ code_of w.machine.hart.mem = ended.is_code ∙ code_fresh l (column s) (dock.top l t x) false shut path_fit docks (λ b. absurd (cc)) refl ∙ ap (λ (q : trail.Walk). code_of q.machine.hart.mem) (walk_path (isa_of l) (column s) (dock.top l t x)) in
     let certain : w.barred ≡ false → sure.SureAt (isa_of l) p w = λ b. sure_new s.cache (fetched (isa_of l) s.mem r.pc) r.pc g s.fetch w r.runs (fetched_alike (isa_of l) s.mem w.machine.hart.mem r.pc same) (λ a i. walk_coming (isa_of l) (column s) (trail.top t x) a (among_back a s.lane (requests p) i)) b ends keeps in
-    rw (next-issue l s g r.here r.others r.pc p r.cells r.runs refl) (record {
+    rw (next_issue l s g r.here r.others r.pc p r.cells r.runs refl) (record {
       regs = h.regs;
       wide = h.wide;
       size = rw r.cells at h.size;
       path_fit = rw is (fit_append _ (sure.Fits (isa_of l)) (trail.past (isa_of l)) (column s) new _ path_fit (fits_path (isa_of l) p w n.live certain, tt));
-      path_ends = rw (is, walk-append (trail.past (isa_of l)) (column s) new (trail.top t x)) (below_ends (isa_of l) p w n.live);
-      cache = rw (is, walk-append (trail.past (isa_of l)) (column s) new (trail.top t x)) (below_keeps (isa_of l) p w s.cache n.live certain keeps);
+      path_ends = rw (is, walk_append (trail.past (isa_of l)) (column s) new (trail.top t x)) (below_ends (isa_of l) p w n.live);
+      cache = rw (is, walk_append (trail.past (isa_of l)) (column s) new (trail.top t x)) (below_keeps (isa_of l) p w s.cache n.live certain keeps);
       lone_fit = rw is (fit_append _ lone.Fits (lone.past l) (column s) new _ h.lone_fit (lone_fits p _ shut, tt));
-      lone_ends = rw (is, walk-append (lone.past l) (column s) new false) (lone_ends l p g _ n shut);
+      lone_ends = rw (is, walk_append (lone.past l) (column s) new false) (lone_ends l p g _ n shut);
       stands = rw is (each_append l (column s) new h.stands (stands_first l p g acc n r.guess (fresh_homed l acc s.mem s.cache r.pc g), tt));
       port_fit = rw is (fit_append _ (dock.Fits (isa_of l)) (dock.past (isa_of l)) (column s) new _ docks (port_fits (isa_of l) p g d n, tt));
-      port_ends = rw (is, walk-append (dock.past (isa_of l)) (column s) new (dock.top l t x)) (port_ends (isa_of l) p g d s.mem rest out n ended);
+      port_ends = rw (is, walk_append (dock.past (isa_of l)) (column s) new (dock.top l t x)) (port_ends (isa_of l) p g d s.mem rest out n ended);
       moored = rw is (moored l s t (column s) p refl n.here h.moored);
     })
   where

@@ -12,13 +12,13 @@ use Rattle.cf_bind.specs.declared.passenger.End.{End}
 use Rattle.cf_bind.specs.declared.passenger.Passenger.{Passenger}
 use Rattle.cf_layout.specs.Layout.{Plan, launch_stage, recover_stage, siding_of}
 use Rattle.cf_refinement.proofs.walks.Bounds.{core_bounds}
-use Rattle.cf_refinement.proofs.column.Change.{Here, docked, flown-append, flown_changed, here, reshaped, walk_safe}
-use Rattle.cf_refinement.proofs.column.Flown.{operations-launch}
-use Rattle.cf_refinement.proofs.column.Fold.{Replaces, fit_append, fit_front, walk-append}
+use Rattle.cf_refinement.proofs.column.Change.{Here, docked, flown_append, flown_changed, here, reshaped, walk_safe}
+use Rattle.cf_refinement.proofs.column.Flown.{operations_launch}
+use Rattle.cf_refinement.proofs.column.Fold.{Replaces, fit_append, fit_front, walk_append}
 use Rattle.cf_refinement.proofs.moves.Rows.{bar_row, put_size}
 use Rattle.cf_refinement.proofs.walks.Launching.{answer_none, launch_lone, launch_path, launch_port, launch_stands, sent_out}
 use Rattle.cf_refinement.proofs.walks.Loose.{Loose, loose_fit, waiting}
-use Rattle.cf_refinement.proofs.instructions.Memory.{l2}
+use Rattle.cf_refinement.proofs.instructions.Memory.{memory_steps}
 use Rattle.cf_refinement.proofs.walks.Order.{From, calm, open_packet, open_rider, walk_open}
 use Rattle.cf_refinement.proofs.walks.PathFinish.{trapped_sure}
 use Rattle.cf_refinement.proofs.column.Sidings.{answer_here, berthed, flown_range, last_answer, rehung, top_same}
@@ -109,9 +109,9 @@ launch_ready l s i e = go (cell_at s.cells i) refl e
     go None f e = absurd (cc)
     go (Some c) f e = inner c c.passenger f refl e
 
-pub next-launch : (l : Plan) (s : State) (i : ℕ) (c : Cell) (p : Passenger) → cell_at s.cells i ≡ Some c → c.passenger ≡ Some p → moved l s (Launch i) ≡ launched l s i c p
+pub next_launch : (l : Plan) (s : State) (i : ℕ) (c : Cell) (p : Passenger) → cell_at s.cells i ≡ Some c → c.passenger ≡ Some p → moved l s (Launch i) ≡ launched l s i c p
 unfolding moved
-next-launch l s i c p e f = rw (e, f)
+next_launch l s i c p e f = rw (e, f)
 
 pub launched_out : (l : Plan) (s : State) (i : ℕ) (c : Cell) (p : Passenger) (k : ℕ) → launch_trap s p ≡ None → siding_of l (kind p) ≡ Some k → launched l s i c p ≡ with_siding (with_cell s i (with_passenger c (sent_out p))) k (slice_set (siding_at s k) 0 (Some (operation p)))
 launched_out l s i c p k e f = rw (e, f)
@@ -222,10 +222,10 @@ out_kept {rest} {out} l s x i acc r e h =
     let each = rw q.was at h.stands in
     let never = not_back l i p r.aboard k'.stands.0 in
     let none = flown_range l k q.below (riders_more (λ j. j < i) (λ j. (launch_stage l k ≤ j) → (j ≤ recover_stage l k) → ⊥) q.below (λ j a b c. omega (arith, r.at_stage)) q.under) (each_back l old q.below (each_back l q.above (old ++ q.below) each)) in
-    let was_flown : operations_of l k (column s) ≡ operations_of l k q.above = ap (operations_of l k) q.was ∙ flown-append l k q.above (old ++ q.below) ∙ ap (λ (z : List Op). operations_of l k q.above ++ z) (ashore l k i p q.below r.aboard ∙ none) ∙ append-nil (operations_of l k q.above) in
-    let is_flown : operations_of l k (column t) ≡ operations_of l k q.above ++ (operation p ∷ []) = ap (operations_of l k) is ∙ flown-append l k q.above (new ++ q.below) ∙ ap (λ (z : List Op). operations_of l k q.above ++ z) (aboard l k i p q.below (out_here l k p r.siding never) ∙ ap (λ (z : List Op). operation p ∷ z) none) in
+    let was_flown : operations_of l k (column s) ≡ operations_of l k q.above = ap (operations_of l k) q.was ∙ flown_append l k q.above (old ++ q.below) ∙ ap (λ (z : List Op). operations_of l k q.above ++ z) (ashore l k i p q.below r.aboard ∙ none) ∙ append-nil (operations_of l k q.above) in
+    let is_flown : operations_of l k (column t) ≡ operations_of l k q.above ++ (operation p ∷ []) = ap (operations_of l k) is ∙ flown_append l k q.above (new ++ q.below) ∙ ap (λ (z : List Op). operations_of l k q.above ++ z) (aboard l k i p q.below (out_here l k p r.siding never) ∙ ap (λ (z : List Op). operation p ∷ z) none) in
     let ops : operations_in (slice_set (siding_at s k) 0 (Some (operation p))) ≡ operations_of l k (column t) =
-    ap operations_in set ∙ operations-launch f.0 (operation p) ∙ ap (λ (z : List Op). z ++ (operation p ∷ [])) (ap operations_in (sym f.1) ∙ h.moored.operations k ∙ was_flown) ∙ sym is_flown in
+    ap operations_in set ∙ operations_launch f.0 (operation p) ∙ ap (λ (z : List Op). z ++ (operation p ∷ [])) (ap operations_in (sym f.1) ∙ h.moored.operations k ∙ was_flown) ∙ sym is_flown in
     let top = top_same l s t x refl (answer_here l s t k (slice_set (siding_at s k) 0 (Some (operation p))) n.0 refl n.1 (λ _. ap last_answer set ∙ launch_answer f.0 p ∙ ap last_answer (sym f.1))) in
     let calm' : is_memory (kind p) ≡ true → ((walk (dock.past (isa_of l)) q.above (dock.top l s x)).risky ≡ false) × ((walk (dock.past (isa_of l)) q.above (dock.top l s x)).answer ≡ None) × (access_trap (instruction p) p.pc (value_in p.src1) (bounds_of (walk (dock.past (isa_of l)) q.above (dock.top l s x)).path.machine.hart.mem) ≡ None) = λ m.
     let w = in_port l p k acc r.siding m in
@@ -251,7 +251,7 @@ out_kept {rest} {out} l s x i acc r e h =
 pub trap_at : (isa : Isa) (p : Passenger) (w : trail.Walk) (e : End) → p.done ≡ false → is_memory (kind p) ≡ true → missing p.src1 ≡ None → missing p.src2 ≡ None → access_trap (instruction p) p.pc (value_in p.src1) (bounds_of w.machine.hart.mem) ≡ Some e → sure.SureAt isa p w → sure.SureAt isa (trapped p e) w
 unfolding sure.SureAt
 trap_at isa p w e d m m1 m2 t h =
-    let q = l2 isa p w.machine w.goto m m1 m2 h.0 in
+    let q = memory_steps isa p w.machine w.goto m m1 m2 h.0 in
     (trapped_sure isa p w.machine (step_at isa w.machine p.pc) w.goto e d (instruction p) q.0 (rw t at q.1) (access_traps (instruction p) p.pc (value_in p.src1) (bounds_of w.machine.hart.mem) e t) h.0, record { source1 = h.1.source1; source2 = h.1.source2 })
 
 pub trap_path : (isa : Isa) (i : ℕ) (p : Passenger) (w : trail.Walk) (e : End) → p.dead ≡ false → (sure.SureAt isa p w → sure.SureAt isa (trapped p e) w) → Replaces trail.Walk (sure.Fits isa) (trail.past isa) paths.Follows (Up i p ∷ []) (Up i (trapped p e) ∷ []) w
@@ -328,12 +328,12 @@ trap_kept {rest} {out} l s x i b acc r e h =
     let lo = trap_loose (isa_of l) i p b w no.0 r.aboard never fw (walk_safe (isa_of l) new w k.safe) in
     let wait = waiting l i q.below acc (omega arith) (omega (arith, q.inside, h.size)) q.under (each_back l old q.below (each_back l q.above (old ++ q.below) each)) in
     let lf = loose_fit (isa_of l) q.below _ _ wait lo in
-    let ends = rw (q.was, walk-append (dock.past (isa_of l)) q.above (old ++ q.below) (dock.top l s x)) at h.port_ends in
+    let ends = rw (q.was, walk_append (dock.past (isa_of l)) q.above (old ++ q.below) (dock.top l s x)) at h.port_ends in
     reshaped l s t x q.above old new q.below q.was is (record { regs = refl; lane = refl; fetch = refl; cache = refl; size = put_size s.cells i (with_passenger r.here (trapped p b)) })
     rp (trap_lone l i p b _ no.0 (not_high l i n)) (trap_stands l i p b r.live r.aboard no.0 k.stands.0, tt)
     (record {
       fit = rw is (fit_append _ (dock.Fits (isa_of l)) (dock.past (isa_of l)) q.above (new ++ q.below) _ (fit_front _ (dock.Fits (isa_of l)) (dock.past (isa_of l)) q.above (old ++ q.below) _ (rw q.was at h.port_fit)) (trap_fits (isa_of l) i p b w no.0 r.aboard never, lf.0));
-      ends = rw (is, walk-append (dock.past (isa_of l)) q.above (new ++ q.below) (dock.top l s x)) (loose_ends _ _ s.mem rest out lf.1 ends);
+      ends = rw (is, walk_append (dock.past (isa_of l)) q.above (new ++ q.below) (dock.top l s x)) (loose_ends _ _ s.mem rest out lf.1 ends);
     })
     (record { operations = λ j. h.moored.operations j ∙ ap (operations_of l j) q.was ∙ flown_changed l j q.above old new q.below (trap_flown l j i p b r.aboard) ∙ ap (operations_of l j) (sym is); front = h.moored.front; plain = h.moored.plain; berths = h.moored.berths })
     h
@@ -341,7 +341,7 @@ trap_kept {rest} {out} l s x i b acc r e h =
 pub launch_kept : {rest out : List ℕ} (l : Plan) (s : State) (x : Machine) (i : ℕ) → Suits l → bar l s (Launch i) ≡ None → Sound l s rest out x → Sound l (moved l s (Launch i)) rest out x
 launch_kept {rest} {out} l s x i acc e h =
     let r = launch_ready l s i (bar_row l s (Launch i) e) in
-    rw (next-launch l s i r.here r.who r.at_here r.sits) (go r (launch_trap s r.who) refl)
+    rw (next_launch l s i r.here r.who r.at_here r.sits) (go r (launch_trap s r.who) refl)
   where
     go : (r : Launches l s i) (o : Option End) → launch_trap s r.who ≡ o → Sound l (launched l s i r.here r.who) rest out x
     go r None f = rw (launched_out l s i r.here r.who r.number f r.siding) (out_kept l s x i acc r f h)

@@ -16,7 +16,7 @@ use Rattle.cf_refinement.proofs.column.Change.{ends_lone, ends_path, ends_port, 
 use Rattle.cf_refinement.proofs.column.Column.{rider_first, rider_gone, top_cell}
 use Rattle.cf_refinement.proofs.column.Fold.{fit_follows, walk_follows}
 use Rattle.cf_refinement.proofs.moves.Rows.{bar_row, put_size}
-use Rattle.cf_refinement.proofs.instructions.Memory.{l2}
+use Rattle.cf_refinement.proofs.instructions.Memory.{memory_steps}
 use Rattle.cf_refinement.proofs.walks.Port.{ported_calm}
 use Rattle.cf_refinement.proofs.walks.Quiet.{Unchanged, quiet}
 use Rattle.cf_refinement.proofs.instructions.OwnLines.{got, own_line}
@@ -67,9 +67,9 @@ leave_ready l s e = go (cell_at s.cells l.stages) refl e
     go None f e = absurd (cc)
     go (Some c) f e = inner c c.passenger f refl e
 
-pub next-leave : (l : Plan) (s : State) (c : Cell) (p : Passenger) → cell_at s.cells l.stages ≡ Some c → c.passenger ≡ Some p → moved l s Leave ≡ left s l.stages c p
+pub next_leave : (l : Plan) (s : State) (c : Cell) (p : Passenger) → cell_at s.cells l.stages ≡ Some c → c.passenger ≡ Some p → moved l s Leave ≡ left s l.stages c p
 unfolding moved
-next-leave l s c p e f = rw (e, f)
+next_leave l s c p e f = rw (e, f)
 
 -- the registers after it
 written_is : (o : Option Binding) (d : Option ℕ) (v : ℕ) (regs : List ℕ) → length regs ≡ 32 → ((r : ℕ) → d ≡ Some r → r < 32) → reg_in o ≡ d → IsKnown o → HasValue o (value_written regs d v) → written regs o ≡ value_written regs d v
@@ -216,7 +216,7 @@ live_port l s t n p x e d u z b k h q =
 ended_out : (isa : Isa) (p : Passenger) (w : dock.Dock) (e : End) → p.ending ≡ Some e → sure.SureAt isa p w.path → dock.DockedAt isa p w → missing p.src1 ≡ None → missing p.src2 ≡ None → is_memory (kind p) ≡ true → (p.launched || p.recovered) ≡ true → ⊥
 unfolding sure.SureAt dock.DockedAt
 ended_out isa p w e n h k m1 m2 c o =
-    let q = l2 isa p w.path.machine w.path.goto c m1 m2 h.0 in
+    let q = memory_steps isa p w.path.machine w.path.goto c m1 m2 h.0 in
     let t = k.permitted c o in
     let z = sym (h.0.values.ends e n) ∙ (rw t at q.1) in
     cc
@@ -287,8 +287,8 @@ pub record Left (l : Plan) (s t : State) (rest out : List ℕ) (x : Machine) : T
   pub how : ((t.ending ≡ s.ending) × (t.retired ≡ s.retired) × (retires l s Leave ≡ []) × Sound l t rest out x) ⊎ (((y : Machine) × (step_here (isa_of l) x ≡ Goes y) × (t.ending ≡ s.ending) × (t.retired ≡ suc s.retired) × (retires l s Leave ≡ lines_at (isa_of l) x) × Sound l t rest out y) ⊎ ((e : End) × (t.ending ≡ Some e) × (t.retired ≡ s.retired) × (retires l s Leave ≡ []) × IsOver l t rest out x e))
 
 -- its line
-retires-is : (l : Plan) (s : State) (c : Cell) (p : Passenger) → cell_at s.cells l.stages ≡ Some c → c.passenger ≡ Some p → retires l s Leave ≡ retired_by p
-retires-is l s c p e f = rw (e, f) refl
+retires_is : (l : Plan) (s : State) (c : Cell) (p : Passenger) → cell_at s.cells l.stages ≡ Some c → c.passenger ≡ Some p → retires l s Leave ≡ retired_by p
+retires_is l s c p e f = rw (e, f) refl
 
 dead_line : (p : Passenger) → p.dead ≡ true → retired_by p ≡ []
 dead_line p d = rw d refl
@@ -344,14 +344,14 @@ leave_kept {rest} {out} l s x e h =
     let below = packet_in n r.here.packet ++ column_from 1 c.below in
     let was : column s ≡ Up n r.who ∷ below = c.was ∙ ap (λ (q : List Item). q ++ column_from 1 c.below) (rider_first n r.here r.who r.sits r.clear) in
     let is : column_from 1 (put_cell s.cells n (without_passenger r.here)) ≡ below = c.set (without_passenger r.here) ∙ ap (λ (q : List Item). q ++ column_from 1 c.below) (rider_gone n r.here) in
-    rw (next-leave l s r.here r.who r.at_here r.sits) (go r below was is r.who.dead r.who.ending refl refl)
+    rw (next_leave l s r.here r.who r.at_here r.sits) (go r below was is r.who.dead r.who.ending refl refl)
   where
     go : (r : Leaves l s) (below : List Item) → column s ≡ Up l.stages r.who ∷ below → column_from 1 (put_cell s.cells l.stages (without_passenger r.here)) ≡ below → (d : Bool) (o : Option End) → r.who.dead ≡ d → r.who.ending ≡ o → Left l s (left s l.stages r.here r.who) rest out x
     go r below was is true o d n =
         let p = r.who in
         let t : State = record s { cells = put_cell s.cells l.stages (without_passenger r.here) } in
         let f = dead_path (isa_of l) s t l.stages p x refl d in
-        rw (left_dead s l.stages r.here p d) (record { how = inl (refl, refl, retires-is l s r.here r.who r.at_here r.sits ∙ dead_line r.who d, gone l s t x x l.stages p below was is refl refl (put_size s.cells l.stages (without_passenger r.here)) h.regs h.wide refl refl (λ k. not_out l k p r.back) f (dead_port l s t l.stages p x refl d (not_flies p r.back) f) h) })
+        rw (left_dead s l.stages r.here p d) (record { how = inl (refl, refl, retires_is l s r.here r.who r.at_here r.sits ∙ dead_line r.who d, gone l s t x x l.stages p below was is refl refl (put_size s.cells l.stages (without_passenger r.here)) h.regs h.wide refl refl (λ k. not_out l k p r.back) f (dead_port l s t l.stages p x refl d (not_flies p r.back) f) h) })
     go r below was is false None d n =
         let p = r.who in
         let t : State = record s { cells = put_cell s.cells l.stages (without_passenger r.here); regs = written s.regs p.dst; retired = s.retired + 1 } in
@@ -363,7 +363,7 @@ leave_kept {rest} {out} l s x e h =
         let g = sure_goes (isa_of l) p (trail.top s x) u n certain in
         let f = live_path (isa_of l) s t l.stages p x y refl refl d u n r.nothing g.1 in
         let steps : step_here (isa_of l) x ≡ Goes y = at_top (isa_of l) p (trail.top s x) refl certain ∙ g.0 in
-        rw (left_on s l.stages r.here p d n) (record { how = inr (inl (y, steps, refl, omega arith, retires-is l s r.here r.who r.at_here r.sits ∙ live_line r.who d n ∙ sure_line (isa_of l) p (trail.top s x) y h.wide steps refl u n certain, gone l s t x y l.stages p below was is refl refl (put_size s.cells l.stages (without_passenger r.here)) (rw h.regs (sure_regs (isa_of l) p (trail.top s x) h.wide u n certain)) (step_wide (isa_of l) x p.pc ∙ h.wide) refl refl (λ k. not_out l k p r.back) f (live_port l s t l.stages p x refl d u n r.back stand.0 certain f) h)) })
+        rw (left_on s l.stages r.here p d n) (record { how = inr (inl (y, steps, refl, omega arith, retires_is l s r.here r.who r.at_here r.sits ∙ live_line r.who d n ∙ sure_line (isa_of l) p (trail.top s x) y h.wide steps refl u n certain, gone l s t x y l.stages p below was is refl refl (put_size s.cells l.stages (without_passenger r.here)) (rw h.regs (sure_regs (isa_of l) p (trail.top s x) h.wide u n certain)) (step_wide (isa_of l) x p.pc ∙ h.wide) refl refl (λ k. not_out l k p r.back) f (live_port l s t l.stages p x refl d u n r.back stand.0 certain f) h)) })
     go r below was is false (Some b) d n =
         let p = r.who in
         let fit = rw was at h.path_fit in
@@ -378,7 +378,7 @@ leave_kept {rest} {out} l s x e h =
             b,
             refl,
             refl,
-            retires-is l s r.here r.who r.at_here r.sits ∙ over_line r.who b d n,
+            retires_is l s r.here r.who r.at_here r.sits ∙ over_line r.who b d n,
             record {
               regs = h.regs;
               mem = ends.is_mem ∙ k.mem ∙ q.0.mem;

@@ -54,9 +54,9 @@ meet_ready l s i e = go (cell_at s.cells i) refl e
     go None f e = absurd (cc)
     go (Some c) f e = inner c c.passenger c.packet f refl refl e
 
-pub next-meet : (l : Plan) (s : State) (i : ℕ) (c : Cell) (p : Passenger) (k : Packet) → cell_at s.cells i ≡ Some c → c.passenger ≡ Some p → c.packet ≡ Some k → moved l s (Meet i) ≡ with_cell s i (cell_met c p k)
+pub next_meet : (l : Plan) (s : State) (i : ℕ) (c : Cell) (p : Passenger) (k : Packet) → cell_at s.cells i ≡ Some c → c.passenger ≡ Some p → c.packet ≡ Some k → moved l s (Meet i) ≡ with_cell s i (cell_met c p k)
 unfolding moved
-next-meet l s i c p k e f g = rw (e, f, g)
+next_meet l s i c p k e f g = rw (e, f, g)
 
 pub items_met : (i : ℕ) (p : Passenger) (o : Option Packet) → in_order (is_some o) (passenger_in i (Some p)) (packet_in i o) ≡ pathmeet.met_items i p o
 items_met i p None = refl
@@ -110,7 +110,7 @@ meet_kept {rest} {out} l s x i e h =
     let q = (meeting r.who r.what).passenger in
     let o = (meeting r.who r.what).packet in
     let p = meet_stretch s i r in
-    rw (next-meet l s i r.here r.who r.what r.at_here r.sits r.lies) (changed l s x (put_cell s.cells i (cell_met r.here r.who r.what)) p.above (Down i r.what ∷ Up i r.who ∷ []) (pathmeet.met_items i q o) p.below p.was p.is p.size (λ k. record {
+    rw (next_meet l s i r.here r.who r.what r.at_here r.sits r.lies) (changed l s x (put_cell s.cells i (cell_met r.here r.who r.what)) p.above (Down i r.what ∷ Up i r.who ∷ []) (pathmeet.met_items i q o) p.below p.was p.is p.size (λ k. record {
       path = record { fit = pathmeet.meet_fits (isa_of l) i r.who r.what _; follows = pathmeet.meet_walk (isa_of l) i r.who r.what _ };
       lone = lones.meet_lone l i r.who r.what _ k.stands.0;
       stands = met_stands l i q o (meet_rider l i r.who r.what k.stands.0);

@@ -11,12 +11,12 @@ use Rattle.cf_refinement.proofs.walks.Returning.{back, back_dead, back_finished,
 use Rattle.cf_refinement.proofs.column.Change.{docked, ends_port, here, past_safe, reshaped, walk_safe}
 use Rattle.cf_refinement.proofs.walks.Finishing.{finish_dead, finish_flags, finish_kind, finish_lone, finish_port, finish_shuts, finish_turned, plain_quiet}
 use Rattle.cf_refinement.proofs.moves.Execute.{goes_straight, sure_finishes}
-use Rattle.cf_refinement.proofs.column.Fold.{Replaces, fit_append, fit_back, fit_follows, fit_front, prefaced, walk-append, walk_follows}
+use Rattle.cf_refinement.proofs.column.Fold.{Replaces, fit_append, fit_back, fit_follows, fit_front, prefaced, walk_append, walk_follows}
 use Rattle.cf_refinement.proofs.moves.Rows.{bar_row, put_size}
 use Rattle.cf_refinement.proofs.moves.Launch.{in_port}
 use Rattle.cf_refinement.proofs.walks.Loading.{loaded_calm, loaded_shuts, memory_finishes, memory_goes}
 use Rattle.cf_refinement.proofs.walks.PathFinish.{Finishes, finish_fits, finish_walk, pc_stays}
-use Rattle.cf_refinement.proofs.moves.Recovering.{Recovers, back_moored, hauls, next-recover, recover_ready}
+use Rattle.cf_refinement.proofs.moves.Recovering.{Recovers, back_moored, hauls, next_recover, recover_ready}
 use Rattle.cf_refinement.proofs.column.Sidings.{last_answer, last_set, plain_last, put_here, put_other}
 use Rattle.cf_refinement.proofs.column.Spot.{spot}
 use Rattle.cf_refinement.proofs.invariant.Invariant.{Sound}
@@ -246,14 +246,14 @@ memory_kept {rest} {out} l s x i a acc r m ans h =
     let fd = loaded_port (isa_of l) i p u a m d r.out r.never guess e at fw (past_safe (isa_of l) (Up i f) (record u { answer = None }) y.safe) in
     let fits = rw q.was at h.port_fit in
     let tail = fit_back _ (dock.Fits (isa_of l)) (dock.past (isa_of l)) old q.below u (fit_back _ (dock.Fits (isa_of l)) (dock.past (isa_of l)) q.above (old ++ q.below) w0 fits) in
-    let ends = rw (q.was, walk-append (dock.past (isa_of l)) q.above (old ++ q.below) w0) at h.port_ends in
+    let ends = rw (q.was, walk_append (dock.past (isa_of l)) q.above (old ++ q.below) w0) at h.port_ends in
     reshaped l s t x q.above old new q.below q.was (q.is f) (record { regs = refl; lane = refl; fetch = refl; cache = refl; size = put_size s.cells i (with_passenger r.here f) })
     rp
     (prefaced _ lone.Fits (lone.past l) lones.Follows (Up i p) (Up i b) new _ (back_lone_fits i p _) (back_lone l i p _) (put_lone l i b f _ (loaded_shuts l i b a m guess)))
     (back_finished l i p (Some a) d r.out (behind_here l p k i r.siding r.at_stage) (memory_quiet p m) y.stands.0, tt)
     (record {
       fit = rw (q.is f, top) (fit_append _ (dock.Fits (isa_of l)) (dock.past (isa_of l)) q.above (new ++ q.below) _ (fit_landed (isa_of l) q.above w0 None land (fit_front _ (dock.Fits (isa_of l)) (dock.past (isa_of l)) q.above (old ++ q.below) w0 fits)) (subst (λ (z : dock.Dock). Everywhere (dock.Fits (isa_of l)) (dock.past (isa_of l)) (new ++ q.below) z) (sym above) (loaded_fits (isa_of l) i p u a m r.out d y.port_fit.0, fit_follows _ (dock.Fits (isa_of l)) (dock.past (isa_of l)) ports.Follows (ports.port_walk (isa_of l)) q.below _ _ fd tail)));
-      ends = rw (q.is f, top) (subst (λ (z : dock.Dock). dock.Ends z s.mem rest out) (sym (walk-append (dock.past (isa_of l)) q.above (new ++ q.below) (record w0 { answer = None }) ∙ ap (λ (z : dock.Dock). walk (dock.past (isa_of l)) (new ++ q.below) z) above)) (ends_port _ _ s.mem rest out (walk_follows _ (dock.Fits (isa_of l)) (dock.past (isa_of l)) ports.Follows (ports.port_walk (isa_of l)) q.below _ _ fd tail) ends));
+      ends = rw (q.is f, top) (subst (λ (z : dock.Dock). dock.Ends z s.mem rest out) (sym (walk_append (dock.past (isa_of l)) q.above (new ++ q.below) (record w0 { answer = None }) ∙ ap (λ (z : dock.Dock). walk (dock.past (isa_of l)) (new ++ q.below) z) above)) (ends_port _ _ s.mem rest out (walk_follows _ (dock.Fits (isa_of l)) (dock.past (isa_of l)) ports.Follows (ports.port_walk (isa_of l)) q.below _ _ fd tail) ends));
     })
     (back_moored l s t i r q f g refl (q.is f) ((finish_flags b (Some a)).1) h.moored)
     h
@@ -267,7 +267,7 @@ in_live p o d = subst (λ (z : Bool). (if z then back p else finish (back p) o) 
 pub recover_kept : {rest out : List ℕ} (l : Plan) (s : State) (x : Machine) (i : ℕ) → Suits l → bar l s (Recover i) ≡ None → Sound l s rest out x → Sound l (moved l s (Recover i)) rest out x
 recover_kept {rest} {out} l s x i acc e h =
     let r = recover_ready l s i (bar_row l s (Recover i) e) in
-    rw (next-recover l s i r.here r.who r.number r.what r.at_here r.sits r.siding r.lies) (go r r.who.dead (is_memory (kind r.who)) r.what.answer refl refl refl)
+    rw (next_recover l s i r.here r.who r.number r.what r.at_here r.sits r.siding r.lies) (go r r.who.dead (is_memory (kind r.who)) r.what.answer refl refl refl)
   where
     go : (r : Recovers l s i) (d m : Bool) (o : Option ℕ) → r.who.dead ≡ d → is_memory (kind r.who) ≡ m → r.what.answer ≡ o → Sound l (with_siding (with_cell s i (with_passenger r.here (back_in r.who r.what.answer))) r.number (set_last (siding_at s r.number) None)) rest out x
     go r true m o d f g = rw (in_dead r.who r.what.answer d) (dead_kept l s x i acc r d h)

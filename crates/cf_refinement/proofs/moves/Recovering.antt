@@ -6,8 +6,8 @@ use Rattle.cf_bind.specs.declared.moves.Bar.TheVariants.{AlreadyDone, NoPassenge
 use Rattle.cf_bind.specs.declared.moves.Move.TheVariants.{Recover}
 use Rattle.cf_bind.specs.declared.passenger.Passenger.{Passenger}
 use Rattle.cf_layout.specs.Layout.{Plan, launch_stage, recover_stage, siding_of}
-use Rattle.cf_refinement.proofs.column.Change.{flown-append, flown_changed}
-use Rattle.cf_refinement.proofs.column.Flown.{operations-last}
+use Rattle.cf_refinement.proofs.column.Change.{flown_append, flown_changed}
+use Rattle.cf_refinement.proofs.column.Flown.{operations_last}
 use Rattle.cf_refinement.proofs.moves.Launch.{first_none}
 use Rattle.cf_refinement.proofs.column.Sidings.{berthed, flown_range, front_set_last, plain_set_last, rehung, set_last_size}
 use Rattle.cf_refinement.proofs.column.Sorted.{riders_more}
@@ -73,9 +73,9 @@ recover_ready l s i e = go (cell_at s.cells i) refl e
     go None f e = absurd (cc)
     go (Some c) f e = inner c c.passenger f refl e
 
-pub next-recover : (l : Plan) (s : State) (i : ℕ) (c : Cell) (p : Passenger) (k : ℕ) (op : Op) → cell_at s.cells i ≡ Some c → c.passenger ≡ Some p → siding_of l (kind p) ≡ Some k → last_op (siding_at s k) ≡ Some op → moved l s (Recover i) ≡ with_siding (with_cell s i (with_passenger c (back_in p op.answer))) k (set_last (siding_at s k) None)
+pub next_recover : (l : Plan) (s : State) (i : ℕ) (c : Cell) (p : Passenger) (k : ℕ) (op : Op) → cell_at s.cells i ≡ Some c → c.passenger ≡ Some p → siding_of l (kind p) ≡ Some k → last_op (siding_at s k) ≡ Some op → moved l s (Recover i) ≡ with_siding (with_cell s i (with_passenger c (back_in p op.answer))) k (set_last (siding_at s k) None)
 unfolding moved
-next-recover l s i c p k op e f g h = rw (e, f) (rw g (rw h refl))
+next_recover l s i c p k op e f g h = rw (e, f) (rw g (rw h refl))
 
 -- the siding's part: the last operation is that of the passenger
 pub record Hauls (l : Plan) (s : State) (i : ℕ) (r : Recovers l s i) (q : Spot s i r.here r.who) : Type 0 where
@@ -99,8 +99,8 @@ hauls {rest} {out} l s x i acc r q h =
     let n = berthed l acc s (column s) k h.moored (kind p) r.siding in
     let each = rw q.was at h.stands in
     let none = flown_range l k q.above (riders_more (λ j. i < j) (λ j. (launch_stage l k ≤ j) → (j ≤ recover_stage l k) → ⊥) q.above (λ j a b c. omega (arith, r.at_stage)) q.over) (each_front l q.above (old ++ q.below) each) in
-    let was : operations_of l k (column s) ≡ operation p ∷ operations_of l k q.below = ap (operations_of l k) q.was ∙ flown-append l k q.above (old ++ q.below) ∙ ap (λ (z : List Op). z ++ operations_of l k (old ++ q.below)) none ∙ first_out l k i p q.below (out_here l k p r.siding r.out r.never) in
-    let both : as_launched (Some r.what) ++ operations_in (set_last (siding_at s k) None) ≡ operation p ∷ operations_of l k q.below = sym (operations-last (siding_at s k) r.what r.lies) ∙ h.moored.operations k ∙ was in
+    let was : operations_of l k (column s) ≡ operation p ∷ operations_of l k q.below = ap (operations_of l k) q.was ∙ flown_append l k q.above (old ++ q.below) ∙ ap (λ (z : List Op). z ++ operations_of l k (old ++ q.below)) none ∙ first_out l k i p q.below (out_here l k p r.siding r.out r.never) in
+    let both : as_launched (Some r.what) ++ operations_in (set_last (siding_at s k) None) ≡ operation p ∷ operations_of l k q.below = sym (operations_last (siding_at s k) r.what r.lies) ∙ h.moored.operations k ∙ was in
     let two = halves (record r.what { answer = None }) (operation p) (operations_in (set_last (siding_at s k) None)) (operations_of l k q.below) both in
     record { cells = n.0; size = n.1; op = ap (λ (z : Op). z ∷ []) two.0; rest = two.1; above = none }
   where
@@ -117,7 +117,7 @@ back_moored l s t i r q b g e is v h =
     let p = r.who in
     let old = Up i p ∷ [] in
     let new = Up i b ∷ [] in
-    let is_flown : operations_of l k (column t) ≡ operations_of l k q.below = ap (operations_of l k) is ∙ flown-append l k q.above (new ++ q.below) ∙ ap (λ (z : List Op). z ++ operations_of l k (new ++ q.below)) g.above ∙ gone l k i b q.below v in
+    let is_flown : operations_of l k (column t) ≡ operations_of l k q.below = ap (operations_of l k) is ∙ flown_append l k q.above (new ++ q.below) ∙ ap (λ (z : List Op). z ++ operations_of l k (new ++ q.below)) g.above ∙ gone l k i b q.below v in
     rehung l s t (column s) (column t) k (set_last (siding_at s k) None) e g.cells g.size (set_last_size (siding_at s k) None) (g.rest ∙ sym is_flown) (λ j a. ap (operations_of l j) q.was ∙ flown_changed l j q.above old new q.below (other j a) ∙ ap (operations_of l j) (sym is)) (front_set_last (siding_at s k) None (h.front k)) (λ a. plain_set_last (siding_at s k) (h.plain k a)) h
   where
     gone : (l : Plan) (k i : ℕ) (b : Passenger) (xs : List Item) → b.recovered ≡ true → operations_of l k ((Up i b ∷ []) ++ xs) ≡ operations_of l k xs

@@ -54,9 +54,9 @@ send_ready l s i e = go (cell_at s.cells i) refl e
     go None f e = absurd (cc)
     go (Some c) f e = inner c c.passenger f refl e
 
-pub next-send : (l : Plan) (s : State) (i : ℕ) (c : Cell) (p : Passenger) (k : Packet) → cell_at s.cells i ≡ Some c → c.passenger ≡ Some p → p.owes ≡ Some k → moved l s (Send i) ≡ with_cell s i (record { passenger = Some (record p { owes = None }); packet = Some k; met = true })
+pub next_send : (l : Plan) (s : State) (i : ℕ) (c : Cell) (p : Passenger) (k : Packet) → cell_at s.cells i ≡ Some c → c.passenger ≡ Some p → p.owes ≡ Some k → moved l s (Send i) ≡ with_cell s i (record { passenger = Some (record p { owes = None }); packet = Some k; met = true })
 unfolding moved
-next-send l s i c p k e f g = rw (e, f, g)
+next_send l s i c p k e f g = rw (e, f, g)
 
 send_port : (isa : Isa) (i : ℕ) (p : Passenger) (k : Packet) (w : dock.Dock) → p.owes ≡ Some k → (w.path.barred ≡ true → w.risky ≡ true) → Everywhere (sure.Fits isa) (trail.past isa) (Up i p ∷ []) w.path → Replaces dock.Dock (dock.Fits isa) (dock.past isa) ports.Follows (Up i p ∷ []) (Up i (record p { owes = None }) ∷ Down i k ∷ []) w
 send_port isa i p k w e s f = record { fit = portmoves.send_fits isa i p k w e; follows = portmoves.send_walk isa i p k w e s (paths.send_walk isa i p k w.path e f) }
@@ -73,7 +73,7 @@ send_kept {rest} {out} l s x i e h =
     let q : Passenger = record r.who { owes = None } in
     let d : Cell = record { passenger = Some q; packet = Some r.what; met = true } in
     let p = send_stretch s i r in
-    rw (next-send l s i r.here r.who r.what r.at_here r.sits r.owes) (changed l s x (put_cell s.cells i d) p.above (Up i r.who ∷ []) (Up i q ∷ Down i r.what ∷ []) p.below p.was p.is p.size (λ k. record {
+    rw (next_send l s i r.here r.who r.what r.at_here r.sits r.owes) (changed l s x (put_cell s.cells i d) p.above (Up i r.who ∷ []) (Up i q ∷ Down i r.what ∷ []) p.below p.was p.is p.size (λ k. record {
       path = record { fit = paths.send_fits (isa_of l) i r.who r.what _ r.owes; follows = paths.send_walk (isa_of l) i r.who r.what _ r.owes };
       lone = lones.send_lone l i r.who r.what _ r.owes k.stands.0;
       stands = (send_stands l i r.who k.stands.0, tt);

@@ -10,7 +10,7 @@ use Rattle.cf_refinement.proofs.column.Change.{flown_changed, reshaped}
 use Rattle.cf_refinement.proofs.column.Column.{rider_first, rider_put, top_cell}
 use Rattle.cf_refinement.proofs.column.Fold.{Replaces}
 use Rattle.cf_refinement.proofs.moves.Rows.{bar_row, put_size}
-use Rattle.cf_refinement.proofs.walks.PathServe.{after_call, l3_served, quit_sure, served_sure}
+use Rattle.cf_refinement.proofs.walks.PathServe.{after_call, served_steps, quit_sure, served_sure}
 use Rattle.cf_refinement.proofs.walks.Quiet.{Unchanged}
 use Rattle.cf_refinement.proofs.invariant.Invariant.{Sound}
 use Rattle.cf_refinement.proofs.invariant.Stands.{Between, Stands}
@@ -64,9 +64,9 @@ serve_ready l s e = go (cell_at s.cells l.stages) refl e
     go None f e = absurd (cc)
     go (Some c) f e = inner c c.passenger f refl e
 
-pub next-serve : (l : Plan) (m : Moment) (c : Cell) (p : Passenger) (a : Called) → cell_at m.state.cells l.stages ≡ Some c → c.passenger ≡ Some p → serve_of (instruction p) m.state.regs m.state.mem m.rest ≡ a → next l m Serve ≡ served m l.stages c p a
+pub next_serve : (l : Plan) (m : Moment) (c : Cell) (p : Passenger) (a : Called) → cell_at m.state.cells l.stages ≡ Some c → c.passenger ≡ Some p → serve_of (instruction p) m.state.regs m.state.mem m.rest ≡ a → next l m Serve ≡ served m l.stages c p a
 unfolding next
-next-serve l m c p a e f g = rw (e, f, g) refl
+next_serve l m c p a e f g = rw (e, f, g) refl
 
 abbrev pub quit : Passenger → ℕ → Passenger
 quit p e = record p { done = true; ending = Some (Exit e) }
@@ -271,7 +271,7 @@ scene {rest} {out} l s x r h =
 
 pub sure_step : (isa : Isa) (p : Passenger) (w : trail.Walk) (a : Answer) → kind p ≡ Serial → serve_of (instruction p) w.machine.hart.regs w.machine.hart.mem w.machine.rest ≡ called.Value a → sure.SureAt isa p w → step_at isa w.machine p.pc ≡ Goes (after_call w.machine (instruction p) p.pc a)
 unfolding sure.SureAt
-sure_step isa p w a k e h = l3_served isa p w.machine w.goto a k e h.0
+sure_step isa p w a k e h = served_steps isa p w.machine w.goto a k e h.0
 
 abbrev SoundAt : Plan → Moment → Machine → Type 0
 SoundAt l m x = Sound l m.state m.rest m.output x
@@ -319,4 +319,4 @@ serve_kept l m x acc e h =
     let c = scene l m.state x r h in
     let a = serve_of (instruction r.who) m.state.regs m.state.mem m.rest in
     let f : serve_of (instruction r.who) x.hart.regs x.hart.mem x.rest ≡ a = rw (← h.regs, ← c.mem, ← c.input) refl in
-    rw (next-serve l m r.here r.who a r.at_here r.sits refl) (serve_by l acc m x r a c f h)
+    rw (next_serve l m r.here r.who a r.at_here r.sits refl) (serve_by l acc m x r a c f h)

@@ -4,7 +4,7 @@ use Rattle.std.specs.Prelude.{slice_get, slice_set}
 use Rattle.cf_bind.specs.declared.cell.Op.{Op}
 use Rattle.cf_bind.specs.declared.moves.Move.TheVariants.{Slide}
 use Rattle.cf_layout.specs.Layout.{Plan}
-use Rattle.cf_refinement.proofs.column.Flown.{operations-slide}
+use Rattle.cf_refinement.proofs.column.Flown.{operations_slide}
 use Rattle.cf_refinement.proofs.moves.Rows.{bar_row}
 use Rattle.cf_refinement.proofs.column.Sidings.{answer_here, front_cons, last_answer, last_cons, rehung, some_cells, top_same}
 use Rattle.cf_refinement.proofs.invariant.Invariant.{Sound}
@@ -35,9 +35,9 @@ slide_ready l s k c e = go (slice_get (siding_at s k) c) (slice_get (siding_at s
     go (Some None) (Some b) f g e = absurd (let e' = rw (add-one, g, f) at e in cc)
     go (Some (Some o)) (Some (Some b)) f g e = absurd (let e' = rw (add-one, g, f) at e in cc)
 
-pub next-slide : (l : Plan) (s : State) (k c : ℕ) (op : Op) → slice_get (siding_at s k) c ≡ Some (Some op) → moved l s (Slide k c) ≡ with_siding s k (slice_set (slice_set (siding_at s k) c None) (suc c) (Some op))
+pub next_slide : (l : Plan) (s : State) (k c : ℕ) (op : Op) → slice_get (siding_at s k) c ≡ Some (Some op) → moved l s (Slide k c) ≡ with_siding s k (slice_set (slice_set (siding_at s k) c None) (suc c) (Some op))
 unfolding moved
-next-slide l s k c op e = rw (e, add-one) refl
+next_slide l s k c op e = rw (e, add-one) refl
 
 pub slide_size : (l : List (Option Op)) (c : ℕ) (op : Op) → length (slice_set (slice_set l c None) (suc c) (Some op)) ≡ length l
 slide_size l c op = length-set (slice_set l c None) (suc c) (Some op) ∙ length-set l c None
@@ -72,7 +72,7 @@ slide_kept {rest} {out} l s x k c e h =
     let n = some_cells old c (Some r.what) r.here in
     let t : State = with_siding s k new in
     let top = top_same l s t x refl (answer_here l s t k new n.0 refl n.1 (λ _. slide_answer old c r.what r.here r.there (h.moored.front k))) in
-    rw (next-slide l s k c r.what r.here) (beside l s x t.sidings t.mem (record {
+    rw (next_slide l s k c r.what r.here) (beside l s x t.sidings t.mem (record {
       fit = subst (λ (w : dock.Dock). Everywhere (dock.Fits (isa_of l)) (dock.past (isa_of l)) (column s) w) (sym top) h.port_fit;
       ends = subst (λ (w : dock.Dock). dock.Ends (walk (dock.past (isa_of l)) (column s) w) s.mem rest out) (sym top) h.port_ends;
-    }) (rehung l s t (column s) (column s) k new refl n.0 n.1 (slide_size old c r.what) (operations-slide old c r.what r.here r.there ∙ h.moored.operations k) (λ j a. refl) (slide_front old c r.what r.here (h.moored.front k)) (λ a. slide_plain old c r.what r.here (h.moored.plain k a)) h.moored) h)
+    }) (rehung l s t (column s) (column s) k new refl n.0 n.1 (slide_size old c r.what) (operations_slide old c r.what r.here r.there ∙ h.moored.operations k) (λ j a. refl) (slide_front old c r.what r.here (h.moored.front k)) (λ a. slide_plain old c r.what r.here (h.moored.plain k a)) h.moored) h)

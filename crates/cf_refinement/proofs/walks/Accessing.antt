@@ -5,7 +5,7 @@ use Rattle.std.proofs.Common.{◌≡◌, ℕ, List, [], ◌∷◌, ◌++◌, Opt
 use Rattle.cf_bind.specs.declared.passenger.End.{End}
 use Rattle.cf_bind.specs.declared.passenger.Passenger.{Passenger}
 use Rattle.cf_refinement.proofs.walks.Answering.{Landed, fit_landed, past_mem, walk_landed}
-use Rattle.cf_refinement.proofs.column.Fold.{fit_append, fit_back, fit_front, walk-append}
+use Rattle.cf_refinement.proofs.column.Fold.{fit_append, fit_back, fit_front, walk_append}
 use Rattle.cf_refinement.proofs.instructions.Steps.{step_is}
 use Rattle.cf_refinement.proofs.invariant.Port.{Dock, DockedAt, Fits, past}
 use Rattle.cf_semantics.specs.Ahead.{flies, has_ported}
@@ -75,12 +75,12 @@ access_fits isa i p above below w a la wa d f e n h =
     let step = at_port isa i p u a d f e in
     let rest : Everywhere (Fits isa) (past isa) below (past isa (Up i p) (record u { answer = Some a })) = subst (λ (v : Dock). Everywhere (Fits isa) (past isa) below v) (sym step) (fit_waiting isa below (past isa (Up i p) u) m wa none back.1) in (
       fit_append Dock (Fits isa) (past isa) above (Up i p ∷ below) (record w { answer = Some a }) (fit_landed isa above w (Some a) la (fit_front Dock (Fits isa) (past isa) above _ w h)) (subst (λ (v : Dock). Everywhere (Fits isa) (past isa) (Up i p ∷ below) v) (sym top) (here, rest)),
-      walk-append (past isa) above (Up i p ∷ below) (record w { answer = Some a }) ∙ ap (λ (v : Dock). walk (past isa) (Up i p ∷ below) v) top ∙ ap (λ (v : Dock). walk (past isa) below v) step ∙ walk_waiting isa below (past isa (Up i p) u) m wa none ∙ ap (λ (v : Dock). record v { mem = m }) (sym (walk-append (past isa) above (Up i p ∷ below) w)),
+      walk_append (past isa) above (Up i p ∷ below) (record w { answer = Some a }) ∙ ap (λ (v : Dock). walk (past isa) (Up i p ∷ below) v) top ∙ ap (λ (v : Dock). walk (past isa) below v) step ∙ walk_waiting isa below (past isa (Up i p) u) m wa none ∙ ap (λ (v : Dock). record v { mem = m }) (sym (walk_append (past isa) above (Up i p ∷ below) w)),
     )
 
 -- the second law: a permitted access
 memory_step : (o : Option End) (n m : Machine) → o ≡ None → (behind (on o (Goes n) Stops) m) ≡ n
 memory_step o n m e = rw e
 
-pub l2_mem : (isa : Isa) (p : Passenger) (x : Machine) (i : Instr) → fetched isa x.hart.mem p.pc ≡ Got i → kind_of i ≡ Memory → access_trap i p.pc (value_read x.hart.regs (src1_of i)) (bounds_of x.hart.mem) ≡ None → (behind (step_at isa x p.pc) x).hart.mem ≡ mem_after i (value_read x.hart.regs (src1_of i)) (value_read x.hart.regs (src2_of i)) x.hart.mem
-l2_mem isa p x i f c t = rw (step_is isa x p.pc i f, c, t)
+pub memory_after : (isa : Isa) (p : Passenger) (x : Machine) (i : Instr) → fetched isa x.hart.mem p.pc ≡ Got i → kind_of i ≡ Memory → access_trap i p.pc (value_read x.hart.regs (src1_of i)) (bounds_of x.hart.mem) ≡ None → (behind (step_at isa x p.pc) x).hart.mem ≡ mem_after i (value_read x.hart.regs (src1_of i)) (value_read x.hart.regs (src2_of i)) x.hart.mem
+memory_after isa p x i f c t = rw (step_is isa x p.pc i f, c, t)

@@ -23,13 +23,13 @@ keep_holds c regs r v e h q u f = go (set_cached c r q u (Some v) f)
     go (inl a) = let z : v ≡ u = cc in rw a.0 (sym z ∙ e)
     go (inr a) = h q u a.1
 
-pub cached-cleared : (c : List (Option ℕ)) (r : ℕ) → cached (cleared c) r ≡ None
-cached-cleared [] r = refl
-cached-cleared (o ∷ c) zero = refl
-cached-cleared (o ∷ c) (suc r) = cached-cleared c r
+pub cached_cleared : (c : List (Option ℕ)) (r : ℕ) → cached (cleared c) r ≡ None
+cached_cleared [] r = refl
+cached_cleared (o ∷ c) zero = refl
+cached_cleared (o ∷ c) (suc r) = cached_cleared c r
 
 pub clear_holds : (c : List (Option ℕ)) (regs : List ℕ) → AreRegisters (cleared c) regs
-clear_holds c regs r v e = let z = cached-cleared c r in absurd (cc)
+clear_holds c regs r v e = let z = cached_cleared c r in absurd (cc)
 
 -- a new destination is forgotten, and the other registers stay
 pub forget_holds : (c : List (Option ℕ)) (d : Option ℕ) (regs news : List ℕ) → ((r : ℕ) → d ≢ Some r → slice_index news r ≡ slice_index regs r) → AreRegisters c regs → AreRegisters (forgets d c) news

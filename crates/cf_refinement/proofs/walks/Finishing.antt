@@ -10,7 +10,7 @@ use Rattle.cf_layout.specs.Layout.{Plan}
 use Rattle.cf_refinement.proofs.column.Change.{walk_path, walk_safe}
 use Rattle.cf_refinement.proofs.column.Fold.{Replaces}
 use Rattle.cf_refinement.proofs.walks.PathFinish.{Finishes, source_read}
-use Rattle.cf_refinement.proofs.instructions.Steps.{l1, straight_next, straight_trap}
+use Rattle.cf_refinement.proofs.instructions.Steps.{plain_steps, straight_next, straight_trap}
 use Rattle.cf_refinement.proofs.invariant.Stands.{Stands}
 use Rattle.cf_refinement.proofs.invariant.Suited.{is_plain}
 use Rattle.cf_semantics.specs.Column.{Up}
@@ -43,7 +43,7 @@ execute_finishes isa p x g d m1 m2 c h = go (fetched isa x.hart.mem p.pc) refl h
         let k : kind p ≡ kind_of i = ap (λ (o : Option Instr). on o Free kind_of) w in
         let a = source_read p.src1 (src1_of i) x.hart.regs (h.shape i w).one h.values.first m1 in
         let b = source_read p.src2 (src2_of i) x.hart.regs (h.shape i w).two h.values.second m2 in
-        let s : step_at isa x p.pc ≡ on (finish_trap (instruction p) p.pc (value_in p.src1) (value_in p.src2)) (Goes (onward (at_pc x p.pc) (next_pc (instruction p) p.pc (value_in p.src1) (value_in p.src2)) (value_written x.hart.regs (dst_of (instruction p)) (value_of (instruction p) p.pc (value_in p.src1) (value_in p.src2))) x.hart.mem)) Stops = rw (is, a, b) (l1 isa x p.pc i f (rw k at c)) in
+        let s : step_at isa x p.pc ≡ on (finish_trap (instruction p) p.pc (value_in p.src1) (value_in p.src2)) (Goes (onward (at_pc x p.pc) (next_pc (instruction p) p.pc (value_in p.src1) (value_in p.src2)) (value_written x.hart.regs (dst_of (instruction p)) (value_of (instruction p) p.pc (value_in p.src1) (value_in p.src2))) x.hart.mem)) Stops = rw (is, a, b) (plain_steps isa x p.pc i f (rw k at c)) in
         record {
           what = w ∙ ap Some (sym is);
           goes = λ e. (onward (at_pc x p.pc) (next_pc (instruction p) p.pc (value_in p.src1) (value_in p.src2)) (value_written x.hart.regs (dst_of (instruction p)) (value_of (instruction p) p.pc (value_in p.src1) (value_in p.src2))) x.hart.mem, s ∙ rw e, record { pc = refl; regs = refl });

@@ -30,11 +30,11 @@ pub among_back : (r : ℕ) (xs ys : List ℕ) → among r ys ≡ true → among 
 among_back r [] ys e = e
 among_back r (x ∷ xs) ys e = grind (arith, among_back r xs ys e)
 
-asked1 : (a b : Option ℕ) (r : ℕ) → a ≡ Some r → among r (both a b) ≡ true
-asked1 a b r e = rw e (grind arith)
+asked_first : (a b : Option ℕ) (r : ℕ) → a ≡ Some r → among r (both a b) ≡ true
+asked_first a b r e = rw e (grind arith)
 
-asked2 : (a b : Option ℕ) (r : ℕ) → b ≡ Some r → among r (both a b) ≡ true
-asked2 a b r e = rw e (grind arith)
+asked_second : (a b : Option ℕ) (r : ℕ) → b ≡ Some r → among r (both a b) ≡ true
+asked_second a b r e = rw e (grind arith)
 
 source_reg : (c : List (Option ℕ)) (o : Option ℕ) → reg_in (source c o) ≡ o
 source_reg c o = grind arith
@@ -150,7 +150,7 @@ fresh_at isa w c pc g h p a =
     let q = fetched isa w.machine.hart.mem pc in
     let n = fresh c q pc g in
     let s = fetched_sure isa q c w.machine pc g w.goto h p refl in
-    (subst (λ (a : ℕ). IsSure isa n w.machine (step_at isa w.machine a) w.goto) (sym (fresh_pc q c pc g)) s, record { source1 = λ r e. a r (asked1 (missing n.src1) (missing n.src2) r e); source2 = λ r e. a r (asked2 (missing n.src1) (missing n.src2) r e) })
+    (subst (λ (a : ℕ). IsSure isa n w.machine (step_at isa w.machine a) w.goto) (sym (fresh_pc q c pc g)) s, record { source1 = λ r e. a r (asked_first (missing n.src1) (missing n.src2) r e); source2 = λ r e. a r (asked_second (missing n.src1) (missing n.src2) r e) })
 
 class_what : (k : Class) (c : List (Option ℕ)) (i : Instr) (pc : ℕ) (g : Guess) → (fresh_as k c i pc g).what ≡ Some i
 class_what Free c i pc g = go (free_trap i pc)

@@ -4,8 +4,8 @@ use Rattle.cf_bind.specs.declared.passenger.End.{End}
 use Rattle.cf_bind.specs.declared.passenger.Guess.TheVariants.{Next}
 use Rattle.cf_bind.specs.declared.passenger.Passenger.{Passenger}
 use Rattle.cf_layout.specs.Layout.{Plan}
-use Rattle.cf_refinement.proofs.instructions.Memory.{after_access, l2}
-use Rattle.cf_refinement.proofs.instructions.Steps.{kind_is, l1, straight_next, straight_trap}
+use Rattle.cf_refinement.proofs.instructions.Memory.{after_access, memory_steps}
+use Rattle.cf_refinement.proofs.instructions.Steps.{kind_is, plain_steps, straight_next, straight_trap}
 use Rattle.cf_refinement.proofs.invariant.Stands.{Stands}
 use Rattle.cf_refinement.proofs.invariant.Suited.{is_plain}
 use Rattle.cf_semantics.specs.Column.{Up}
@@ -42,7 +42,7 @@ done_on isa p w d e h = record { goes = h.0.values.goes d e; next = at (h.0.valu
 -- a memory operation that memory permits
 memory_step : (isa : Isa) (p : Passenger) (w : trail.Walk) → is_memory (kind p) ≡ true → missing p.src1 ≡ None → missing p.src2 ≡ None → access_trap (instruction p) p.pc (value_in p.src1) (bounds_of w.machine.hart.mem) ≡ None → sure.SureAt isa p w → step_at isa w.machine p.pc ≡ Goes (after_access w.machine (instruction p) p.pc (value_in p.src1) (value_in p.src2))
 unfolding sure.SureAt
-memory_step isa p w m m1 m2 t h = let q = l2 isa p w.machine w.goto m m1 m2 h.0 in rw t at q.1
+memory_step isa p w m m1 m2 t h = let q = memory_steps isa p w.machine w.goto m m1 m2 h.0 in rw t at q.1
 
 memory_goto : (p : Passenger) → is_memory (kind p) ≡ true → p.done ≡ false → p.guess ≡ Next → goto p ≡ Some (word_after p.pc)
 memory_goto p m d g = grind arith
@@ -64,7 +64,7 @@ plain_on isa p w c k d g h = go (fetched isa w.machine.hart.mem p.pc) refl h.0.r
         let k' : is_control (kind_of i) ≡ false = rw (kind_is p i r) at k in
         let a = value_read w.machine.hart.regs (src1_of i) in
         let b = value_read w.machine.hart.regs (src2_of i) in
-        let s = l1 isa w.machine p.pc i f c' ∙ ap (λ (o : Option End). on o (Goes (onward (at_pc w.machine p.pc) (next_pc i p.pc a b) (value_written w.machine.hart.regs (dst_of i) (value_of i p.pc a b)) w.machine.hart.mem)) Stops) (straight_trap i p.pc a b k') in
+        let s = plain_steps isa w.machine p.pc i f c' ∙ ap (λ (o : Option End). on o (Goes (onward (at_pc w.machine p.pc) (next_pc i p.pc a b) (value_written w.machine.hart.regs (dst_of i) (value_of i p.pc a b)) w.machine.hart.mem)) Stops) (straight_trap i p.pc a b k') in
         step_on (step_at isa w.machine p.pc) w.machine (onward (at_pc w.machine p.pc) (next_pc i p.pc a b) (value_written w.machine.hart.regs (dst_of i) (value_of i p.pc a b)) w.machine.hart.mem) (goto p) s (straight ∙ ap Some (sym (straight_next i p.pc a b k')))
     go (Bad b) f r = absurd (let z = h.0.unended d in let y = r.1 in cc)
 

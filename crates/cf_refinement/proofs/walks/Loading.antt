@@ -7,7 +7,7 @@ use Rattle.cf_bind.specs.declared.passenger.Guess.TheVariants.{Next}
 use Rattle.cf_bind.specs.declared.passenger.Passenger.{Passenger}
 use Rattle.cf_layout.specs.Layout.{Plan}
 use Rattle.cf_refinement.proofs.walks.Finishing.{finish_done, finish_kind}
-use Rattle.cf_refinement.proofs.instructions.Memory.{after_access, l2}
+use Rattle.cf_refinement.proofs.instructions.Memory.{after_access, memory_steps}
 use Rattle.cf_refinement.proofs.walks.PathFinish.{Finishes}
 use Rattle.cf_refinement.proofs.instructions.Steps.{sure_dst_below, kind_is, straight_next, straight_trap}
 use Rattle.cf_semantics.specs.Column.{Up}
@@ -33,7 +33,7 @@ answers_write (Some q) d v a regs l b e h =
 
 pub memory_finishes : (isa : Isa) (p : Passenger) (x : Machine) (g : Option ℕ) (a : ℕ) → length x.hart.regs ≡ 32 → is_memory (kind p) ≡ true → missing p.src1 ≡ None → missing p.src2 ≡ None → access_trap (instruction p) p.pc (value_in p.src1) (bounds_of x.hart.mem) ≡ None → IsAnswer p.dst (behind (step_at isa x p.pc) x).hart.regs a → sure.IsSure isa p x (step_at isa x p.pc) g → Finishes p x (step_at isa x p.pc) (Some a)
 memory_finishes isa p x g a l m m1 m2 t n h =
-    let q = l2 isa p x g m m1 m2 h in
+    let q = memory_steps isa p x g m m1 m2 h in
     let s : step_at isa x p.pc ≡ Goes (after_access x (instruction p) p.pc (value_in p.src1) (value_in p.src2)) = rw t at q.1 in
     let k : is_control (kind_of (instruction p)) ≡ false = ap is_control (sym (kind_is p (instruction p) q.0)) ∙ memory_straight p m in
     let y : IsAnswer p.dst (after_access x (instruction p) p.pc (value_in p.src1) (value_in p.src2)).hart.regs a = rw s at n in

@@ -4,7 +4,7 @@ use Rattle.cf_bind.specs.Meeting.{meeting}
 use Rattle.cf_bind.specs.declared.packet.Packet.{Packet}
 use Rattle.cf_bind.specs.declared.passenger.Passenger.{Passenger}
 use Rattle.cf_layout.specs.Layout.{Plan}
-use Rattle.cf_refinement.proofs.column.Fold.{Is_walk, Replaces}
+use Rattle.cf_refinement.proofs.column.Fold.{IsWalk, Replaces}
 use Rattle.cf_refinement.proofs.walks.PathMeet.{met_items}
 use Rattle.cf_refinement.proofs.invariant.Lone.{Fits, past}
 use Rattle.cf_refinement.proofs.invariant.Stands.{Stands}
@@ -22,7 +22,7 @@ past_follows : (l : Plan) (i : Item) (w v : Bool) → Follows w v → Fits i w �
 unfolding past
 past_follows l i w v f h = grind arith
 
-pub lone_walk : (l : Plan) → Is_walk Bool Fits (past l) Follows
+pub lone_walk : (l : Plan) → IsWalk Bool Fits (past l) Follows
 lone_walk l = record { stays = item_follows; goes_on = past_follows l }
 
 pub climb_lone : (l : Plan) (i j : ℕ) (p : Passenger) (w : Bool) → is_some p.owes ≡ false → Replaces Bool Fits (past l) Follows (Up i p ∷ []) (Up j p ∷ []) w

@@ -2,7 +2,7 @@
 use Rattle.std.proofs.Common.{◌≡◌, ℕ, [], ◌∷◌, Some, None, Bool, true, false, arith}
 use Rattle.cf_bind.specs.declared.packet.Packet.{Packet}
 use Rattle.cf_bind.specs.declared.passenger.Passenger.{Passenger}
-use Rattle.cf_refinement.proofs.column.Fold.{Is_walk}
+use Rattle.cf_refinement.proofs.column.Fold.{IsWalk}
 use Rattle.cf_refinement.proofs.invariant.Sure.{Fits, IsSourced, SureAt}
 use Rattle.cf_semantics.specs.Column.{Down, Item, Up}
 use Rattle.cf_semantics.specs.Path.{Walk, is_sure, past, past_packet, past_passenger}
@@ -52,7 +52,7 @@ unfolding past
 past_on isa (Up i p) w v f = past_rider_follows isa p w v f
 past_on isa (Down i k) w v f = past_packet_follows k w v f
 
-pub path_walk : (isa : Isa) → Is_walk Walk (Fits isa) (past isa) Follows
+pub path_walk : (isa : Isa) → IsWalk Walk (Fits isa) (past isa) Follows
 path_walk isa = record { stays = item_follows isa; goes_on = past_follows isa }
 
 -- Send

@@ -43,11 +43,11 @@ owed_by : (o : Option Binding) (s : Bool) (n v : ℕ) (ending : Option End) → 
 owed_by o s n v ending e = grind arith
 
 -- a step that goes on, with the value v in the destination
-pub record Gives_on (x m : Machine) (d : Option ℕ) (n v : ℕ) : Type 0 where
+pub record GivesOn (x m : Machine) (d : Option ℕ) (n v : ℕ) : Type 0 where
   pub pc : m.hart.pc ≡ n
   pub regs : m.hart.regs ≡ value_written x.hart.regs d v
 
-finished_sure : (isa : Isa) (p : Passenger) (i : Instr) (x m : Machine) (s : Stepped) (g : Option ℕ) (n v : ℕ) → length x.hart.regs ≡ 32 → p.what ≡ Some i → p.done ≡ false → s ≡ Goes m → Gives_on x m (dst_of i) n v → IsSure isa p x s g → IsSure isa (finished p n v) x s g
+finished_sure : (isa : Isa) (p : Passenger) (i : Instr) (x m : Machine) (s : Stepped) (g : Option ℕ) (n v : ℕ) → length x.hart.regs ≡ 32 → p.what ≡ Some i → p.done ≡ false → s ≡ Goes m → GivesOn x m (dst_of i) n v → IsSure isa p x s g → IsSure isa (finished p n v) x s g
 finished_sure isa p i x m s g n v l w d e f h =
     let y : behind s x ≡ m = rw e in
     record {
@@ -96,7 +96,7 @@ trapped_sure isa p x s g e d i w f t h = record {
 -- what Finish comes to, for a passenger whose step it is
 pub record Finishes (p : Passenger) (x : Machine) (s : Stepped) (answer : Option ℕ) : Type 0 where
   pub what : p.what ≡ Some (instruction p)
-  pub goes : finish_trap (instruction p) p.pc (value_in p.src1) (value_in p.src2) ≡ None → (m : Machine) × (s ≡ Goes m) × Gives_on x m (dst_of (instruction p)) (next_pc (instruction p) p.pc (value_in p.src1) (value_in p.src2)) (on answer (value_of (instruction p) p.pc (value_in p.src1) (value_in p.src2)) (λ v. v))
+  pub goes : finish_trap (instruction p) p.pc (value_in p.src1) (value_in p.src2) ≡ None → (m : Machine) × (s ≡ Goes m) × GivesOn x m (dst_of (instruction p)) (next_pc (instruction p) p.pc (value_in p.src1) (value_in p.src2)) (on answer (value_of (instruction p) p.pc (value_in p.src1) (value_in p.src2)) (λ v. v))
   pub stops : (e : End) → finish_trap (instruction p) p.pc (value_in p.src1) (value_in p.src2) ≡ Some e → s ≡ Stops e
 
 finish_sure : (isa : Isa) (p : Passenger) (x : Machine) (s : Stepped) (g : Option ℕ) (answer : Option ℕ) → length x.hart.regs ≡ 32 → p.done ≡ false → Finishes p x s answer → IsSure isa p x s g → IsSure isa (finish p answer) x s g

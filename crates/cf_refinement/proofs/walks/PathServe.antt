@@ -21,8 +21,8 @@ use Rattle.rv_machine.specs.Machine.{Machine}
 use Rattle.cf_refinement.proofs.invariant.Sure as sure
 
 -- the step of a passenger of class Serial
-pub l3 : (isa : Isa) (p : Passenger) (x : Machine) (g : Option ℕ) → kind p ≡ Serial → sure.IsSure isa p x (step_at isa x p.pc) g → (i : Instr) × (p.what ≡ Some i) × (kind_of i ≡ Serial) × (step_at isa x p.pc ≡ served (serve_of i x.hart.regs x.hart.mem x.rest) (dst_of i) (at_pc x p.pc))
-l3 isa p x g c h = go (fetched isa x.hart.mem p.pc) refl h.reads
+pub serial_steps : (isa : Isa) (p : Passenger) (x : Machine) (g : Option ℕ) → kind p ≡ Serial → sure.IsSure isa p x (step_at isa x p.pc) g → (i : Instr) × (p.what ≡ Some i) × (kind_of i ≡ Serial) × (step_at isa x p.pc ≡ served (serve_of i x.hart.regs x.hart.mem x.rest) (dst_of i) (at_pc x p.pc))
+serial_steps isa p x g c h = go (fetched isa x.hart.mem p.pc) refl h.reads
   where
     go : (q : Fetched) → fetched isa x.hart.mem p.pc ≡ q → Holds p q → (i : Instr) × (p.what ≡ Some i) × (kind_of i ≡ Serial) × (step_at isa x p.pc ≡ served (serve_of i x.hart.regs x.hart.mem x.rest) (dst_of i) (at_pc x p.pc))
     go (Got i) f k =
@@ -39,15 +39,15 @@ after_call x i pc a = record {
   output = x.output ++ a.output;
 }
 
-pub l3_served : (isa : Isa) (p : Passenger) (x : Machine) (g : Option ℕ) (a : Answer) → kind p ≡ Serial → serve_of (instruction p) x.hart.regs x.hart.mem x.rest ≡ called.Value a → sure.IsSure isa p x (step_at isa x p.pc) g → step_at isa x p.pc ≡ Goes (after_call x (instruction p) p.pc a)
-l3_served isa p x g a c e h =
-    let q = l3 isa p x g c h in
+pub served_steps : (isa : Isa) (p : Passenger) (x : Machine) (g : Option ℕ) (a : Answer) → kind p ≡ Serial → serve_of (instruction p) x.hart.regs x.hart.mem x.rest ≡ called.Value a → sure.IsSure isa p x (step_at isa x p.pc) g → step_at isa x p.pc ≡ Goes (after_call x (instruction p) p.pc a)
+served_steps isa p x g a c e h =
+    let q = serial_steps isa p x g c h in
     let i : instruction p ≡ q.0 = ap (λ (o : Option Instr). on o Ebreak (λ j. j)) q.1 in
     rw i (q.3 ∙ ap (λ (z : Called). served z (dst_of q.0) (at_pc x p.pc)) (rw i at e))
 
 pub served_sure : (isa : Isa) (p : Passenger) (x : Machine) (g : Option ℕ) (a : Answer) → length x.hart.regs ≡ 32 → kind p ≡ Serial → p.done ≡ false → serve_of (instruction p) x.hart.regs x.hart.mem x.rest ≡ called.Value a → sure.IsSure isa p x (step_at isa x p.pc) g → sure.IsSure isa (answered p a.value) x (step_at isa x p.pc) g
 served_sure isa p x g a l c d e h =
-    let q = l3 isa p x g c h in
+    let q = serial_steps isa p x g c h in
     let i : instruction p ≡ q.0 = ap (λ (o : Option Instr). on o Ebreak (λ j. j)) q.1 in
     let y : step_at isa x p.pc ≡ Goes (after_call x q.0 p.pc a) = q.3 ∙ ap (λ (z : Called). served z (dst_of q.0) (at_pc x p.pc)) (rw i at e) in
     record {
@@ -74,6 +74,6 @@ served_sure isa p x g a l c d e h =
     reads (Bad b) k = k
 
 pub quit_sure : (isa : Isa) (p : Passenger) (x : Machine) (g : Option ℕ) (s : ℕ) → kind p ≡ Serial → p.done ≡ false → serve_of (instruction p) x.hart.regs x.hart.mem x.rest ≡ called.Exit s → sure.IsSure isa p x (step_at isa x p.pc) g → step_at isa x p.pc ≡ Stops (Exit s)
-quit_sure isa p x g s c d e h = let q = l3 isa p x g c h in
+quit_sure isa p x g s c d e h = let q = serial_steps isa p x g c h in
     let i : instruction p ≡ q.0 = ap (λ (o : Option Instr). on o Ebreak (λ j. j)) q.1 in
     q.3 ∙ ap (λ (z : Called). served z (dst_of q.0) (at_pc x p.pc)) (rw i at e)

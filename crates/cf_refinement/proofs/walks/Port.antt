@@ -3,7 +3,7 @@ use Rattle.std.proofs.Common.{◌≡◌, ℕ, Option, Some, Bool, true, false, �
 use Rattle.std.specs.Prelude.{if◌then◌else◌}
 use Rattle.cf_bind.specs.declared.packet.Packet.{Packet}
 use Rattle.cf_bind.specs.declared.passenger.Passenger.{Passenger}
-use Rattle.cf_refinement.proofs.column.Fold.{Is_walk}
+use Rattle.cf_refinement.proofs.column.Fold.{IsWalk}
 use Rattle.cf_semantics.specs.Fetches.{code_of}
 use Rattle.cf_refinement.proofs.invariant.Port.{Dock, DockedAt, Fits, past, past_passenger}
 use Rattle.cf_semantics.specs.Ahead.{flies, has_ported, has_served}
@@ -110,7 +110,7 @@ unfolding Fits past
 past_follows isa (Up i p) w v f h = past_rider_follows isa i p w v f h (paths.past_on isa (Up i p) w.path v.path f.path)
 past_follows isa (Down i k) w v f h = past_packet_follows isa i k w v f (paths.past_on isa (Down i k) w.path v.path f.path)
 
-pub port_walk : (isa : Isa) → Is_walk Dock (Fits isa) (past isa) Follows
+pub port_walk : (isa : Isa) → IsWalk Dock (Fits isa) (past isa) Follows
 port_walk isa = record { stays = item_follows isa; goes_on = past_follows isa }
 
 -- where nothing may turn the program there is no barrier
