@@ -10,7 +10,9 @@ use Rattle.rv_text.specs.Lines.{is_line_feed}
 use Rattle.cf_bind.specs.declared.passenger.Guess.TheVariants as guess
 use Rattle.cf_bind.specs.declared.moves.Move.{Move}
 use Rattle.cf_bind.specs.declared.moves.Move.TheVariants.{Issue, Emit, Climb, Fall, Meet, Execute, Send, Launch, Slide, Access, Recover, Leave, Exit, Serve}
-use Rattle.cf_bind.specs.MoveTexts.{hex_digit, hex8, move_line}
+use Rattle.std.specs.Char.{digit_char}
+use Rattle.digits.specs.Hexadecimal.{hex8}
+use Rattle.cf_bind.specs.MoveTexts.{move_line}
 use Rattle.cf_report.specs.Lines.{numbered_move}
 use Rattle.cf_scripts.specs.MoveLines.{move_in}
 use Rattle.cf_audit.specs.Lines.{move_front, IsFirstLine, Tells}
@@ -24,7 +26,7 @@ or_false false b e f = f
 pub joined : (a b : List ℕ) → has_line a ≡ false → has_line b ≡ false → has_line (a ++ b) ≡ false
 joined a b e f = list_any-append is_line_feed a b ∙ or_false (has_line a) (has_line b) e f
 
-digit_no : (d : ℕ) → is_line_feed (hex_digit d) ≡ false
+digit_no : (d : ℕ) → is_line_feed (digit_char d) ≡ false
 digit_no d = grind (arith, nat_tests)
 
 onto_no : (k n : ℕ) (text : List ℕ) → has_line text ≡ false → has_line (digits_onto k 10 false n text) ≡ false
@@ -43,6 +45,7 @@ unfolding digits
 decimal_no n = onto_no 64 n [] refl
 
 hex8_no : (w : ℕ) → has_line (hex8 w) ≡ false
+unfolding hex8
 hex8_no w =
     rw (
       digit_no (w / 0x10000000 % 16),

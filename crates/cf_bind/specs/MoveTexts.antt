@@ -1,21 +1,10 @@
 -- The line of a move in a script (a format of this project).
-use Rattle.std.specs.Prelude.{ℕ, ◌+◌, ◌/◌, ◌%◌, List, [], ◌∷◌, ◌++◌, codes, decimal, nat_lt, if◌then◌else◌}
+use Rattle.std.specs.Prelude.{ℕ, List, ◌++◌, codes, decimal}
+use Rattle.digits.specs.Hexadecimal.{hex8}
 use Rattle.cf_bind.specs.declared.passenger.Guess.{Guess}
 use Rattle.cf_bind.specs.declared.passenger.Guess.TheVariants as guess
 use Rattle.cf_bind.specs.declared.moves.Move.{Move}
 use Rattle.cf_bind.specs.declared.moves.Move.TheVariants.{Issue, Emit, Climb, Fall, Meet, Execute, Send, Launch, Slide, Access, Recover, Leave, Exit, Serve}
-
--- one lower-case hexadecimal digit
-abbrev pub hex_digit : ℕ → ℕ
-hex_digit d = if nat_lt d 10 then 48 + d else 87 + d
-
--- a word as eight hexadecimal digits
-abbrev pub hex8 : ℕ → List ℕ
-hex8 w =
-    hex_digit (w / 0x10000000 % 16) ∷ hex_digit (w / 0x1000000 % 16)
-    ∷ hex_digit (w / 0x100000 % 16) ∷ hex_digit (w / 0x10000 % 16)
-    ∷ hex_digit (w / 0x1000 % 16) ∷ hex_digit (w / 0x100 % 16)
-    ∷ hex_digit (w / 0x10 % 16) ∷ hex_digit (w % 16) ∷ []
 
 -- a guess, as it stands behind `issue`
 abbrev pub guess_text : Guess → List ℕ

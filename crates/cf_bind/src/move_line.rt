@@ -1,7 +1,8 @@
 ghost use Rattle.std.specs.Prelude.{◌≡◌, ◌+◌, ◌<◌, ◌≤◌, ◌++◌, [], length, decimal};
-ghost use Rattle.cf_bind.specs.MoveTexts.{hex_digit as digit_of, hex8};
+ghost use Rattle.digits.specs.Hexadecimal.{hex8};
 
 use arrayvec::ArrayVec;
+use digits::hex8;
 use itoa::Buffer;
 use std::marker::Model;
 
@@ -68,27 +69,6 @@ impl MoveLine {
         requires { length self.old + 8 ≤ 32 }
         ensures { self.new ≡ self.old ++ hex8 word }
     {
-        let digits = [
-            hex_digit(word / 0x1000_0000 % 16),
-            hex_digit(word / 0x100_0000 % 16),
-            hex_digit(word / 0x10_0000 % 16),
-            hex_digit(word / 0x1_0000 % 16),
-            hex_digit(word / 0x1000 % 16),
-            hex_digit(word / 0x100 % 16),
-            hex_digit(word / 0x10 % 16),
-            hex_digit(word % 16),
-        ];
-        self.push(&digits);
-    }
-}
-
-fn hex_digit(digit: u32) -> u8
-    requires { digit < 16 }
-    ensures { result ≡ digit_of digit }
-{
-    if digit < 10 {
-        48 + digit as u8
-    } else {
-        87 + digit as u8
+        self.push(&hex8(word));
     }
 }

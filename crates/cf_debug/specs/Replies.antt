@@ -1,5 +1,6 @@
 -- What each command answers and does: the table of the debugger (a format of this project).
 use Rattle.std.specs.Prelude.{◌≡◌, ◌≢◌, ◌⊎◌, ℕ, ◌<◌, ◌≤◌, ◌/◌, ◌%◌, List, [], ◌∷◌, ◌++◌, Option, Some, None, Result, Ok, Err, codes, decimal}
+use Rattle.std.specs.Char.{digit_char}
 use Rattle.mem_regions.specs.Ranges.{range_of}
 use Rattle.cf_bind.specs.declared.moves.Bar.{Bar}
 use Rattle.cf_bind.specs.declared.moves.Move.{Move as AnyMove}
@@ -9,7 +10,8 @@ use Rattle.cf_semantics.specs.Bars.{bar}
 use Rattle.cf_semantics.specs.Kept.{Kept, restored}
 use Rattle.cf_semantics.specs.Weight.{weight}
 use Rattle.cf_core.specs.Processors.{in_state}
-use Rattle.cf_texts.specs.Texts.{line, counted_line, hex8, hex_digit}
+use Rattle.digits.specs.Hexadecimal.{hex8}
+use Rattle.cf_texts.specs.Texts.{line, counted_line}
 use Rattle.cf_report.specs.Lines.{registers_text}
 use Rattle.cf_report.specs.Picture.{picture}
 use Rattle.cf_closing.specs.Lines.{bar_text, script_text}
@@ -48,7 +50,7 @@ refusal_text (Script kind) = script_text kind
 -- bytes, each as two hexadecimal digits behind a space
 unfoldable pub bytes_text : List ℕ → List ℕ
 bytes_text [] = []
-bytes_text (byte ∷ bytes) = (codes " " ++ hex_digit (byte / 16) ∷ hex_digit (byte % 16) ∷ []) ++ bytes_text bytes
+bytes_text (byte ∷ bytes) = (codes " " ++ digit_char (byte / 16) ∷ digit_char (byte % 16) ∷ []) ++ bytes_text bytes
 
 -- the bytes from an address on, where memory has them
 unfoldable pub memory_text : ℕ → Option (List ℕ) → List ℕ

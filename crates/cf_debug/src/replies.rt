@@ -1,7 +1,7 @@
 //! The answers of the debugger.
 
 ghost use Rattle.std.specs.Prelude.{◌≡◌, ◌+◌, ◌*◌, ◌<◌, ◌≤◌, ◌++◌, length, codes, map};
-ghost use Rattle.cf_texts.specs.Texts.{counted_line, hex_digit as digit_of};
+ghost use Rattle.cf_texts.specs.Texts.{counted_line};
 ghost use Rattle.mem_regions.specs.Ranges.{range_of};
 ghost use Rattle.cf_closing.specs.Lines.{bar_text};
 ghost use Rattle.cf_report.specs.Putting.{PutsText};
@@ -15,6 +15,7 @@ use cf_core::{Core, Event};
 use cf_io::{Failed, Sink, put_all};
 use cf_report::put_retired;
 use cf_texts::Page;
+use digits::hex_digit;
 
 /// Puts a text. After `Failed` a front of it was put.
 fn put<R: Sink>(text: &[u8], report: &mut R) -> Result<(), Failed>
@@ -109,13 +110,6 @@ pub(crate) fn put_moved<R: Sink>(core: &Core, event: &Event, report: &mut R) -> 
 {
     put(b"moved\n", report)?;
     put_retirement(core, event, report)
-}
-
-fn hex_digit(digit: u8) -> u8
-    requires { digit < 16 }
-    ensures { result ≡ digit_of digit }
-{
-    if digit < 10 { 48 + digit } else { 87 + digit }
 }
 
 /// Bytes, each as two hexadecimal digits behind a space.

@@ -6,7 +6,8 @@ use Rattle.rv_inst.specs.declared.instruction.Instr.{Instr}
 use Rattle.rv_inst.specs.Decoding.{decoded_m}
 use Rattle.rv_text.specs.Writing.{text_of}
 use Rattle.elf_view.specs.Symbols.{NamedSymbol}
-use Rattle.cf_texts.specs.Texts.{newline, line, hex8}
+use Rattle.digits.specs.Hexadecimal.{hex8}
+use Rattle.cf_texts.specs.Texts.{newline, line}
 
 -- the text of an instruction at an address, or the word itself where it is none
 unfoldable pub word_text : ℕ → ℕ → Option Instr → List ℕ

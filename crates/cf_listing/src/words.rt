@@ -4,7 +4,7 @@
 ghost use Rattle.std.specs.Prelude.{◌≡◌, ◌+◌, ◌-◌, ◌%◌, ◌^◌, ◌≤◌, ◌++◌, None, OnOk, OnErr, IfSome, codes, drop, length, option_map};
 ghost use Rattle.cf_io.specs.Causes.{HasCause};
 ghost use Rattle.cf_io.specs.Puts.{Writes, WritesFront};
-ghost use Rattle.cf_texts.specs.Texts.{hex8};
+ghost use Rattle.digits.specs.Hexadecimal.{hex8};
 ghost use Rattle.cf_listing.specs.Lines.{word_line, label_lines, lines_from, skipped, IsFirstWord};
 ghost use Rattle.cf_listing.specs.Listing.{symbols_in};
 

@@ -8,7 +8,8 @@ use Rattle.cf_bind.specs.declared.cell.Op.{Op}
 use Rattle.cf_layout.specs.Layout.{Plan}
 use Rattle.cf_semantics.specs.State.{State}
 use Rattle.cf_semantics.specs.Passengers.{cached}
-use Rattle.cf_texts.specs.Texts.{line, hex8, register_name}
+use Rattle.digits.specs.Hexadecimal.{hex8}
+use Rattle.cf_texts.specs.Texts.{line, register_name}
 use Rattle.cf_report.specs.Passengers.{value_text, stage_line}
 
 -- where fetch runs, or that it waits

@@ -4,7 +4,8 @@ use Rattle.std.specs.Prelude.{codes, decimal}
 use Rattle.cf_bind.specs.declared.passenger.Guess.TheVariants as guess
 use Rattle.cf_bind.specs.declared.moves.Move.{Move}
 use Rattle.cf_bind.specs.declared.moves.Move.TheVariants.{Issue, Emit, Climb, Fall, Meet, Execute, Send, Launch, Slide, Access, Recover, Leave, Exit, Serve}
-use Rattle.cf_bind.specs.MoveTexts.{hex8, at_stage as stage_text, move_line}
+use Rattle.digits.specs.Hexadecimal.{hex8}
+use Rattle.cf_bind.specs.MoveTexts.{at_stage as stage_text, move_line}
 use Rattle.cf_scripts.specs.Kinds.{kind_named}
 use Rattle.cf_scripts.specs.Words.{first_number, first_address}
 use Rattle.cf_scripts.specs.MoveLines.{NumbersBelow, and_then, guess_read, at_stage, move_read, words_read, closed, move_in}

@@ -2,6 +2,7 @@
 use Rattle.std.proofs.Common.{ℕ, ◌<◌, ◌≤◌, ◌^◌, List, ◌++◌, length, arith, length-append, lit≤, lit<}
 use Rattle.std.specs.Prelude.{codes, decimal}
 use Rattle.std.proofs.lemmas.Fmt.{length-decimal-le}
+use Rattle.digits.specs.Hexadecimal.{hex8}
 use Rattle.cf_bind.specs.declared.passenger.Guess.TheVariants as guess
 use Rattle.cf_bind.specs.declared.moves.Move.{Move}
 use Rattle.cf_bind.specs.declared.moves.Move.TheVariants.{Issue, Emit, Climb, Fall, Meet, Execute, Send, Launch, Slide, Access, Recover, Leave, Exit, Serve}
@@ -28,7 +29,7 @@ slide-short k c hk hc =
     )
 
 pub move_line-short : (mv : Move) → NumbersBelow (2 ^ 32) mv → length (move_line mv) ≤ 80
-unfolding move_line
+unfolding move_line hex8
 move_line-short (Issue guess.Next) h = lit≤ tt
 move_line-short (Issue guess.Taken) h = lit≤ tt
 move_line-short (Issue guess.Wait) h = lit≤ tt

@@ -11,9 +11,8 @@ use Rattle.std.proofs.lemmas.List.Folds.{list_all-append}
 use Rattle.std.proofs.lemmas.List.Splits.{slice_split_none}
 use Rattle.rv_text.specs.Pieces.{is_blank}
 use Rattle.rv_text.specs.Numbers.{numeral}
-use Rattle.rv_text.specs.Writing.{hex8 as text_hex8}
+use Rattle.digits.specs.Hexadecimal.{hex8}
 use Rattle.rv_text.proofs.Written.{numeral-digits, decimal_read, hex8_digits, hex8_value}
-use Rattle.cf_bind.specs.MoveTexts.{hex8}
 use Rattle.cf_scripts.specs.Words.{is_word, words_of, address_in}
 use Rattle.cf_scripts.specs.MoveLines.{is_ascii}
 use Rattle.cf_scripts.proofs.WordCuts.{words-at}
@@ -94,12 +93,11 @@ decimal-word n h =
 pub decimal-spells : (n : ℕ) → n < 10 ^ 9 → numeral 10 9 (decimal n) ≡ Some n
 decimal-spells n h = decimal_read 9 n (lit< tt) h (omega arith)
 
-same_hex8 : (w : ℕ) → hex8 w ≡ text_hex8 w
-same_hex8 w = refl
-
 -- an address is one word, which spells it
 pub address-word : (w : ℕ) → IsWord (hex8 w)
+unfolding hex8
 address-word w = record { some = lit< tt; bytes = digits_letters 16 (hex8 w) (lit≤ tt) (hex8_digits w) }
 
 pub address-spells : (w : ℕ) → w < 2 ^ 32 → address_in (hex8 w) ≡ Some w
+unfolding hex8
 address-spells w h = numeral-digits 16 8 w (hex8 w) (hex8_digits w) (lit< tt) (lit≤ tt) (hex8_value w h)

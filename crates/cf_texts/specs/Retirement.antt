@@ -1,6 +1,7 @@
 -- The line of an instruction that retired (a format of this project).
 use Rattle.std.specs.Prelude.{ℕ, List, ◌++◌, codes, decimal, ◌==◌, if◌then◌else◌}
-use Rattle.cf_texts.specs.Texts.{line, hex8, register_name}
+use Rattle.digits.specs.Hexadecimal.{hex8}
+use Rattle.cf_texts.specs.Texts.{line, register_name}
 
 -- a register with its value, or `-` where none was written
 abbrev pub written_register : ℕ → ℕ → List ℕ

@@ -1,5 +1,6 @@
 -- The lines of a report, byte by byte (a format of this project).
-use Rattle.std.specs.Prelude.{ℕ, ◌+◌, ◌/◌, ◌%◌, List, [], ◌∷◌, ◌++◌, codes, decimal, nat_lt, ◌==◌, if◌then◌else◌}
+use Rattle.std.specs.Prelude.{ℕ, ◌+◌, ◌/◌, ◌%◌, List, [], ◌∷◌, ◌++◌, codes, decimal, ◌==◌, if◌then◌else◌}
+use Rattle.digits.specs.Hexadecimal.{hex8}
 
 abbrev pub newline : List ℕ
 newline = 10 ∷ []
@@ -7,18 +8,6 @@ newline = 10 ∷ []
 -- a line of this text
 abbrev pub line : List ℕ → List ℕ
 line text = text ++ newline
-
--- one lower-case hexadecimal digit
-abbrev pub hex_digit : ℕ → ℕ
-hex_digit d = if nat_lt d 10 then 48 + d else 87 + d
-
--- a word as eight hexadecimal digits
-unfoldable pub hex8 : ℕ → List ℕ
-hex8 w =
-    hex_digit (w / 0x10000000 % 16) ∷ hex_digit (w / 0x1000000 % 16)
-    ∷ hex_digit (w / 0x100000 % 16) ∷ hex_digit (w / 0x10000 % 16)
-    ∷ hex_digit (w / 0x1000 % 16) ∷ hex_digit (w / 0x100 % 16)
-    ∷ hex_digit (w / 0x10 % 16) ∷ hex_digit (w % 16) ∷ []
 
 -- x and two decimal digits
 unfoldable pub register_name : ℕ → List ℕ

@@ -2,9 +2,11 @@
 #![tactic(auto, unfolding(crate::specs::Texts::register_entry, crate::specs::Texts::registers_from, crate::specs::Texts::counted_line, crate::specs::Texts::trap_line))]
 
 ghost use Rattle.std.specs.Prelude.{◌≡◌, ◌+◌, ◌*◌, ◌<◌, ◌≤◌, ◌++◌, ◌∷◌, [], length, decimal};
-ghost use Rattle.cf_texts.specs.Texts.{line, hex8, hex_digit as digit_of, separator as separator_of, register_name, register_entry, registers_from, counted_line, trap_line};
+ghost use Rattle.digits.specs.Hexadecimal.{hex8};
+ghost use Rattle.cf_texts.specs.Texts.{line, separator as separator_of, register_name, register_entry, registers_from, counted_line, trap_line};
 
 use arrayvec::ArrayVec;
+use digits::hex8;
 use itoa::Buffer;
 use std::marker::Model;
 
@@ -21,17 +23,6 @@ impl Model for Page {
     ghost Value = { List ℕ };
 
     ghost view = { λ page. page.text.items };
-}
-
-fn hex_digit(digit: u32) -> u8
-    requires { digit < 16 }
-    ensures { result ≡ digit_of digit }
-{
-    if digit < 10 {
-        48 + digit as u8
-    } else {
-        87 + digit as u8
-    }
 }
 
 /// What stands behind a register: four of them make a line.
@@ -69,23 +60,12 @@ impl Page {
     }
 
     /// A word as eight hexadecimal digits.
-    #[tactic(auto, unfolding(crate::specs::Texts::hex8))]
     pub fn push_hex(&mut self, word: u32)
         requires { length self.old + 8 ≤ 640 }
         ensures text { self.new ≡ self.old ++ hex8 word }
         ensures size { length self.new ≡ length self.old + 8 }
     {
-        let digits = [
-            hex_digit(word / 0x1000_0000 % 16),
-            hex_digit(word / 0x100_0000 % 16),
-            hex_digit(word / 0x10_0000 % 16),
-            hex_digit(word / 0x1_0000 % 16),
-            hex_digit(word / 0x1000 % 16),
-            hex_digit(word / 0x100 % 16),
-            hex_digit(word / 0x10 % 16),
-            hex_digit(word % 16),
-        ];
-        self.push(&digits);
+        self.push(&hex8(word));
     }
 
     /// A number in decimal, of 20 digits at most.

@@ -11,7 +11,8 @@ use Rattle.std.proofs.lemmas.Bool.Decides.{nat_tests}
 use Rattle.rv_text.specs.Numbers.{is_numeral, numeral, magnitude, number_of, plus, minus}
 use Rattle.rv_text.specs.Registers.{register_numbered, register_padded, register_of}
 use Rattle.rv_text.specs.Fields.{is_open}
-use Rattle.rv_text.specs.Writing.{hex8, hexadecimal, register_text}
+use Rattle.digits.specs.Hexadecimal.{hex8}
+use Rattle.rv_text.specs.Writing.{hexadecimal, register_text}
 use Rattle.rv_text.proofs.Numerals.{test-from_AllDigits}
 use Rattle.rv_text.proofs.Solid.{is_solid, IsSolid}
 
@@ -112,6 +113,7 @@ hex_digit : (w : ℕ) → digit_value (digit_char (w % 16)) < 16
 hex_digit w = omega (arith, hex_step w)
 
 pub hex8_digits : (w : ℕ) → AllDigits 16 (hex8 w)
+unfolding hex8
 hex8_digits w = (
   hex_digit (w / 268435456),
   (
@@ -127,6 +129,7 @@ hex8_digits w = (
 )
 
 pub hex8_value : (w : ℕ) → w < 2 ^ 32 → digits_value 16 (hex8 w) ≡ w
+unfolding hex8
 hex8_value w small =
     rw (
       hex_step (w / 268435456),
@@ -200,20 +203,21 @@ prefixed_solid : (ds : List ℕ) → AllDigits 16 ds → IsSolid (codes "0x" ++ 
 prefixed_solid ds all = record { some = omega arith; bytes = digits_solid 16 ds (lit≤ tt) all }
 
 pub number_of-target : (w : ℕ) → w < 2 ^ 32 → number_of (codes "0x" ++ hex8 w) ≡ Some (pos w)
+unfolding hex8
 number_of-target w small = prefixed (hex8 w) w (hex8_digits w) (lit< tt) (lit≤ tt) (hex8_value w small)
 
 pub target_solid : (w : ℕ) → IsSolid (codes "0x" ++ hex8 w)
 target_solid w = prefixed_solid (hex8 w) (hex8_digits w)
 
 needed : (w : ℕ) → (digits_value 16 (hexadecimal w) ≡ digits_value 16 (hex8 w)) × AllDigits 16 (hexadecimal w)
-unfolding hexadecimal
+unfolding hexadecimal hex8
 needed w = drop_zeros (min (prefix_len (λ digit. digit == 48) (hex8 w)) 7) (hex8 w) (omega arith) (hex8_digits w)
 
 dropped_length : (k : ℕ) (ds : List ℕ) → k ≤ 7 → length ds ≡ 8 → (0 < length (drop k ds)) × (length (drop k ds) ≤ 8)
 dropped_length k ds low eight = (omega (arith, length-drop k ds), omega (arith, length-drop k ds))
 
 hexadecimal_length : (w : ℕ) → (0 < length (hexadecimal w)) × (length (hexadecimal w) ≤ 8)
-unfolding hexadecimal
+unfolding hexadecimal hex8
 hexadecimal_length w = dropped_length (min (prefix_len (λ digit. digit == 48) (hex8 w)) 7) (hex8 w) (omega arith) refl
 
 pub number_of-upper : (w : ℕ) → w < 2 ^ 32 → number_of (codes "0x" ++ hexadecimal w) ≡ Some (pos w)

@@ -1,22 +1,14 @@
 -- The text of an instruction (RISC-V Assembly Programmer's Manual; RISC-V Unprivileged ISA Manual, "RV32/64G Instruction Set Listings").
-use Rattle.std.specs.Prelude.{ℕ, ◌/◌, ◌%◌, ◌==◌, ◌&&◌, ℤ, pos, List, [], ◌∷◌, ◌++◌, codes, decimal, drop, min, if◌then◌else◌}
+use Rattle.std.specs.Prelude.{ℕ, ◌==◌, ◌&&◌, ℤ, pos, List, [], ◌∷◌, ◌++◌, codes, decimal, drop, min, if◌then◌else◌}
 use Rattle.std.specs.Fmt.{signed_decimal}
 use Rattle.std.specs.List.{prefix_len}
-use Rattle.std.specs.Char.{digit_char}
+use Rattle.digits.specs.Hexadecimal.{hex8}
 use Rattle.rv_inst.specs.Words.{word_sum, word_of}
 use Rattle.rv_inst.specs.declared.instruction.Instr.{Instr}
 use Rattle.rv_inst.specs.declared.instruction.Instr.TheVariants.{Lui, Auipc, Jal, Jalr, Branch, Load, Store, OpImm, Op, Fence, Ecall, Ebreak, FenceI, Mul}
 use Rattle.rv_text.specs.declared.operands.Operand.{Operand}
 use Rattle.rv_text.specs.declared.operands.Operand.TheVariants.{Register, Number, Upper, Target, Address}
 use Rattle.rv_text.specs.Names.{name_of, mnemonic_of}
-
--- a word in eight hexadecimal digits
-abbrev pub hex8 : ℕ → List ℕ
-hex8 w =
-    digit_char (w / 0x10000000 % 16) ∷ digit_char (w / 0x1000000 % 16)
-    ∷ digit_char (w / 0x100000 % 16) ∷ digit_char (w / 0x10000 % 16)
-    ∷ digit_char (w / 0x1000 % 16) ∷ digit_char (w / 0x100 % 16)
-    ∷ digit_char (w / 0x10 % 16) ∷ digit_char (w % 16) ∷ []
 
 -- digits without the zeros in front, but for the last of eight
 abbrev pub without_zeros : List ℕ → List ℕ

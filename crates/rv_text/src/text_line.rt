@@ -2,8 +2,6 @@
 #![tactic(auto)]
 
 ghost use Rattle.std.specs.Prelude.{◌≡◌, ◌+◌, ◌<◌, ◌≤◌, ◌++◌, [], length};
-ghost use Rattle.std.specs.Char.{digit_char};
-ghost use Rattle.rv_text.specs.Writing.{hex8};
 
 use crate::operands::Operand;
 use arrayvec::ArrayVec;
@@ -21,33 +19,6 @@ impl Model for TextLine {
     ghost Value = { List ℕ };
 
     ghost view = { λ line. line.letters.items };
-}
-
-fn hex_digit(digit: u32) -> u8
-    requires { digit < 16 }
-    ensures { result ≡ digit_char digit }
-{
-    if digit < 10 {
-        48 + digit as u8
-    } else {
-        87 + digit as u8
-    }
-}
-
-/// A word in eight hexadecimal digits.
-pub(crate) fn hex8(word: u32) -> [u8; 8]
-    ensures { result ≡ hex8 word }
-{
-    [
-        hex_digit(word / 0x1000_0000 % 16),
-        hex_digit(word / 0x100_0000 % 16),
-        hex_digit(word / 0x10_0000 % 16),
-        hex_digit(word / 0x1_0000 % 16),
-        hex_digit(word / 0x1000 % 16),
-        hex_digit(word / 0x100 % 16),
-        hex_digit(word / 0x10 % 16),
-        hex_digit(word % 16),
-    ]
 }
 
 fn push_all(letters: &mut ArrayVec<u8, 80>, text: &[u8])
