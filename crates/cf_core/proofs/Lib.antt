@@ -34,5 +34,6 @@ pub mod RunsBack
 pub mod Widths
 pub mod OldOps
 pub mod Rides
+pub mod StillMarks
 pub mod Guesses
 pub mod Allows

@@ -21,7 +21,7 @@ use Rattle.cf_core.specs.declared.marks.Mark.{Mark}
 use Rattle.cf_core.proofs.Bits.{SameBut}
 
 -- what holds of a stage in which this stands
-mark_by : Plan → State → ℕ → Option Cell → Mark
+unfoldable pub mark_by : Plan → State → ℕ → Option Cell → Mark
 mark_by plan s i o = record {
   owes = on o false (λ c. on c.passenger false (λ p. is_some p.owes));
   stops = on o false (λ c. on c.passenger false (λ p. stops_at plan p i));
@@ -30,11 +30,11 @@ mark_by plan s i o = record {
   recover = not (is_some (on o (Some NoSuchSite) (λ c. recover_bar plan s c i)));
 }
 
-mark_is : (plan : Plan) (s : State) (i : ℕ) → mark_at plan s i ≡ mark_by plan s i (cell_at s.cells i)
+pub mark_is : (plan : Plan) (s : State) (i : ℕ) → mark_at plan s i ≡ mark_by plan s i (cell_at s.cells i)
 unfolding mark_at mark_by
 mark_is plan s i = refl
 
-beside : (plan : Plan) (s : State) (cells : List Cell) (i : ℕ) (o : Option Cell) → mark_by plan (record s { cells = cells }) i o ≡ mark_by plan s i o
+pub beside : (plan : Plan) (s : State) (cells : List Cell) (i : ℕ) (o : Option Cell) → mark_by plan (record s { cells = cells }) i o ≡ mark_by plan s i o
 unfolding mark_by
 beside plan s cells i o = refl
 
@@ -133,10 +133,13 @@ siding-but plan s k ops j off far =
 among : (plan : Plan) (s : State) (sidings : List (List (Option Op))) (i : ℕ) (o : Option Cell) → sidings ≡ s.sidings → mark_by plan (record s { sidings = sidings }) i o ≡ mark_by plan s i o
 among plan s sidings i o same = ap (λ (x : List (List (Option Op))). mark_by plan (record s { sidings = x }) i o) same
 
-pub rest-but : (plan : Plan) (s t : State) (i j : ℕ) → t.cells ≡ s.cells → t.sidings ≡ s.sidings → SameBut plan s t i j
+pub rest-same : (plan : Plan) (s t : State) → t.cells ≡ s.cells → t.sidings ≡ s.sidings → (k : ℕ) → mark_at plan t k ≡ mark_at plan s k
 unfolding mark_by
-rest-but plan s t i j same kept k off far =
+rest-same plan s t same kept k =
     mark_is plan t k
     ∙ ap (λ (cells : List Cell). mark_by plan t k (cell_at cells k)) same
     ∙ among plan s t.sidings k (cell_at s.cells k) kept
     ∙ sym (mark_is plan s k)
+
+pub rest-but : (plan : Plan) (s t : State) (i j : ℕ) → t.cells ≡ s.cells → t.sidings ≡ s.sidings → SameBut plan s t i j
+rest-but plan s t i j same kept k off far = rest-same plan s t same kept k

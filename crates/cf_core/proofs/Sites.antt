@@ -125,6 +125,24 @@ climb-fits plan s i h free = let w = climb_within plan s i h free in omega (arit
 pub fall-fits : (plan : Plan) (s : State) (i : ℕ) → IsProcessor plan s → row_bar plan s (Fall i) ≡ None → 1 ≤ i
 fall-fits plan s i h free = let w = fall_within plan s i h free in omega (arith, w.high)
 
+pub climb-low : (plan : Plan) (s : State) (i : ℕ) → IsProcessor plan s → row_bar plan s (Climb i) ≡ None → 0 < i
+climb-low plan s i h free = (climb_within plan s i h free).low
+
+pub climb-high : (plan : Plan) (s : State) (i : ℕ) → IsProcessor plan s → row_bar plan s (Climb i) ≡ None → i ≤ plan.stages
+climb-high plan s i h free = (climb_within plan s i h free).low_in
+
+pub fall-low : (plan : Plan) (s : State) (i : ℕ) → IsProcessor plan s → row_bar plan s (Fall i) ≡ None → 0 < i - 1
+fall-low plan s i h free = (fall_within plan s i h free).low
+
+pub fall-high : (plan : Plan) (s : State) (i : ℕ) → IsProcessor plan s → row_bar plan s (Fall i) ≡ None → i - 1 ≤ plan.stages
+fall-high plan s i h free = (fall_within plan s i h free).low_in
+
+pub meet-low : (plan : Plan) (s : State) (i : ℕ) → IsProcessor plan s → row_bar plan s (Meet i) ≡ None → 0 < i
+meet-low plan s i h free = (at_stage plan s i _ h free).low
+
+pub meet-high : (plan : Plan) (s : State) (i : ℕ) → IsProcessor plan s → row_bar plan s (Meet i) ≡ None → i ≤ plan.stages
+meet-high plan s i h free = (at_stage plan s i _ h free).low_in
+
 pub launch-low : (plan : Plan) (s : State) (i : ℕ) → IsProcessor plan s → row_bar plan s (Launch i) ≡ None → 0 < i
 launch-low plan s i h free = (at_stage plan s i _ h free).low
 
@@ -138,3 +156,5 @@ pub recover-high : (plan : Plan) (s : State) (i : ℕ) → IsProcessor plan s �
 recover-high plan s i h free = (at_stage plan s i _ h free).low_in
 
 pub ruleset touching = (slide-number, port-number, climb-fits, fall-fits, launch-low, launch-high, recover-low, recover-high)
+
+pub ruleset moving = (climb-low, climb-high, fall-fits, fall-low, fall-high, meet-low, meet-high)

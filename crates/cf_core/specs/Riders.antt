@@ -16,6 +16,10 @@ is_out p = p.launched && not p.recovered
 abbrev pub is_idle : Passenger → Bool
 is_idle p = not (is_undone p) && not (is_out p)
 
+-- it owes nothing either: it has nothing left to do but to climb and to leave
+abbrev pub is_spent : Passenger → Bool
+is_spent p = is_idle p && not (is_some p.owes)
+
 -- it has the values of its sources
 abbrev pub has_sources : Passenger → Bool
 has_sources p = not (is_some (first_unknown p))

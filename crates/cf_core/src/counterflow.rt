@@ -236,8 +236,12 @@ impl Core {
         ensures input_asked { (AsksInput self.old m → ⊥) → input.new ≡ input.old }
         ensures output_asked { (AsksOutput self.old m → ⊥) → output.new ≡ output.old }
     {
+        let keeps = self.processor.keeps_marks(self.marks, m);
         let touched = self.processor.touched(m);
         let made = self.processor.make(m, input, output);
+        if keeps {
+            return made;
+        }
         self.marks = self.processor.remarked(self.marks, touched);
         made
     }

@@ -10,6 +10,7 @@ mod counterflow;
 mod draining;
 mod fault;
 mod issuing;
+mod keeping;
 pub mod laws;
 mod marks;
 mod masks;

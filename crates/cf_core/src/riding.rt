@@ -11,7 +11,7 @@ ghost use Rattle.cf_stages.specs.Changes.{is_full_at, passenger_at};
 ghost use Rattle.cf_core.specs.Marks.{is_free, mark_at};
 ghost use Rattle.cf_core.specs.Masks.{stops_there};
 ghost use Rattle.cf_core.specs.Processors.{IsProcessor};
-ghost use Rattle.cf_core.specs.Riders.{has_sources as knows_sources, is_idle as idles, is_out as is_beside, is_undone as is_not_done};
+ghost use Rattle.cf_core.specs.Riders.{has_sources as knows_sources, is_idle as idles, is_out as is_beside, is_spent as has_done_all, is_undone as is_not_done};
 
 use crate::beside::is_memory;
 use crate::marks::Mark;
@@ -42,6 +42,14 @@ pub(crate) fn is_idle(passenger: &Passenger) -> bool
     ensures { result ≡ idles passenger.now }
 {
     !is_undone(passenger) && !is_out(passenger)
+}
+
+/// Whether it owes nothing either: it has nothing left to do but to climb and to leave.
+#[inline(always)]
+pub(crate) fn is_spent(passenger: &Passenger) -> bool
+    ensures { result ≡ has_done_all passenger.now }
+{
+    is_idle(passenger) && passenger.owes.is_none()
 }
 
 /// Whether it has the values of its sources.

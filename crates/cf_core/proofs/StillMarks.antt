@@ -1,0 +1,337 @@
+-- The moves that leave what holds of each stage as it is: those of a passenger that is spent, and those of a packet.
+use Rattle.std.proofs.Common.{◌≡◌, ◌≢◌, ◌∙◌, ℕ, suc, ◌+◌, ◌-◌, ◌<◌, ◌≤◌, List, [], ◌∷◌, Option, Some, None, Bool, true, false, refl, sym, ap, arith}
+use Rattle.std.specs.Prelude.{◌&&◌, ◌||◌, nat_eq, not, if◌then◌else◌}
+use Rattle.std.proofs.lemmas.Bool.Decides.{nat_tests}
+use Rattle.cf_bind.specs.declared.cell.Cell.{Cell}
+use Rattle.cf_bind.specs.declared.moves.Bar.{Bar}
+use Rattle.cf_bind.specs.declared.moves.Bar.TheVariants.{AlreadyDone, Dead, NoPassenger, NoPacket, NoSuchSite, NotDone, NotMet, NoUnit, Occupied, Owes}
+use Rattle.cf_bind.specs.declared.moves.Move.{Move}
+use Rattle.cf_bind.specs.declared.moves.Move.TheVariants.{Issue, Emit, Climb, Fall, Meet, Execute, Send, Launch, Slide, Access, Recover, Leave, Exit, Serve}
+use Rattle.cf_bind.specs.declared.packet.Packet.{Packet}
+use Rattle.cf_bind.specs.declared.packet.Packet.TheVariants.{Value, Turn, Halt}
+use Rattle.cf_bind.specs.declared.passenger.End.{End}
+use Rattle.cf_bind.specs.declared.passenger.Passenger.{Passenger}
+use Rattle.cf_bind.specs.Meeting.{Met, meeting, packet_met, passenger_met}
+use Rattle.cf_layout.specs.Layout.{Plan}
+use Rattle.cf_layout.specs.Words.{has_bit}
+use Rattle.cf_semantics.specs.Bars.{climb_bar, emit_bar, entry_bar, exit_bar, fall_bar, first, first_of, is_full, launch_bar, leave_bar, row_bar, source_bar}
+use Rattle.cf_semantics.specs.Instructions.{is_memory}
+use Rattle.cf_semantics.specs.Layouts.{launches}
+use Rattle.cf_semantics.specs.Moves.{cell_met, climbed, emitted, exited, fallen, left, left_live, moved, without_packet, without_passenger}
+use Rattle.cf_semantics.specs.Options.{on, is_some}
+use Rattle.cf_semantics.specs.Passengers.{kind}
+use Rattle.cf_semantics.specs.State.{State, cell_at, put_cell, with_cell}
+use Rattle.cf_stages.specs.Changes.{passenger_at}
+use Rattle.cf_stages.proofs.Bits.{word-bit}
+use Rattle.cf_stages.proofs.Parts.{cell-put, cell-put-other, stage-high, stage-low}
+use Rattle.cf_core.specs.Marks.{is_free, keeps_marks, mark_at, marks_of, no_mark}
+use Rattle.cf_core.specs.Riders.{is_idle, is_out, is_spent, is_undone}
+use Rattle.cf_core.specs.declared.marks.Marks.{Marks}
+use Rattle.cf_core.proofs.Bits.{SameBut}
+use Rattle.cf_core.proofs.Rides.{mark-idle, mark-none}
+use Rattle.cf_core.proofs.SameMarks.{beside, cell-but, mark_by, mark_is, rest-same}
+
+-- the same holds of each stage
+abbrev pub Same : Plan → State → State → Type 0
+Same plan s t = (k : ℕ) → mark_at plan t k ≡ mark_at plan s k
+
+unchanged : (plan : Plan) (s : State) → Same plan s s
+unchanged plan s k = refl
+
+both : (plan : Plan) (s t u : State) → Same plan s t → Same plan t u → Same plan s u
+both plan s t u one two k = two k ∙ one k
+
+-- A stage with another content --
+
+one_stage : (plan : Plan) (s t : State) (i : ℕ) → SameBut plan s t i i → mark_at plan t i ≡ mark_at plan s i → Same plan s t
+one_stage plan s t i but here k = by_stage (nat_eq k i) refl
+  where
+    by_stage : (b : Bool) → nat_eq k i ≡ b → mark_at plan t k ≡ mark_at plan s k
+    by_stage true e = let z : k ≡ i = grind (arith, nat_tests) in rw z here
+    by_stage false e = let off : k ≢ i = grind (arith, nat_tests) in but k off off
+
+mark_put : (plan : Plan) (s : State) (i : ℕ) (b c : Cell) → cell_at s.cells i ≡ Some b → mark_at plan (with_cell s i c) i ≡ mark_by plan s i (Some c)
+mark_put plan s i b c here =
+    mark_is plan (with_cell s i c) i
+    ∙ ap (mark_by plan (with_cell s i c) i) (cell-put s.cells i c (stage-low s.cells i b here) (stage-high s.cells i b here))
+    ∙ beside plan s (put_cell s.cells i c) i (Some c)
+
+put_same : (plan : Plan) (s : State) (i : ℕ) (b c : Cell) → cell_at s.cells i ≡ Some b → mark_by plan s i (Some c) ≡ mark_by plan s i (Some b) → Same plan s (with_cell s i c)
+put_same plan s i b c here same =
+    one_stage plan s (with_cell s i c) i (cell-but plan s i i c) (mark_put plan s i b c here ∙ same ∙ sym (mark_is plan s i ∙ ap (mark_by plan s i) here))
+
+-- Moves of a packet --
+
+-- the row of Launch for a passenger, beside a packet that it has still to meet or not
+abbrev entry_row : Plan → State → Bool → ℕ → Passenger → Option Bar
+entry_row plan s full i p = first_of (
+    (p.dead, Dead) ∷
+    (p.done || p.launched, AlreadyDone) ∷
+    (not (launches plan (kind p) i), NoUnit) ∷
+    (is_memory (kind p) && full, NotMet) ∷ []) (source_bar p (entry_bar plan s p))
+
+-- another packet changes at most whether an operation can be launched
+packet_mark : (plan : Plan) (s : State) (i : ℕ) (c : Cell) (q : Option Packet) (met : Bool) →
+    not (is_some (launch_bar plan s (record c { packet = q; met = met }) i)) ≡ not (is_some (launch_bar plan s c i)) →
+    mark_by plan s i (Some (record c { packet = q; met = met })) ≡ mark_by plan s i (Some c)
+unfolding mark_by
+packet_mark plan s i c q met launch =
+    let m = mark_by plan s i (Some c) in
+    λ x. record { owes = m.owes; stops = m.stops; execute = m.execute; launch = launch x; recover = m.recover }
+
+-- where both are as full, it does not
+as_full : (plan : Plan) (s : State) (i : ℕ) (o : Option Passenger) (f g : Bool) → f ≡ g →
+    not (is_some (on o (Some NoPassenger) (entry_row plan s f i))) ≡ not (is_some (on o (Some NoPassenger) (entry_row plan s g i)))
+as_full plan s i o f g e = ap (λ (b : Bool). not (is_some (on o (Some NoPassenger) (entry_row plan s b i)))) e
+
+gone_full : (c : Cell) → is_full c ≡ false → is_full (without_packet c) ≡ is_full c
+gone_full c e = grind arith
+
+packet_gone : (plan : Plan) (s : State) (i : ℕ) (c : Cell) → cell_at s.cells i ≡ Some c → is_full c ≡ false → Same plan s (with_cell s i (without_packet c))
+packet_gone plan s i c here clear =
+    put_same plan s i c (without_packet c) here (packet_mark plan s i c None false (as_full plan s i c.passenger (is_full (without_packet c)) (is_full c) (gone_full c clear)))
+
+-- nor where none can be launched
+still_barred : (dead done site memory full : Bool) (rest : Option Bar) →
+    not (is_some (first dead Dead (first done AlreadyDone (first (not site) NoUnit (first (memory && false) NotMet rest))))) ≡ false →
+    not (is_some (first dead Dead (first done AlreadyDone (first (not site) NoUnit (first (memory && full) NotMet rest))))) ≡ false
+still_barred true done site memory full rest e = refl
+still_barred false true site memory full rest e = refl
+still_barred false false false memory full rest e = refl
+still_barred false false true true true rest e = refl
+still_barred false false true true false rest e = e
+still_barred false false true false full rest e = e
+
+rider_barred : (plan : Plan) (s : State) (i : ℕ) (o : Option Passenger) (full : Bool) →
+    not (is_some (on o (Some NoPassenger) (entry_row plan s false i))) ≡ false → not (is_some (on o (Some NoPassenger) (entry_row plan s full i))) ≡ false
+rider_barred plan s i None full e = refl
+rider_barred plan s i (Some p) full e = still_barred p.dead (p.done || p.launched) (launches plan (kind p) i) (is_memory (kind p)) full (source_bar p (entry_bar plan s p)) e
+
+no_packet : (c : Cell) → is_some c.packet ≡ false → is_full c ≡ false
+no_packet c e = grind arith
+
+packet_comes : (plan : Plan) (s : State) (i : ℕ) (c : Cell) (q : Option Packet) → cell_at s.cells i ≡ Some c → is_some c.packet ≡ false → not (is_some (launch_bar plan s c i)) ≡ false →
+    Same plan s (with_cell s i (record c { packet = q; met = false }))
+packet_comes plan s i c q here none barred =
+    let clear = no_packet c none in
+    let before : not (is_some (on c.passenger (Some NoPassenger) (entry_row plan s false i))) ≡ false = as_full plan s i c.passenger false (is_full c) (sym clear) ∙ barred in
+    let after = rider_barred plan s i c.passenger (is_full (record c { packet = q; met = false })) before in
+    put_same plan s i c (record c { packet = q; met = false }) here (packet_mark plan s i c q false (after ∙ sym barred))
+
+unset : (b : Bool) → not b ≡ true → b ≡ false
+unset true e = absurd (cc)
+unset false e = refl
+
+fall_tests : (c d : Cell) → fall_bar c (Some d) ≡ None → (is_full c ≡ false) × (is_some d.packet ≡ false)
+fall_tests c d e = tests (is_some c.packet) (is_full c) (is_some d.packet) e
+  where
+    tests : (k f o : Bool) → first (not k) NoPacket (first f NotMet (first o Occupied None)) ≡ None → (f ≡ false) × (o ≡ false)
+    tests false f o g = absurd (cc)
+    tests true true o g = absurd (cc)
+    tests true false true g = absurd (cc)
+    tests true false false g = (refl, refl)
+
+fall_keeps : (plan : Plan) (s : State) (i : ℕ) → row_bar plan s (Fall i) ≡ None → is_free plan s (Launch (i - 1)) ≡ false → Same plan s (moved plan s (Fall i))
+unfolding moved
+fall_keeps plan s i free barred = by_cells (cell_at s.cells i) (cell_at s.cells (i - 1)) refl refl free barred
+  where
+    by_cells : (o a : Option Cell) → cell_at s.cells i ≡ o → cell_at s.cells (i - 1) ≡ a → on o (Some NoSuchSite) (λ c. fall_bar c a) ≡ None →
+        not (is_some (on a (Some NoSuchSite) (λ d. launch_bar plan s d (i - 1)))) ≡ false → Same plan s (on o s (λ c. on a s (fallen s i c)))
+    by_cells None a e f row bars = unchanged plan s
+    by_cells (Some c) None e f row bars = unchanged plan s
+    by_cells (Some c) (Some d) e f row bars =
+        let tests = fall_tests c d row in
+        let low = stage-low s.cells i c e in
+        let off : i - 1 ≢ i = λ g. absurd (omega (arith, g, low)) in
+        let t = with_cell s i (without_packet c) in
+        both plan s t (fallen s i c d) (packet_gone plan s i c e tests.0) (packet_comes plan t (i - 1) d c.packet (cell-put-other s.cells i (i - 1) (without_packet c) off ∙ f) tests.1 bars)
+
+emit_tests : (r : ℕ) (lane : List ℕ) (c : Cell) → emit_bar (r ∷ lane) c ≡ None → is_some c.packet ≡ false
+emit_tests r lane c e = tests (is_some c.packet) e
+  where
+    tests : (o : Bool) → first o Occupied None ≡ None → o ≡ false
+    tests true g = absurd (cc)
+    tests false g = refl
+
+emit_keeps : (plan : Plan) (s : State) → row_bar plan s Emit ≡ None → is_free plan s (Launch plan.stages) ≡ false → Same plan s (moved plan s Emit)
+unfolding moved
+emit_keeps plan s free barred = by_cell (cell_at s.cells plan.stages) s.lane refl free barred
+  where
+    n : ℕ
+    n = plan.stages
+
+    by_cell : (o : Option Cell) (lane : List ℕ) → cell_at s.cells n ≡ o → on o (Some NoSuchSite) (emit_bar lane) ≡ None →
+        not (is_some (on o (Some NoSuchSite) (λ c. launch_bar plan s c n))) ≡ false → Same plan s (on o s (emitted s n lane))
+    by_cell None lane e row bars = unchanged plan s
+    by_cell (Some c) [] e row bars = unchanged plan s
+    by_cell (Some c) (r ∷ lane) e row bars =
+        let t = emitted s n (r ∷ lane) c in
+        both plan s (record t { lane = s.lane }) t (packet_comes plan s n c _ e (emit_tests r lane c row) bars) (rest-same plan (record t { lane = s.lane }) t refl refl)
+
+exit_tests : (c : Cell) → exit_bar c ≡ None → is_full c ≡ false
+exit_tests c e = tests (is_some c.packet) (is_full c) e
+  where
+    tests : (k f : Bool) → first (not k) NoPacket (first f NotMet None) ≡ None → f ≡ false
+    tests false f g = absurd (cc)
+    tests true true g = absurd (cc)
+    tests true false g = refl
+
+exit_keeps : (plan : Plan) (s : State) → row_bar plan s Exit ≡ None → Same plan s (moved plan s Exit)
+unfolding moved
+exit_keeps plan s free = by_cell (cell_at s.cells 1) refl free
+  where
+    by_packet : (c : Cell) (o : Option Packet) → c.packet ≡ o → Same plan s (with_cell s 1 (without_packet c)) → Same plan s (exited plan s c)
+    by_packet c None e same = rw e (unchanged plan s)
+    by_packet c (Some k) e same = rw e (both plan s (with_cell s 1 (without_packet c)) _ same (rest-same plan (with_cell s 1 (without_packet c)) _ refl refl))
+
+    by_cell : (o : Option Cell) → cell_at s.cells 1 ≡ o → on o (Some NoSuchSite) exit_bar ≡ None → Same plan s (on o s (exited plan s))
+    by_cell None e row = unchanged plan s
+    by_cell (Some c) e row = by_packet c c.packet refl (packet_gone plan s 1 c e (exit_tests c row))
+
+-- Moves of a passenger that is spent --
+
+spent_parts : (idle owes : Bool) → (idle && not owes) ≡ true → (idle ≡ true) × (owes ≡ false)
+spent_parts true false e = (refl, refl)
+spent_parts true true e = absurd (cc)
+spent_parts false owes e = absurd (cc)
+
+-- nobody is there, or one that is spent
+abbrev is_blank : Option Passenger → Bool
+is_blank o = on o true is_spent
+
+blank_mark : (plan : Plan) (s : State) (i : ℕ) (o : Option Passenger) → passenger_at s.cells i ≡ o → is_blank o ≡ true → mark_at plan s i ≡ no_mark
+blank_mark plan s i None e blank = sym (mark-none plan s i e)
+blank_mark plan s i (Some p) e blank =
+    let parts = spent_parts (is_idle p) (is_some p.owes) blank in
+    sym (mark-idle plan s i p e parts.0) ∙ ap (λ (b : Bool). record no_mark { owes = b }) parts.1
+
+blank_same : (plan : Plan) (s : State) (i : ℕ) (b c : Cell) → cell_at s.cells i ≡ Some b → is_blank b.passenger ≡ true → is_blank c.passenger ≡ true → Same plan s (with_cell s i c)
+blank_same plan s i b c here before after =
+    let there = cell-put s.cells i c (stage-low s.cells i b here) (stage-high s.cells i b here) in
+    let riders = λ (o : Option Cell). on o None (λ (d : Cell). d.passenger) in
+    one_stage plan s (with_cell s i c) i (cell-but plan s i i c) (
+    blank_mark plan (with_cell s i c) i c.passenger (ap riders there) after
+    ∙ sym (blank_mark plan s i b.passenger (ap riders here) before))
+
+climb_tests : (plan : Plan) (c d : Cell) (i : ℕ) (p : Passenger) → c.passenger ≡ Some p → climb_bar plan c i (Some d) ≡ None → d.passenger ≡ None
+climb_tests plan c d i p e free = grind arith
+
+climb_keeps : (plan : Plan) (s : State) (i : ℕ) → row_bar plan s (Climb i) ≡ None → on (cell_at s.cells i) false (λ c. on c.passenger false is_spent) ≡ true → Same plan s (moved plan s (Climb i))
+unfolding moved
+climb_keeps plan s i free spent = by_cells (cell_at s.cells i) (cell_at s.cells (i + 1)) refl refl free spent
+  where
+    by_rider : (c d : Cell) (o : Option Passenger) → cell_at s.cells i ≡ Some c → cell_at s.cells (i + 1) ≡ Some d → c.passenger ≡ o → climb_bar plan c i (Some d) ≡ None → on o false is_spent ≡ true → Same plan s (climbed s i c d)
+    by_rider c d None e f rides row spent = absurd (cc)
+    by_rider c d (Some p) e f rides row spent =
+        let t = with_cell s i (without_passenger c) in
+        let off : i + 1 ≢ i = λ g. absurd (omega (arith, g)) in
+        let first = blank_same plan s i c (without_passenger c) e (rw rides spent) refl in
+        let free : is_blank d.passenger ≡ true = rw (climb_tests plan c d i p rides row) refl in
+        let second = blank_same plan t (i + 1) d (record d { passenger = c.passenger; met = false }) (cell-put-other s.cells i (i + 1) (without_passenger c) off ∙ f) free (rw rides spent) in
+        both plan s t (climbed s i c d) first second
+
+    by_cells : (o a : Option Cell) → cell_at s.cells i ≡ o → cell_at s.cells (i + 1) ≡ a → on o (Some NoSuchSite) (λ c. climb_bar plan c i a) ≡ None →
+        on o false (λ c. on c.passenger false is_spent) ≡ true → Same plan s (on o s (λ c. on a s (climbed s i c)))
+    by_cells None a e f row spent = unchanged plan s
+    by_cells (Some c) None e f row spent = unchanged plan s
+    by_cells (Some c) (Some d) e f row spent = by_rider c d c.passenger e f refl row spent
+
+-- a meeting leaves it spent
+cancelled_spent : (dead done out owes : Bool) → ((not (not dead && not done) && not out) && not owes) ≡ true → ((not (not true && not done) && not out) && not false) ≡ true
+cancelled_spent dead done out owes e = grind arith
+
+abbrev IsSpentIn : Met → Type 0
+IsSpentIn m = is_spent m.passenger ≡ true
+
+met_spent : (p : Passenger) (k : Packet) → is_spent p ≡ true → is_spent (meeting p k).passenger ≡ true
+unfolding meeting
+met_spent p k spent = by_dead p.dead
+  where
+    by_packet : (k : Packet) → is_spent (passenger_met k p) ≡ true
+    by_packet (Value r v) = spent
+    by_packet (Turn pc) = cancelled_spent p.dead p.done (is_out p) (is_some p.owes) spent
+    by_packet Halt = cancelled_spent p.dead p.done (is_out p) (is_some p.owes) spent
+
+    by_dead : (dead : Bool) → IsSpentIn (if dead then record { passenger = p; packet = Some k } else record { passenger = passenger_met k p; packet = packet_met k p })
+    by_dead true = spent
+    by_dead false = by_packet k
+
+meet_keeps : (plan : Plan) (s : State) (i : ℕ) → on (cell_at s.cells i) false (λ c. on c.passenger false is_spent) ≡ true → Same plan s (moved plan s (Meet i))
+unfolding moved
+meet_keeps plan s i spent = by_cell (cell_at s.cells i) refl spent
+  where
+    by_packet : (c : Cell) (p : Passenger) (o : Option Packet) → cell_at s.cells i ≡ Some c → c.passenger ≡ Some p → is_spent p ≡ true → Same plan s (on o s (λ k. with_cell s i (cell_met c p k)))
+    by_packet c p None e rides spent = unchanged plan s
+    by_packet c p (Some k) e rides spent = blank_same plan s i c (cell_met c p k) e (rw rides spent) (met_spent p k spent)
+
+    by_rider : (c : Cell) (o : Option Passenger) → cell_at s.cells i ≡ Some c → c.passenger ≡ o → on o false is_spent ≡ true → Same plan s (on o s (λ p. on c.packet s (λ k. with_cell s i (cell_met c p k))))
+    by_rider c None e rides spent = unchanged plan s
+    by_rider c (Some p) e rides spent = by_packet c p c.packet e rides spent
+
+    by_cell : (o : Option Cell) → cell_at s.cells i ≡ o → on o false (λ c. on c.passenger false is_spent) ≡ true → Same plan s (on o s (λ c. on c.passenger s (λ p. on c.packet s (λ k. with_cell s i (cell_met c p k)))))
+    by_cell None e spent = unchanged plan s
+    by_cell (Some c) e spent = by_rider c c.passenger e refl spent
+
+-- what leaves is spent
+leave_spent : (c : Cell) (p : Passenger) → c.passenger ≡ Some p → leave_bar c ≡ None → is_spent p ≡ true
+leave_spent c p rides free = tests (is_some c.packet && not c.met) (is_some p.owes) (is_undone p) (is_out p) (rw rides at free)
+  where
+    tests : (full owes undone out : Bool) → first full NotMet (first owes Owes (first (undone || out) NotDone None)) ≡ None → ((not undone && not out) && not owes) ≡ true
+    tests true owes undone out g = absurd (cc)
+    tests false true undone out g = absurd (cc)
+    tests false false true out g = absurd (cc)
+    tests false false false true g = absurd (cc)
+    tests false false false false g = refl
+
+leave_keeps : (plan : Plan) (s : State) → row_bar plan s Leave ≡ None → Same plan s (moved plan s Leave)
+unfolding moved
+leave_keeps plan s free = by_cell (cell_at s.cells plan.stages) refl free
+  where
+    n : ℕ
+    n = plan.stages
+
+    by_ending : (t : State) (p : Passenger) (o : Option End) → p.ending ≡ o → Same plan t (left_live t p)
+    by_ending t p None e = rw e (rest-same plan t _ refl refl)
+    by_ending t p (Some end) e = rw e (rest-same plan t _ refl refl)
+
+    by_dead : (t : State) (p : Passenger) (dead : Bool) → Same plan t (if dead then t else left_live t p)
+    by_dead t p true = unchanged plan t
+    by_dead t p false = by_ending t p p.ending refl
+
+    by_rider : (c : Cell) (o : Option Passenger) → cell_at s.cells n ≡ Some c → c.passenger ≡ o → leave_bar c ≡ None → Same plan s (on o s (left s n c))
+    by_rider c None e rides row = unchanged plan s
+    by_rider c (Some p) e rides row =
+        let t = with_cell s n (without_passenger c) in
+        both plan s t (left s n c p) (blank_same plan s n c (without_passenger c) e (rw rides (leave_spent c p rides row)) refl) (by_dead t p p.dead)
+
+    by_cell : (o : Option Cell) → cell_at s.cells n ≡ o → on o (Some NoSuchSite) leave_bar ≡ None → Same plan s (on o s (λ c. on c.passenger s (left s n c)))
+    by_cell None e row = unchanged plan s
+    by_cell (Some c) e row = by_rider c c.passenger e refl row
+
+-- so each of them leaves all as it is
+pub moved-same : (plan : Plan) (s : State) (mv : Move) → row_bar plan s mv ≡ None → keeps_marks plan s mv ≡ true → Same plan s (moved plan s mv)
+unfolding keeps_marks
+moved-same plan s (Climb i) free keeps = climb_keeps plan s i free keeps
+moved-same plan s (Meet i) free keeps = meet_keeps plan s i keeps
+moved-same plan s (Fall i) free keeps = fall_keeps plan s i free (unset (is_free plan s (Launch (i - 1))) keeps)
+moved-same plan s Emit free keeps = emit_keeps plan s free (unset (is_free plan s (Launch plan.stages)) keeps)
+moved-same plan s Leave free keeps = leave_keeps plan s free
+moved-same plan s Exit free keeps = exit_keeps plan s free
+moved-same plan s (Issue g) free keeps = absurd (cc)
+moved-same plan s (Execute i) free keeps = absurd (cc)
+moved-same plan s (Send i) free keeps = absurd (cc)
+moved-same plan s (Launch i) free keeps = absurd (cc)
+moved-same plan s (Slide k c) free keeps = absurd (cc)
+moved-same plan s Access free keeps = absurd (cc)
+moved-same plan s (Recover i) free keeps = absurd (cc)
+moved-same plan s Serve free keeps = absurd (cc)
+
+-- the bit of a stage tells whether an operation can be launched there
+pub launch-bit : (plan : Plan) (s : State) (marks : Marks) (i : ℕ) → marks ≡ marks_of plan s → 0 < i → i ≤ plan.stages → has_bit marks.launch (i - 1) ≡ is_free plan s (Launch i)
+unfolding marks_of mark_at
+launch-bit plan s marks i is low within =
+    let bit = word-bit (λ k. (mark_at plan s k).launch) plan.stages (i - 1) (omega (arith, low, within)) in
+    let z : suc (i - 1) ≡ i = omega (arith, low) in
+    rw is (bit ∙ ap (λ (n : ℕ). (mark_at plan s n).launch) z)
+
+pub ruleset launch_bits = (launch-bit)

@@ -1,0 +1,65 @@
+//! Moves that leave what is kept of the stages as it is.
+
+ghost use Rattle.std.specs.Prelude.{◌≡◌, ◌<◌, ◌≤◌, None};
+ghost use Rattle.cf_bind.specs.declared.moves.Move.TheVariants as mv;
+ghost use Rattle.cf_semantics.specs.Bars.{row_bar};
+ghost use Rattle.cf_core.specs.Marks.{is_free, keeps_marks as keeps_all, marks_of};
+ghost use Rattle.cf_core.specs.Masks.{rides};
+ghost use Rattle.cf_core.specs.Processors.{IsProcessor};
+ghost use Rattle.cf_core.specs.Riders.{is_spent as has_done_all};
+
+use crate::marks::Marks;
+use crate::processor::Processor;
+use crate::riding::is_spent;
+use cf_bind::Move;
+use cf_stages::has_bit;
+
+impl Processor {
+    /// Whether an instruction is in the stage, and has nothing left to do but to climb and to leave.
+    #[inline(always)]
+    fn is_spent_at(&self, i: u32) -> bool
+        requires above { 0 < i }
+        requires within { i ≤ self.now.plan.stages }
+        requires facts { IsProcessor self.now.plan self.now.state }
+        ensures { result ≡ rides self.now.state i has_done_all }
+    {
+        let _stages = self.layout.stages();
+        match self.stages.passenger(i) {
+            Some(passenger) => is_spent(passenger),
+            None => false,
+        }
+    }
+
+    /// Whether no test in the row of Launch bars the stage, by the words that are kept.
+    #[inline(always)]
+    #[tactic(auto, using(crate::proofs::StillMarks::launch_bits))]
+    fn launches_at(&self, marks: Marks, i: u32) -> bool
+        requires above { 0 < i }
+        requires within { i ≤ self.now.plan.stages }
+        requires marks { marks ≡ marks_of self.now.plan self.now.state }
+        ensures { result ≡ is_free self.now.plan self.now.state (mv.Launch i) }
+    {
+        let _stages = self.layout.stages();
+        has_bit(marks.launch, i)
+    }
+
+    /// Whether an allowed move leaves what is kept of all stages as it is, as most moves do: those of an instruction that has
+    /// nothing left to do, and those of a result, unless it comes to where an operation can be launched, which it may bar.
+    #[inline(always)]
+    #[tactic(auto, using(crate::proofs::Sites::moving), unfolding(crate::specs::Marks::keeps_marks))]
+    pub(crate) fn keeps_marks(&self, marks: Marks, m: Move) -> bool
+        requires facts { IsProcessor self.now.plan self.now.state }
+        requires allowed { row_bar self.now.plan self.now.state m ≡ None }
+        requires marks { marks ≡ marks_of self.now.plan self.now.state }
+        ensures { result ≡ keeps_all self.now.plan self.now.state m }
+    {
+        match m {
+            Move::Climb(i) | Move::Meet(i) => self.is_spent_at(i),
+            Move::Fall(i) => !self.launches_at(marks, i - 1),
+            Move::Emit => !self.launches_at(marks, self.stages.count()),
+            Move::Leave | Move::Exit => true,
+            Move::Issue(_) | Move::Execute(_) | Move::Send(_) | Move::Launch(_) => false,
+            Move::Slide(_, _) | Move::Access | Move::Recover(_) | Move::Serve => false,
+        }
+    }
+}
