@@ -10,6 +10,7 @@ pub mod PassedEnds
 pub mod PassedAll
 pub mod WordBits
 pub mod Rows
+pub mod AllowedWords
 pub mod SiteWords
 pub mod UsedSites
 pub mod UsedCells

@@ -1,7 +1,9 @@
 -- The words of a processor tell where the rows of Climb, Fall, Meet and Send are free.
 use Rattle.std.proofs.Common.{◌≡◌, ◌∙◌, refl, sym, ap, ℕ, zero, suc, ◌+◌, ◌-◌, ◌<◌, ◌≤◌, List, [], ◌∷◌, length, Option, Some, None, Bool, true, false, nat_lt, arith}
-use Rattle.std.specs.Prelude.{◌&&◌, if◌then◌else◌, not, slice_get}
+use Rattle.std.specs.Prelude.{◌&&◌, if◌then◌else◌, nat_eq, not, slice_get}
+use Rattle.std.specs.Int.{bit_at}
 use Rattle.std.proofs.lemmas.Bool.Decides.{nat_tests}
+use Rattle.std.proofs.lemmas.Nat.Bits.{bit_at-lt, same_from_bits}
 use Rattle.cf_bind.specs.declared.cell.Cell.{Cell}
 use Rattle.cf_bind.specs.declared.moves.Bar.{Bar}
 use Rattle.cf_bind.specs.declared.moves.Bar.TheVariants.{NoPacket, NoPassenger, NoSuchSite, NotDone, NotMet, Occupied, Owes}
@@ -19,7 +21,7 @@ use Rattle.cf_core.specs.Masks.{masks_of, stops_there}
 use Rattle.cf_core.specs.declared.masks.Masks.{Masks}
 use Rattle.cf_core.proofs.Masked.{allowed-as}
 use Rattle.cf_layout.proofs.Words.{no_bits}
-use Rattle.cf_index.specs.Allowed.{HasStages, is_allowed}
+use Rattle.cf_index.specs.Allowed.{HasStages, is_allowed, passing_of, word_allowed}
 use Rattle.cf_index.specs.Words.{climb_bit, fall_bit, full_bit, goes_on, send_bit}
 
 -- the bits of a word of tests
@@ -243,6 +245,20 @@ stages_are plan s kind w v has outside same is k =
     ∙ ap (λ (b : Bool). goes_on s && b) (has k)
     ∙ in_stages plan s kind k (goes_on s) (nat_lt k plan.stages) (not (is_some (row_bar plan s (kind (k + 1))))) refl refl refl
     (λ e. outside k (no_cell s.cells k (some-cell s.cells k ∙ ap (nat_lt k) same ∙ e))))
+
+-- a word that tells where a kind of move is allowed is the word of the stages where it is
+same_bit : (a b : ℕ) → a < 2 → b < 2 → nat_eq a 1 ≡ nat_eq b 1 → a ≡ b
+same_bit a b small less e = grind (arith, nat_tests)
+
+same_bits : (a b : ℕ) → ((k : ℕ) → has_bit a k ≡ has_bit b k) → a ≡ b
+unfolding has_bit
+same_bits a b same = same_from_bits a b (λ k. same_bit (bit_at a k) (bit_at b k) (bit_at-lt a k) (bit_at-lt b k) (same k))
+
+pub allowed-has : (plan : Plan) (s : State) (kind : ℕ → Move) → HasStages plan s kind (word_allowed plan s kind)
+allowed-has plan s kind k = word-has (λ i. is_allowed plan s (kind i)) plan.stages k
+
+pub word-is : (plan : Plan) (s : State) (kind : ℕ → Move) (w : ℕ) → HasStages plan s kind w → w ≡ word_allowed plan s kind
+word-is plan s kind w has = same_bits w (word_allowed plan s kind) (λ k. has k ∙ sym (allowed-has plan s kind k))
 
 -- the words of the four kinds
 pub climb-stages : (plan : Plan) (s : State) (m : Masks) (w v : ℕ) → m ≡ masks_of plan s → length s.cells ≡ plan.stages → ((k : ℕ) → has_bit w k ≡ climb_bit m plan.stages k) → v ≡ (if goes_on s then w else 0) → HasStages plan s Climb v

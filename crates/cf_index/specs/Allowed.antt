@@ -9,6 +9,9 @@ use Rattle.cf_semantics.specs.Options.{is_some}
 use Rattle.cf_semantics.specs.State.{State}
 use Rattle.cf_semantics.specs.Bars.{bar}
 use Rattle.cf_semantics.specs.Candidates.{at_stages, held_back, slides_from}
+use Rattle.cf_stages.specs.Words.{word_of}
+use Rattle.cf_index.specs.declared.passing.Passing.{Passing}
+use Rattle.cf_index.specs.Listed.{at_word}
 
 -- nothing bars the move
 abbrev pub is_allowed : Plan → State → Move → Bool
@@ -17,6 +20,37 @@ is_allowed plan s mv = not (is_some (bar plan s mv))
 -- the word has bit i - 1 exactly where the move of this kind is allowed at stage i of the layout
 abbrev pub HasStages : Plan → State → (ℕ → Move) → ℕ → Type 0
 HasStages plan s kind w = (k : ℕ) → has_bit w k ≡ (nat_lt k plan.stages && is_allowed plan s (kind (k + 1)))
+
+-- the stages at which the move of this kind is allowed, as a word
+abbrev pub word_allowed : Plan → State → (ℕ → Move) → ℕ
+word_allowed plan s kind = word_of (λ i. is_allowed plan s (kind i)) plan.stages
+
+-- the words of what is allowed over the stages
+unfoldable pub passing_of : Plan → State → Passing
+passing_of plan s = record {
+  climb = word_allowed plan s Climb;
+  fall = word_allowed plan s Fall;
+  meet = word_allowed plan s Meet;
+  execute = word_allowed plan s Execute;
+  send = word_allowed plan s Send;
+  launch = word_allowed plan s Launch;
+}
+
+-- what is allowed over the stages, from one kind of move on
+abbrev pub launch_on : Plan → State → List Move
+launch_on plan s = at_word Launch (passing_of plan s).launch
+
+abbrev pub send_on : Plan → State → List Move
+send_on plan s = at_word Send (passing_of plan s).send ++ launch_on plan s
+
+abbrev pub execute_on : Plan → State → List Move
+execute_on plan s = at_word Execute (passing_of plan s).execute ++ send_on plan s
+
+abbrev pub meet_on : Plan → State → List Move
+meet_on plan s = at_word Meet (passing_of plan s).meet ++ execute_on plan s
+
+abbrev pub fall_on : Plan → State → List Move
+fall_on plan s = at_word Fall (passing_of plan s).fall ++ meet_on plan s
 
 -- the parts of the list of all moves
 abbrev pub all_entering : List Move

@@ -1,44 +1,20 @@
 //! The candidates of a processor.
 
-ghost use Rattle.std.specs.Prelude.{◌≡◌, ℕ, ◌+◌, ◌-◌, ◌*◌, ◌/◌, ◌%◌, ◌<◌, ◌≤◌, ◌&&◌, ◌||◌, filter, if◌then◌else◌, length, nat_eq, nat_lt};
+ghost use Rattle.std.specs.Prelude.{◌≡◌, ℕ, ◌+◌, ◌-◌, ◌*◌, ◌/◌, ◌%◌, ◌<◌, ◌≤◌, ◌&&◌, ◌||◌, filter, length, nat_eq, nat_lt};
 ghost use Rattle.cf_layout.specs.Layout.{cells_of};
 ghost use Rattle.cf_layout.specs.Words.{has_bit};
 ghost use Rattle.cf_semantics.specs.Candidates.{candidates, slides_from};
 ghost use Rattle.cf_core.specs.Masks.{masks_of};
 ghost use Rattle.cf_index.specs.Allowed.{all_entering, all_leaving, all_passing, is_allowed};
 ghost use Rattle.cf_index.specs.Listed.{entering_moves, leaving_moves, passing_moves, slide_at, slides_of};
-ghost use Rattle.cf_index.specs.Words.{goes_on};
 
 use crate::bits::with_bit;
 use crate::candidates::Candidates;
 use crate::entering::Entering;
 use crate::leaving::Leaving;
 use crate::passing::Passing;
-use crate::words::{climbing, falling, full, sending};
+use crate::stages::{climbs, executes, falls, launches, meets, sends, stages};
 use cf_core::{Core, Masks};
-
-/// The word where the processor goes on, and no stage where it does not.
-#[inline(always)]
-fn where_on(core: &Core, word: u32) -> u32
-    ensures { result ≡ (if goes_on core.now.state then word else 0) }
-{
-    if core.ending().is_none() && !core.failed() {
-        word
-    } else {
-        0
-    }
-}
-
-/// How many stages there are.
-#[inline(always)]
-fn stages(core: &Core) -> u32
-    ensures stages { result ≡ core.now.plan.stages }
-    ensures some { 1 ≤ result }
-    ensures few { result ≤ 32 }
-    ensures cells { length core.now.state.cells ≡ result }
-{
-    core.layout().stages()
-}
 
 /// How many cells a siding has: 1 to 8. There are 8 sidings at most.
 #[inline(always)]
@@ -98,13 +74,14 @@ pub(crate) fn passing(core: &Core, masks: &Masks) -> Passing
     requires { masks.now ≡ masks_of core.now.plan core.now.state }
     ensures { passing_moves result ≡ filter (is_allowed core.now.plan core.now.state) (all_passing core.now.plan) }
 {
+    let _stages = stages(core);
     Passing {
-        climb: where_on(core, climbing(masks, stages(core))),
-        fall: where_on(core, falling(masks)),
-        meet: where_on(core, full(masks)),
-        execute: masks.execute,
-        send: where_on(core, sending(masks)),
-        launch: masks.launch,
+        climb: climbs(core, masks),
+        fall: falls(core, masks),
+        meet: meets(core, masks),
+        execute: executes(core, masks),
+        send: sends(core, masks),
+        launch: launches(core, masks),
     }
 }
 

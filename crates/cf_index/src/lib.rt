@@ -1,6 +1,7 @@
 //! The moves that are allowed, counted and picked by their place.
 #![tactic(auto)]
 
+mod ahead;
 mod behind;
 mod bits;
 mod candidates;
@@ -10,6 +11,7 @@ mod leaving;
 mod passing;
 mod sharing;
 mod soon;
+mod stages;
 mod words;
 
 pub use candidates::Candidates;

@@ -6,122 +6,18 @@ ghost use Rattle.cf_semantics.specs.Candidates.{candidates, slides_from};
 ghost use Rattle.cf_core.specs.Masks.{masks_of};
 ghost use Rattle.cf_semantics.specs.Weight.{is_issue};
 ghost use Rattle.cf_index.specs.Allowed.{all_leaving, all_passing, allowed_others, is_allowed, withheld};
-ghost use Rattle.cf_index.specs.Listed.{at_word, flagged, leaving_moves, passing_moves, slides_of};
+ghost use Rattle.cf_index.specs.Listed.{at_word, flagged, leaving_moves, slides_of};
 ghost use Rattle.cf_index.specs.Order.{first_behind, kind_place, stands_behind};
 
+use crate::ahead::{first_passing, next_passing};
 use crate::bits::lowest;
 use crate::candidates::Candidates;
-use crate::fill::{leaving, passing, slides};
+use crate::fill::{leaving, slides};
 use crate::leaving::Leaving;
-use crate::passing::Passing;
+use crate::stages::goes_on;
 use crate::words::past;
 use cf_bind::{Guess, Move};
 use cf_core::{Core, Masks};
-
-impl Passing {
-    /// The first of these Launch moves.
-    #[inline(always)]
-    #[tactic(auto, using(crate::proofs::Behinds::first_last))]
-    fn first_launch(launch: u32) -> Option<Move>
-        ensures { result ≡ slice_get (at_word mv.Launch launch) 0 }
-    {
-        match lowest(launch) {
-            Some(k) => Some(Move::Launch(k + 1)),
-            None => None,
-        }
-    }
-
-    /// The first of these Send moves and of those behind them.
-    #[inline(always)]
-    #[tactic(auto, using(crate::proofs::Behinds::first_here))]
-    fn first_send(&self, send: u32) -> Option<Move>
-        ensures { result ≡ slice_get (at_word mv.Send send ++ at_word mv.Launch self.now.launch) 0 }
-    {
-        match lowest(send) {
-            Some(k) => Some(Move::Send(k + 1)),
-            None => Passing::first_launch(self.launch),
-        }
-    }
-
-    /// The first of these Execute moves and of those behind them.
-    #[inline(always)]
-    #[tactic(auto, using(crate::proofs::Behinds::first_here))]
-    fn first_execute(&self, execute: u32) -> Option<Move>
-        ensures { result ≡ slice_get (at_word mv.Execute execute ++ (at_word mv.Send self.now.send ++ at_word mv.Launch self.now.launch)) 0 }
-    {
-        match lowest(execute) {
-            Some(k) => Some(Move::Execute(k + 1)),
-            None => self.first_send(self.send),
-        }
-    }
-
-    /// The first of these Meet moves and of those behind them.
-    #[inline(always)]
-    #[tactic(auto, using(crate::proofs::Behinds::first_here))]
-    fn first_meet(&self, meet: u32) -> Option<Move>
-        ensures { result ≡ slice_get (at_word mv.Meet meet ++ (at_word mv.Execute self.now.execute ++ (at_word mv.Send self.now.send ++ at_word mv.Launch self.now.launch))) 0 }
-    {
-        match lowest(meet) {
-            Some(k) => Some(Move::Meet(k + 1)),
-            None => self.first_execute(self.execute),
-        }
-    }
-
-    /// The first of these Fall moves and of those behind them.
-    #[inline(always)]
-    #[tactic(auto, using(crate::proofs::Behinds::first_here))]
-    fn first_fall(&self, fall: u32) -> Option<Move>
-        ensures { result ≡ slice_get (at_word mv.Fall fall ++ (at_word mv.Meet self.now.meet ++ (at_word mv.Execute self.now.execute ++ (at_word mv.Send self.now.send ++ at_word mv.Launch self.now.launch)))) 0 }
-    {
-        match lowest(fall) {
-            Some(k) => Some(Move::Fall(k + 1)),
-            None => self.first_meet(self.meet),
-        }
-    }
-
-    /// The first of these Climb moves and of those behind them.
-    #[inline(always)]
-    #[tactic(auto, using(crate::proofs::Behinds::first_here))]
-    fn first_climb(&self, climb: u32) -> Option<Move>
-        ensures { result ≡ slice_get (at_word mv.Climb climb ++ (at_word mv.Fall self.now.fall ++ (at_word mv.Meet self.now.meet ++ (at_word mv.Execute self.now.execute ++ (at_word mv.Send self.now.send ++ at_word mv.Launch self.now.launch))))) 0 }
-    {
-        match lowest(climb) {
-            Some(k) => Some(Move::Climb(k + 1)),
-            None => self.first_fall(self.fall),
-        }
-    }
-
-    /// The first of them.
-    #[inline(never)]
-    #[tactic(auto, unfolding(crate::specs::Listed::passing_moves))]
-    fn first(&self) -> Option<Move>
-        ensures { result ≡ slice_get (passing_moves self.now) 0 }
-    {
-        self.first_climb(self.climb)
-    }
-
-    /// The first of them that stands behind the move in the order of all moves.
-    #[inline(always)]
-    pub(crate) fn behind(&self, last: Move) -> Option<Move>
-        ensures { result ≡ find (stands_behind last) (passing_moves self.now) }
-    {
-        match last {
-            Move::Issue(_) | Move::Emit => self.first_climb(self.climb),
-            Move::Climb(i) => self.first_climb(past(self.climb, i)),
-            Move::Fall(i) => self.first_fall(past(self.fall, i)),
-            Move::Meet(i) => self.first_meet(past(self.meet, i)),
-            Move::Execute(i) => self.first_execute(past(self.execute, i)),
-            Move::Send(i) => self.first_send(past(self.send, i)),
-            Move::Launch(i) => Passing::first_launch(past(self.launch, i)),
-            Move::Slide(_, _)
-            | Move::Access
-            | Move::Recover(_)
-            | Move::Leave
-            | Move::Exit
-            | Move::Serve => None,
-        }
-    }
-}
 
 impl Leaving {
     /// Serve, where it is allowed.
@@ -262,7 +158,7 @@ fn onward(core: &Core, last: Move) -> Option<Move>
     ensures { kind_place last ≢ 8 → result ≡ find (stands_behind last) (filter (is_allowed core.now.plan core.now.state) (all_passing core.now.plan) ++ (filter (is_allowed core.now.plan core.now.state) (slides_from 0 core.now.plan.sidings) ++ filter (is_allowed core.now.plan core.now.state) (all_leaving core.now.plan))) }
 {
     let masks = core.masks();
-    match passing(core, &masks).behind(last) {
+    match next_passing(core, &masks, last) {
         Some(next) => Some(next),
         None => beyond(core, &masks, last),
     }
@@ -277,13 +173,12 @@ fn first_other(core: &Core) -> Option<Move>
     if core.may_emit() {
         return Some(Move::Emit);
     }
-    let masks = core.masks();
-    if let Some(next) = passing(core, &masks).first() {
+    if let Some(next) = first_passing(core) {
         return Some(next);
     }
     match first_slide(slides(core)) {
         Some(next) => Some(next),
-        None => leaving(core, &masks).first(),
+        None => leaving(core, &core.masks()).first(),
     }
 }
 
@@ -326,6 +221,9 @@ impl Candidates {
         ensures { IfSome result (λ next. Some next ≡ slice_get (withheld held (candidates core.now.plan core.now.state))
             (first_behind (Some last) (withheld held (candidates core.now.plan core.now.state)))) }
     {
+        if !goes_on(core) {
+            return None;
+        }
         match last {
             Move::Issue(_) => first_unissued(core, held),
             Move::Slide(_, _) => None,

@@ -13,7 +13,7 @@ returns-in-Some c =
     let q = is_allowed plan s in
     let rest = filter q (slides_from 0 plan.sidings) ++ filter q (all_leaving plan) in
     emit_barred plan s (Some c.in-Some.next) (sym c.may_emit.ensures ∙ c.if-may_emit.false)
-    (found_part (filter q (all_passing plan)) rest c.first.result c.in-Some.next (c.first.ensures ∙ ap (λ (l : List Move). slice_get l 0) c.passing.ensures) c.in-Some.is)
+    (found_part (filter q (all_passing plan)) rest c.first_passing.result c.in-Some.next c.first_passing.ensures c.in-Some.is)
 
 pub returns-in-Some-first_slide : goal.returns-in-Some-first_slide
 returns-in-Some-first_slide c =
@@ -23,7 +23,7 @@ returns-in-Some-first_slide c =
     let last = filter q (all_leaving plan) in
     let rest = filter q (slides_from 0 plan.sidings) ++ last in
     emit_barred plan s (Some c.in-Some-first_slide.next) (sym c.may_emit.ensures ∙ c.if-may_emit.false)
-    (next_part (filter q (all_passing plan)) rest c.first.result _ (c.first.ensures ∙ ap (λ (l : List Move). slice_get l 0) c.passing.ensures) c.in_default.is
+    (next_part (filter q (all_passing plan)) rest c.first_passing.result _ c.first_passing.ensures c.in_default.is
     (found_part (filter q (slides_from 0 plan.sidings)) last c.first_slide.result c.in-Some-first_slide.next (c.first_slide.ensures ∙ ap (λ (l : List Move). slice_get l 0) c.slides.ensures) c.in-Some-first_slide.is))
 
 pub returns-in-None : goal.returns-in-None
@@ -33,7 +33,7 @@ returns-in-None c =
     let q = is_allowed plan s in
     let last = filter q (all_leaving plan) in
     let rest = filter q (slides_from 0 plan.sidings) ++ last in
-    emit_barred plan s c.first-in-None.result (sym c.may_emit.ensures ∙ c.if-may_emit.false)
-    (next_part (filter q (all_passing plan)) rest c.first.result _ (c.first.ensures ∙ ap (λ (l : List Move). slice_get l 0) c.passing.ensures) c.in_default.is
+    emit_barred plan s c.first.result (sym c.may_emit.ensures ∙ c.if-may_emit.false)
+    (next_part (filter q (all_passing plan)) rest c.first_passing.result _ c.first_passing.ensures c.in_default.is
     (next_part (filter q (slides_from 0 plan.sidings)) last c.first_slide.result _ (c.first_slide.ensures ∙ ap (λ (l : List Move). slice_get l 0) c.slides.ensures) c.in-None.is
-    (c.first-in-None.ensures ∙ ap (λ (l : List Move). slice_get l 0) c.leaving.ensures)))
+    (c.first.ensures ∙ ap (λ (l : List Move). slice_get l 0) c.leaving.ensures)))

@@ -1,0 +1,14 @@
+use Rattle.std.proofs.Common.{◌≡◌, ◌∙◌, length}
+use Rattle.cf_bind.specs.declared.moves.Move.TheVariants.{Meet}
+use Rattle.cf_index.specs.Allowed.{passing_of}
+use Rattle.cf_index.proofs.Rows.{meet-stages, word-is}
+use Rattle.cf_index.proofs.stages.meets.Goals as goal
+
+pub returns : goal.returns
+unfolding passing_of
+returns c =
+    let plan = c.args.core.now.plan in
+    let s = c.args.core.now.state in
+    let m = c.args.masks.now in
+    let same : length s.cells ≡ plan.stages = c.stages-stages.ensures.cells ∙ c.stages-stages.ensures.stages in
+    word-is plan s Meet c.where_on.result (meet-stages plan s m c.full.result c.where_on.result c.requires same c.full.ensures c.where_on.ensures)

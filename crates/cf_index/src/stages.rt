@@ -1,0 +1,97 @@
+//! The words of the moves that are allowed over the stages, each for itself.
+
+ghost use Rattle.std.specs.Prelude.{◌≡◌, ◌≤◌, if◌then◌else◌, length};
+ghost use Rattle.cf_core.specs.Masks.{masks_of};
+ghost use Rattle.cf_index.specs.Allowed.{passing_of};
+ghost use Rattle.cf_index.specs.Words.{goes_on};
+
+use crate::words::{climbing, falling, full, sending};
+use cf_core::{Core, Masks};
+
+/// Whether the program has not ended, and neither the input nor the output has failed.
+#[inline(always)]
+pub(crate) fn goes_on(core: &Core) -> bool
+    ensures { result ≡ goes_on core.now.state }
+{
+    core.ending().is_none() && !core.failed()
+}
+
+/// The word where the processor goes on, and no stage where it does not.
+#[inline(always)]
+fn where_on(core: &Core, word: u32) -> u32
+    ensures { result ≡ (if goes_on core.now.state then word else 0) }
+{
+    if goes_on(core) { word } else { 0 }
+}
+
+/// How many stages there are.
+#[inline(always)]
+pub(crate) fn stages(core: &Core) -> u32
+    ensures stages { result ≡ core.now.plan.stages }
+    ensures some { 1 ≤ result }
+    ensures few { result ≤ 32 }
+    ensures cells { length core.now.state.cells ≡ result }
+{
+    core.layout().stages()
+}
+
+/// Where Climb is allowed.
+#[inline(always)]
+pub(crate) fn climbs(core: &Core, masks: &Masks) -> u32
+    requires { masks.now ≡ masks_of core.now.plan core.now.state }
+    ensures { result ≡ (passing_of core.now.plan core.now.state).climb }
+{
+    where_on(core, climbing(masks, stages(core)))
+}
+
+/// Where Fall is allowed.
+#[inline(always)]
+pub(crate) fn falls(core: &Core, masks: &Masks) -> u32
+    requires { masks.now ≡ masks_of core.now.plan core.now.state }
+    ensures { result ≡ (passing_of core.now.plan core.now.state).fall }
+{
+    let _stages = stages(core);
+    where_on(core, falling(masks))
+}
+
+/// Where Meet is allowed.
+#[inline(always)]
+pub(crate) fn meets(core: &Core, masks: &Masks) -> u32
+    requires { masks.now ≡ masks_of core.now.plan core.now.state }
+    ensures { result ≡ (passing_of core.now.plan core.now.state).meet }
+{
+    let _stages = stages(core);
+    where_on(core, full(masks))
+}
+
+/// Where Execute is allowed.
+#[inline(always)]
+#[tactic(auto, unfolding(crate::specs::Allowed::passing_of, cf_core::specs::Masks::masks_of))]
+pub(crate) fn executes(core: &Core, masks: &Masks) -> u32
+    requires { masks.now ≡ masks_of core.now.plan core.now.state }
+    ensures { result ≡ (passing_of core.now.plan core.now.state).execute }
+{
+    let _core = core;
+    masks.execute
+}
+
+/// Where Send is allowed.
+#[inline(always)]
+pub(crate) fn sends(core: &Core, masks: &Masks) -> u32
+    requires { masks.now ≡ masks_of core.now.plan core.now.state }
+    ensures { result ≡ (passing_of core.now.plan core.now.state).send }
+{
+    let _stages = stages(core);
+    where_on(core, sending(masks))
+}
+
+/// Where Launch is allowed.
+#[inline(always)]
+#[tactic(auto, unfolding(crate::specs::Allowed::passing_of, cf_core::specs::Masks::masks_of))]
+pub(crate) fn launches(core: &Core, masks: &Masks) -> u32
+    requires { masks.now ≡ masks_of core.now.plan core.now.state }
+    ensures { result ≡ (passing_of core.now.plan core.now.state).launch }
+{
+    let _core = core;
+    masks.launch
+}
