@@ -4,13 +4,15 @@ use Rattle.std.specs.Prelude.{slice_get}
 use Rattle.std.proofs.lemmas.List.{take_all}
 use Rattle.std.proofs.lemmas.Option.{same_Some}
 use Rattle.cf_io.specs.Puts.{WritesFront}
+use Rattle.rv_machine.specs.Streams.{Streams, streams_of}
 use Rattle.cf_layout.specs.Layout.{Plan}
 use Rattle.cf_bind.specs.declared.moves.Move.{Move}
 use Rattle.cf_bind.specs.declared.moves.Move.TheVariants.{Serve}
 use Rattle.cf_semantics.specs.Bars.{bar}
 use Rattle.cf_semantics.specs.Moves.{next as next_moment}
 use Rattle.cf_semantics.specs.State.{Moment}
-use Rattle.cf_core.specs.Processors.{Processor}
+use Rattle.cf_core.specs.Processors.{Processor, in_state}
+use Rattle.cf_core.specs.Stepping.{FailsToRead}
 use Rattle.cf_report.specs.declared.tally.Tally.{Tally}
 use Rattle.cf_report.specs.Lines.{numbered_move}
 use Rattle.cf_run.specs.declared.show.Show.TheVariants as show
@@ -32,25 +34,28 @@ use Rattle.cf_audit.proofs.Coming.{Comes, so-far, put-behind, retires-below, tra
 use Rattle.cf_audit.proofs.Parting.{parted, byte_behind}
 
 -- the last of some moves, and the moment at which it was made
-record LastMade (plan : Plan) (limit : ℕ) (told : Option (List ℕ)) (m : Moment) (trace : List Made) (made : Made) : Type 0 where
+record LastMade (plan : Plan) (limit : ℕ) (told : Option (List ℕ)) (m : Moment) (trace : List Made) (made : Made) (last : Moment) : Type 0 where
   at : Moment
   leads : Leads plan limit told m trace at
   rest : List ℕ
   finds : Finds told at.rest rest
   is : IsMade plan limit (record at { rest = rest }) made
+  last_is : last ≡ next_moment plan (record at { rest = rest }) made.move
 
-last_made : (plan : Plan) (limit : ℕ) (told : Option (List ℕ)) (m : Moment) (trace : List Made) (made : Made) (last : Moment) → Leads plan limit told m (trace ++ made ∷ []) last → LastMade plan limit told m trace made
+last_made : (plan : Plan) (limit : ℕ) (told : Option (List ℕ)) (m : Moment) (trace : List Made) (made : Made) (last : Moment) → Leads plan limit told m (trace ++ made ∷ []) last → LastMade plan limit told m trace made last
 unfolding Leads
-last_made plan limit told m [] made last (rest, finds, is, h) = record { at = m; leads = refl; rest = rest; finds = finds; is = is }
+last_made plan limit told m [] made last (rest, finds, is, h) = record { at = m; leads = refl; rest = rest; finds = finds; is = is; last_is = h }
 last_made plan limit told m (first ∷ trace) made last (rest, finds, is, h) =
-    let l : LastMade plan limit told (next_moment plan (record m { rest = rest }) first.move) trace made = last_made plan limit told (next_moment plan (record m { rest = rest }) first.move) trace made last h in
-    record { at = l.at; leads = (rest, finds, is, l.leads); rest = l.rest; finds = l.finds; is = l.is }
+    let l : LastMade plan limit told (next_moment plan (record m { rest = rest }) first.move) trace made last = last_made plan limit told (next_moment plan (record m { rest = rest }) first.move) trace made last h in
+    record { at = l.at; leads = (rest, finds, is, l.leads); rest = l.rest; finds = l.finds; is = l.is; last_is = l.last_is }
 
 -- where the group of the next move and the text part
 record PartsThere (text : List ℕ) (start : Place) (now new : Stand) (reached : Reaches most_retired show.Moves start now.place) : Type 0 where
   last : Moment
   leads : Leads start.core.plan most_retired start.streams.input (moment_of start.core reached.rest) reached.trace last
-  parts : PartsAt start.core.plan start.streams.input last (now.place.tally.moves + 1) (left_of now.seen) (new.seen.agreed - now.seen.agreed)
+  stop : Moment
+  parts : PartsAt start.core.plan start.streams.input last (now.place.tally.moves + 1) (left_of now.seen) (new.seen.agreed - now.seen.agreed) stop
+  stands : StandsAt start.core new.place.core start.streams.input new.place.streams.input stop
   low : now.seen.agreed ≤ new.seen.agreed
   text_is : new.seen.text ≡ text
   within : new.seen.agreed ≤ length text
@@ -68,7 +73,7 @@ parts_there text start now new mv small tells h next p =
     let leads : Leads start.core.plan most_retired start.streams.input (moment_of start.core h.reached.rest) (h.reached.trace ++ made ∷ []) more.last =
     subst (λ (r : List ℕ). Leads start.core.plan most_retired start.streams.input (moment_of start.core r) (h.reached.trace ++ made ∷ []) more.last) rest
     (subst (λ (t : List Made). Leads start.core.plan most_retired start.streams.input (moment_of start.core more.rest) t more.last) trace more.leads) in
-    let l : LastMade start.core.plan most_retired start.streams.input (moment_of start.core h.reached.rest) h.reached.trace made =
+    let l : LastMade start.core.plan most_retired start.streams.input (moment_of start.core h.reached.rest) h.reached.trace made more.last =
     last_made start.core.plan most_retired start.streams.input (moment_of start.core h.reached.rest) h.reached.trace made more.last leads in
     let P : Option (List ℕ) → Type 0 = λ o. WritesFront o new.place.report group in
     let front : WritesFront (Some (told_by now.seen)) new.place.report group = subst P h.tells p.makes.report in
@@ -85,6 +90,8 @@ parts_there text start now new mv small tells h next p =
     record {
       last = l.at;
       leads = l.leads;
+      stop = more.last;
+      stands = record { processor = more.core; input = more.streams.input };
       parts = record {
         move = mv;
         begins = next;
@@ -97,6 +104,7 @@ parts_there text start now new mv small tells h next p =
           move = refl;
           is = ap (λ (layout : Plan). shown show.Moves layout new.place.tally.moves made) plan ∙ ap (λ (n : ℕ). shown show.Moves start.core.plan n made) number;
         };
+        leads = l.last_is;
         same = apart.1.same;
         other = p.differs.other;
         goes_on = apart.1.next;
@@ -107,10 +115,15 @@ parts_there text start now new mv small tells h next p =
       within = subst (λ (t : List ℕ). new.seen.agreed ≤ length t) s.text_is high;
     }
 
+-- the processor and the input stand where the run leads, and no more moves were made
+still_there : (text : List ℕ) (start : Place) (now new : Stand) (h : Comes text start now) → new ≡ now → StandsAt start.core new.place.core start.streams.input new.place.streams.input h.reached.last
+still_there text start now new h same =
+    subst (λ (s : Stand). StandsAt start.core s.place.core start.streams.input s.place.streams.input h.reached.last) (sym same) (stands-here text start now h)
+
 -- the trace goes wrong at a place behind the groups so far
-wrong_at : (text : List ℕ) (start : Place) (now : Stand) (h : Comes text start now) (last : Moment) (line place : ℕ) (kind : TraceKind) → Leads start.core.plan most_retired start.streams.input (moment_of start.core h.reached.rest) h.reached.trace last → 0 < length (left_of now.seen)
-    → Fails start.core.plan start.streams.input last (now.place.tally.moves + 1) (left_of now.seen) place kind → line ≡ line_of text (now.seen.agreed + place) → GoesWrong start.core start.streams.input text line kind
-wrong_at text start now h last line place kind leads some fails line_is = record {
+wrong_at : (text : List ℕ) (start : Place) (now : Stand) (h : Comes text start now) (last stop : Moment) (line place : ℕ) (kind : TraceKind) → Leads start.core.plan most_retired start.streams.input (moment_of start.core h.reached.rest) h.reached.trace last → 0 < length (left_of now.seen)
+    → Fails start.core.plan start.streams.input last (now.place.tally.moves + 1) (left_of now.seen) place kind stop → line ≡ line_of text (now.seen.agreed + place) → GoesWrong start.core start.streams.input text line kind stop
+wrong_at text start now h last stop line place kind leads some fails line_is = record {
   front = take now.seen.agreed text;
   left = left_of now.seen;
   n = now.place.tally.moves;
@@ -121,12 +134,17 @@ wrong_at text start now h last line place kind leads some fails line_is = record
   line_is = line_is ∙ ap (λ (n : ℕ). line_of text (n + place)) (sym (agreed-length text start now h));
 }
 
--- at the first line of the next group
-wrong_first : (text : List ℕ) (start : Place) (now : Stand) (h : Comes text start now) (line : ℕ) (kind : TraceKind) → 0 < length (left_of now.seen)
-    → Fails start.core.plan start.streams.input h.reached.last (now.place.tally.moves + 1) (left_of now.seen) 0 kind → line ≡ line_of text now.seen.agreed → GoesWrong start.core start.streams.input text line kind
-wrong_first text start now h line kind some fails line_is =
-    let here : now.seen.agreed ≡ now.seen.agreed + 0 = omega arith in
-    wrong_at text start now h h.reached.last line 0 kind h.reached.leads some fails (line_is ∙ ap (line_of text) here)
+-- at the first line of the next group, where no more moves are made
+wrong_first : (text : List ℕ) (start : Place) (now new : Stand) (h : Comes text start now) (line : ℕ) (kind : TraceKind) → 0 < length (left_of now.seen)
+    → Fails start.core.plan start.streams.input h.reached.last (now.place.tally.moves + 1) (left_of now.seen) 0 kind h.reached.last → line ≡ line_of text now.seen.agreed → new ≡ now
+    → Audits start.core new.place.core start.streams.input new.place.streams.input text (Wrong line kind)
+unfolding Audits
+wrong_first text start now new h line kind some fails line_is same =
+    let here : now.seen.agreed ≡ now.seen.agreed + 0 = omega arith in (
+      h.reached.last,
+      wrong_at text start now h h.reached.last h.reached.last line 0 kind h.reached.leads some fails (line_is ∙ ap (line_of text) here),
+      still_there text start now new h same,
+    )
 
 -- a text with a line feed is not empty, nor one that begins with the line of a move
 line_some : (text : List ℕ) → has_line text ≡ true → 0 < length text
@@ -152,7 +170,7 @@ agrees_all text start now new n h none count same =
       h.reached.last,
       subst (λ (m : ℕ). IsTrace start.core start.streams.input text m h.reached.last) (sym count)
           (subst (λ (t : List ℕ). IsTrace start.core start.streams.input t now.place.tally.moves h.reached.last) all trace),
-      subst (λ (s : Stand). StandsAt start.core s.place.core start.streams.input s.place.streams.input h.reached.last) (sym same) (stands-here text start now h),
+      still_there text start now new h same,
     )
 
 -- the place where the group of a move and the text part, among all bytes
@@ -161,26 +179,46 @@ parted_place text start now new h line p line_is =
     let place : new.seen.agreed ≡ now.seen.agreed + (new.seen.agreed - now.seen.agreed) = omega (arith, p.low) in
     line_is ∙ ap (line_of text) place
 
+-- an audit's output tells nothing
+abbrev IsQuiet : (now new : Stand) → Type 0
+IsQuiet now new =
+    (now.place.streams ≡ streams_of now.place.streams.input None) × (new.place.streams ≡ streams_of new.place.streams.input None)
+
+-- the call that failed was made where the run leads
+fails_there : (text : List ℕ) (start : Place) (now new : Stand) (h : Comes text start now) → IsQuiet now new → FailsToRead now.place.core new.place.core now.place.streams new.place.streams
+    → FailsToRead (in_state start.core h.reached.last.state) new.place.core (streams_of now.place.streams.input None) (streams_of new.place.streams.input None)
+fails_there text start now new h quiet fails =
+    let there : FailsToRead (in_state start.core h.reached.last.state) new.place.core now.place.streams new.place.streams =
+    subst (λ (c : Processor). FailsToRead c new.place.core now.place.streams new.place.streams) h.reached.core fails in
+    subst (λ (s : Streams). FailsToRead (in_state start.core h.reached.last.state) new.place.core (streams_of now.place.streams.input None) s) quiet.1
+    (subst (λ (s : Streams). FailsToRead (in_state start.core h.reached.last.state) new.place.core s new.place.streams) quiet.0 there)
+
 -- what the move of the next line leads to, where the audit ends with it
-tried : (text : List ℕ) (start : Place) (now new : Stand) (mv : Move) (answer : Audit) → length text ≤ 16777216 → new.place.report ≡ Some (told_by new.seen) → Comes text start now → NextIs now mv → Tries text mv now new (Some answer)
+tried : (text : List ℕ) (start : Place) (now new : Stand) (mv : Move) (answer : Audit) → length text ≤ 16777216 → new.place.report ≡ Some (told_by new.seen) → IsQuiet now new → Comes text start now → NextIs now mv → Tries text mv now new (Some answer)
     → Audits start.core new.place.core start.streams.input new.place.streams.input text answer
 unfolding Audits Tries Fails Does
-tried text start now new mv (Agrees n) small tells h next t = absurd t
-tried text start now new mv (Wrong line NotAMove) small tells h next t = absurd t
-tried text start now new mv (Wrong line (Barred b)) small tells h next t =
+tried text start now new mv (Agrees n) small tells quiet h next t = absurd t
+tried text start now new mv (Wrong line NotAMove) small tells quiet h next t = absurd t
+tried text start now new mv (Wrong line (Barred b)) small tells quiet h next t =
     let barred : bar start.core.plan h.reached.last.state mv ≡ Some b = subst (λ (c : Processor). bar c.plan c.state mv ≡ Some b) h.reached.core t.0 in
-    wrong_first text start now h line (Barred b) (begins_some (left_of now.seen) (now.place.tally.moves + 1) mv next) (mv, next, barred, refl) t.1
-tried text start now new mv (Wrong line Differs) small tells h next t =
+    wrong_first text start now new h line (Barred b) (begins_some (left_of now.seen) (now.place.tally.moves + 1) mv next) (mv, next, barred, refl, refl) t.1 t.2
+tried text start now new mv (Wrong line Differs) small tells quiet h next t =
     let p = parts_there text start now new mv small tells h next t.0 in
-    let size : length new.seen.text ≡ length text = ap length p.text_is in
-    wrong_at text start now h p.last line (new.seen.agreed - now.seen.agreed) Differs p.leads (begins_some (left_of now.seen) (now.place.tally.moves + 1) mv next)
-    (p.parts, omega (arith, size, t.1, p.low, left_length text start now h)) (parted_place text start now new h line p t.2)
-tried text start now new mv (Wrong line Cut) small tells h next t =
+    let size : length new.seen.text ≡ length text = ap length p.text_is in (
+      p.stop,
+      wrong_at text start now h p.last p.stop line (new.seen.agreed - now.seen.agreed) Differs p.leads (begins_some (left_of now.seen) (now.place.tally.moves + 1) mv next)
+          (p.parts, omega (arith, size, t.1, p.low, left_length text start now h)) (parted_place text start now new h line p t.2),
+      p.stands,
+    )
+tried text start now new mv (Wrong line Cut) small tells quiet h next t =
     let p = parts_there text start now new mv small tells h next t.0 in
-    let size : length new.seen.text ≡ length text = ap length p.text_is in
-    wrong_at text start now h p.last line (new.seen.agreed - now.seen.agreed) Cut p.leads (begins_some (left_of now.seen) (now.place.tally.moves + 1) mv next)
-    (inr (p.parts, omega (arith, size, t.1, p.low, left_length text start now h))) (parted_place text start now new h line p t.2)
-tried text start now new mv ReadFault small tells h next t =
+    let size : length new.seen.text ≡ length text = ap length p.text_is in (
+      p.stop,
+      wrong_at text start now h p.last p.stop line (new.seen.agreed - now.seen.agreed) Cut p.leads (begins_some (left_of now.seen) (now.place.tally.moves + 1) mv next)
+          (inr (p.parts, omega (arith, size, t.1, p.low, left_length text start now h))) (parted_place text start now new h line p t.2),
+      p.stands,
+    )
+tried text start now new mv ReadFault small tells quiet h next t =
     let serves : mv ≡ Serve = t.0.serves in
     record {
       front = take now.seen.agreed text;
@@ -190,24 +228,27 @@ tried text start now new mv ReadFault small tells h next t =
       agrees = agrees-so-far text start now h h.reached.last h.reached.leads (begins_some (left_of now.seen) (now.place.tally.moves + 1) mv next);
       begins = subst (λ (m : Move). BeginsWith (left_of now.seen) (now.place.tally.moves + 1) m) serves next;
       allowed = subst (λ (c : Processor). bar c.plan c.state Serve ≡ None) h.reached.core (subst (λ (m : Move). bar now.place.core.plan now.place.core.state m ≡ None) serves t.0.allowed);
+      asked = now.place.streams.input;
+      input = h.reached.streams.input;
+      fails = fails_there text start now new h quiet t.1;
     }
 
 -- the first line of what is left tells no move
 pub tests-none : (text left : List ℕ) (now new : Stand) (place : ℕ) (answer : Audit) → answer ≡ Wrong (line_of text place) NotAMove → place ≡ now.seen.agreed → left ≡ left_of now.seen → has_line left ≡ true → ((mv : Move) → BeginsWith left (now.place.tally.moves + 1) mv → ⊥)
-    → Tests text now new (Some answer)
+    → new ≡ now → Tests text now new (Some answer)
 unfolding Tests
-tests-none text left now new place answer is at behind has none =
-    rw is (ap has_line (sym behind) ∙ has, λ mv begins. none mv (subst (λ (t : List ℕ). BeginsWith t (now.place.tally.moves + 1) mv) (sym behind) begins), ap (line_of text) at)
+tests-none text left now new place answer is at behind has none same =
+    rw is (ap has_line (sym behind) ∙ has, λ mv begins. none mv (subst (λ (t : List ℕ). BeginsWith t (now.place.tally.moves + 1) mv) (sym behind) begins), ap (line_of text) at, same)
 
 -- how the audit ends with a turn
-pub audited : (text : List ℕ) (start : Place) (now new : Stand) (answer : Audit) → length text ≤ 16777216 → new.place.report ≡ Some (told_by new.seen) → Comes text start now → Tests text now new (Some answer)
+pub audited : (text : List ℕ) (start : Place) (now new : Stand) (answer : Audit) → length text ≤ 16777216 → new.place.report ≡ Some (told_by new.seen) → IsQuiet now new → Comes text start now → Tests text now new (Some answer)
     → Audits start.core new.place.core start.streams.input new.place.streams.input text answer
 unfolding Tests Audits Fails
-audited text start now new (Agrees n) small tells h t = agrees_all text start now new n h t.0 t.1 t.2
-audited text start now new (Wrong line NotAMove) small tells h t =
-    wrong_first text start now h line NotAMove (line_some (left_of now.seen) t.0) (t.0, t.1, refl) t.2
-audited text start now new (Wrong line (Barred b)) small tells h (mv, next, t) = tried text start now new mv (Wrong line (Barred b)) small tells h next t
-audited text start now new (Wrong line Differs) small tells h (mv, next, t) = tried text start now new mv (Wrong line Differs) small tells h next t
-audited text start now new (Wrong line Cut) small tells h (inl t) = wrong_first text start now h line Cut t.0 (inl (t.1, refl)) t.2
-audited text start now new (Wrong line Cut) small tells h (inr (mv, next, t)) = tried text start now new mv (Wrong line Cut) small tells h next t
-audited text start now new ReadFault small tells h (mv, next, t) = tried text start now new mv ReadFault small tells h next t
+audited text start now new (Agrees n) small tells quiet h t = agrees_all text start now new n h t.0 t.1 t.2
+audited text start now new (Wrong line NotAMove) small tells quiet h t =
+    wrong_first text start now new h line NotAMove (line_some (left_of now.seen) t.0) (t.0, t.1, refl, refl) t.2 t.3
+audited text start now new (Wrong line (Barred b)) small tells quiet h (mv, next, t) = tried text start now new mv (Wrong line (Barred b)) small tells quiet h next t
+audited text start now new (Wrong line Differs) small tells quiet h (mv, next, t) = tried text start now new mv (Wrong line Differs) small tells quiet h next t
+audited text start now new (Wrong line Cut) small tells quiet h (inl t) = wrong_first text start now new h line Cut t.0 (inl (t.1, refl, refl)) t.2 t.3
+audited text start now new (Wrong line Cut) small tells quiet h (inr (mv, next, t)) = tried text start now new mv (Wrong line Cut) small tells quiet h next t
+audited text start now new ReadFault small tells quiet h (mv, next, t) = tried text start now new mv ReadFault small tells quiet h next t

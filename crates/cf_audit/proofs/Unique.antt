@@ -124,8 +124,8 @@ get_front (x ∷ front) more zero byte e = e
 get_front (x ∷ front) more (suc place) byte e = get_front front more place byte e
 
 -- a text that begins with the group of a move that can be made does not fail
-not_parted : (plan : Plan) (told : List ℕ) (m : Moment) (n : ℕ) (made : Made) (left more : List ℕ) (place : ℕ) → IsMade plan most_retired m made → IsReadBack made.move → left ≡ shown show.Moves plan n made ++ more → PartsAt plan (Some told) m n left place → ⊥
-not_parted plan told m n made left more place is reads same p =
+not_parted : (plan : Plan) (told : List ℕ) (m : Moment) (n : ℕ) (made : Made) (left more : List ℕ) (place : ℕ) (stop : Moment) → IsMade plan most_retired m made → IsReadBack made.move → left ≡ shown show.Moves plan n made ++ more → PartsAt plan (Some told) m n left place stop → ⊥
+not_parted plan told m n made left more place stop is reads same p =
     let g = p.is_group in
     let here : IsMade plan most_retired m g.made = at_rest plan told m g.rest g.made g.finds g.is_made in
     let lines : numbered_move n p.move ++ p.begins.behind ≡ numbered_move n made.move ++ (rest_of_group plan made ++ more) = sym p.begins.is ∙ same ∙ group_parts plan n made more in
@@ -134,39 +134,39 @@ not_parted plan told m n made left more place is reads same p =
     let group : p.group ≡ shown show.Moves plan n made = g.is ∙ groups.1 in
     p.differs (ap (λ (t : List ℕ). slice_get t place) (same ∙ ap (λ (t : List ℕ). t ++ more) (sym group)) ∙ get_front p.group more place p.other p.goes_on)
 
-not_failing : (plan : Plan) (told : List ℕ) (m : Moment) (n : ℕ) (made : Made) (left more : List ℕ) (place : ℕ) (kind : TraceKind) → IsMade plan most_retired m made → IsReadBack made.move → left ≡ shown show.Moves plan n made ++ more → Fails plan (Some told) m n left place kind → ⊥
+not_failing : (plan : Plan) (told : List ℕ) (m : Moment) (n : ℕ) (made : Made) (left more : List ℕ) (place : ℕ) (kind : TraceKind) (stop : Moment) → IsMade plan most_retired m made → IsReadBack made.move → left ≡ shown show.Moves plan n made ++ more → Fails plan (Some told) m n left place kind stop → ⊥
 unfolding Fails
-not_failing plan told m n made left more place NotAMove is reads same (has, none, at) =
+not_failing plan told m n made left more place NotAMove stop is reads same (has, none, at, still) =
     none made.move (record { told = reads; behind = rest_of_group plan made ++ more; is = same ∙ group_parts plan n made more })
-not_failing plan told m n made left more place (Barred b) is reads same (mv, begins, barred, at) =
+not_failing plan told m n made left more place (Barred b) stop is reads same (mv, begins, barred, at, still) =
     let moves = one_told n mv made.move begins.behind (rest_of_group plan made ++ more) begins.told reads (sym begins.is ∙ same ∙ group_parts plan n made more) in
     let free : bar plan m.state mv ≡ None = ap (bar plan m.state) moves.0 ∙ is.allowed in
     absurd (cc)
-not_failing plan told m n made left more place Differs is reads same (p, at) = not_parted plan told m n made left more place is reads same p
-not_failing plan told m n made left more place Cut is reads same (inl (none, at)) =
+not_failing plan told m n made left more place Differs stop is reads same (p, at) = not_parted plan told m n made left more place stop is reads same p
+not_failing plan told m n made left more place Cut stop is reads same (inl (none, at, still)) =
     let has : has_line left ≡ true = ap has_line (same ∙ group_parts plan n made more) ∙ line_there n made.move (rest_of_group plan made ++ more) in
     absurd (cc)
-not_failing plan told m n made left more place Cut is reads same (inr (p, at)) = not_parted plan told m n made left more place is reads same p
+not_failing plan told m n made left more place Cut stop is reads same (inr (p, at)) = not_parted plan told m n made left more place stop is reads same p
 
 -- a text that fails behind the groups of some moves is not the trace of a run
-no_trace : (plan : Plan) (told : List ℕ) (m : Moment) (n k : ℕ) (a b : List Made) (last end : Moment) (left : List ℕ) (place : ℕ) (kind : TraceKind) → k ≡ n + length a → Leads plan most_retired (Some told) m a last → Leads plan most_retired (Some told) m b end → AreReadBack a → AreReadBack b
-    → 0 < length left → Fails plan (Some told) last k left place kind → all_shown show.Moves plan n a ++ left ≡ all_shown show.Moves plan n b → ⊥
+no_trace : (plan : Plan) (told : List ℕ) (m : Moment) (n k : ℕ) (a b : List Made) (last end : Moment) (left : List ℕ) (place : ℕ) (kind : TraceKind) (stop : Moment) → k ≡ n + length a → Leads plan most_retired (Some told) m a last → Leads plan most_retired (Some told) m b end → AreReadBack a → AreReadBack b
+    → 0 < length left → Fails plan (Some told) last k left place kind stop → all_shown show.Moves plan n a ++ left ≡ all_shown show.Moves plan n b → ⊥
 unfolding Leads all_shown
-no_trace plan told m n k [] [] last end left place kind count h l reads tells some fails same = absurd (omega (arith, ap length same))
-no_trace plan told m n k [] (made ∷ b) last end left place kind count h (s, g, j, l) reads (tell, tells) some fails same =
+no_trace plan told m n k [] [] last end left place kind stop count h l reads tells some fails same = absurd (omega (arith, ap length same))
+no_trace plan told m n k [] (made ∷ b) last end left place kind stop count h (s, g, j, l) reads (tell, tells) some fails same =
     let there : IsMade plan most_retired m made = at_rest plan told m s made g j in
     let number : k ≡ n = omega (arith, count) in
-    let here : Fails plan (Some told) m n left place kind = subst (λ (i : ℕ). Fails plan (Some told) m i left place kind) number (subst (λ (q : Moment). Fails plan (Some told) q k left place kind) h fails) in
-    not_failing plan told m n made left (all_shown show.Moves plan (n + 1) b) place kind there tell same here
-no_trace plan told m n k (made ∷ a) [] last end left place kind count h l reads tells some fails same =
+    let here : Fails plan (Some told) m n left place kind stop = subst (λ (i : ℕ). Fails plan (Some told) m i left place kind stop) number (subst (λ (q : Moment). Fails plan (Some told) q k left place kind stop) h fails) in
+    not_failing plan told m n made left (all_shown show.Moves plan (n + 1) b) place kind stop there tell same here
+no_trace plan told m n k (made ∷ a) [] last end left place kind stop count h l reads tells some fails same =
     no_group plan n made (all_shown show.Moves plan (n + 1) a ++ left) (sym same ∙ append_assoc (shown show.Moves plan n made) (all_shown show.Moves plan (n + 1) a) left)
-no_trace plan told m n k (first ∷ a) (other ∷ b) last end left place kind count (r, f, i, h) (s, g, j, l) (read, reads) (tell, tells) some fails same =
+no_trace plan told m n k (first ∷ a) (other ∷ b) last end left place kind stop count (r, f, i, h) (s, g, j, l) (read, reads) (tell, tells) some fails same =
     let here : IsMade plan most_retired m first = at_rest plan told m r first f i in
     let there : IsMade plan most_retired m other = at_rest plan told m s other g j in
     let one = one_move plan m n first other (all_shown show.Moves plan (n + 1) a ++ left) (all_shown show.Moves plan (n + 1) b) here there read tell (sym (append_assoc (shown show.Moves plan n first) (all_shown show.Moves plan (n + 1) a) left) ∙ same) in
     let before : Leads plan most_retired (Some told) (next plan m first.move) a last = leads_rest plan told m last r first a f h in
     let behind : Leads plan most_retired (Some told) (next plan m first.move) b end = subst (λ (mv : Move). Leads plan most_retired (Some told) (next plan m mv) b end) (sym one.move) (leads_rest plan told m end s other b g l) in
-    no_trace plan told (next plan m first.move) (n + 1) k a b last end left place kind (omega (arith, count)) before behind reads tells some fails one.behind
+    no_trace plan told (next plan m first.move) (n + 1) k a b last end left place kind stop (omega (arith, count)) before behind reads tells some fails one.behind
 
 -- what is told of the input of a trace
 same_start : (core : Processor) (told rest : List ℕ) → rest ≡ told → moment_of core rest ≡ moment_of core told
@@ -178,18 +178,18 @@ one-count core told text n k last end a b =
     let second : Leads core.plan most_retired (Some told) (moment_of core told) b.trace end = subst (λ (m : Moment). Leads core.plan most_retired (Some told) m b.trace end) (same_start core told b.rest b.is_told) b.leads in
     sym a.count ∙ same_count core.plan told (moment_of core told) 1 a.trace b.trace last end first second a.read_back b.read_back (sym a.is ∙ b.is) ∙ b.count
 
-pub wrong-for-none : (core : Processor) (told text : List ℕ) (line n : ℕ) (kind : TraceKind) (end : Moment) → GoesWrong core (Some told) text line kind → IsTrace core (Some told) text n end → ⊥
-wrong-for-none core told text line n kind end w b =
+pub wrong-for-none : (core : Processor) (told text : List ℕ) (line n : ℕ) (kind : TraceKind) (stop end : Moment) → GoesWrong core (Some told) text line kind stop → IsTrace core (Some told) text n end → ⊥
+wrong-for-none core told text line n kind stop end w b =
     let a = w.agrees.is in
     let first : Leads core.plan most_retired (Some told) (moment_of core told) a.trace w.last = subst (λ (m : Moment). Leads core.plan most_retired (Some told) m a.trace w.last) (same_start core told a.rest a.is_told) a.leads in
     let second : Leads core.plan most_retired (Some told) (moment_of core told) b.trace end = subst (λ (m : Moment). Leads core.plan most_retired (Some told) m b.trace end) (same_start core told b.rest b.is_told) b.leads in
     let whole : all_shown show.Moves core.plan 1 a.trace ++ w.left ≡ all_shown show.Moves core.plan 1 b.trace = ap (λ (t : List ℕ). t ++ w.left) (sym a.is) ∙ sym w.agrees.parts ∙ b.is in
-    no_trace core.plan told (moment_of core told) 1 (w.n + 1) a.trace b.trace w.last end w.left w.place kind (omega (arith, a.count)) first second a.read_back b.read_back w.agrees.some w.fails whole
+    no_trace core.plan told (moment_of core told) 1 (w.n + 1) a.trace b.trace w.last end w.left w.place kind stop (omega (arith, a.count)) first second a.read_back b.read_back w.agrees.some w.fails whole
 
 -- so what an audit answers is the one answer
 pub agrees-with-all : (core new : Processor) (told now : Option (List ℕ)) (text : List ℕ) (answer : Audit) → Audits core new told now text answer → AgreesWithAll core told text answer
 unfolding Audits
 agrees-with-all core new None now text answer h = tt
 agrees-with-all core new (Some told) now text (Agrees m) (last, trace, stands) = λ n end other. one-count core told text m n last end trace other
-agrees-with-all core new (Some told) now text (Wrong line kind) h = λ n end other. wrong-for-none core told text line n kind end h other
+agrees-with-all core new (Some told) now text (Wrong line kind) (stop, wrong, stands) = λ n end other. wrong-for-none core told text line n kind stop end wrong other
 agrees-with-all core new (Some told) now text ReadFault h = λ n end other. tt

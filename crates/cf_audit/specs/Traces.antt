@@ -2,14 +2,16 @@
 use Rattle.std.specs.Prelude.{◌≡◌, ◌⊎◌, ℕ, ◌+◌, ◌-◌, ◌<◌, ◌^◌, Bool, true, false, List, [], ◌∷◌, ◌++◌, length, take, slice_get, count_by, Option, Some, None, Ok}
 use Rattle.std.specs.List.{list_any}
 use Rattle.rv_text.specs.Lines.{is_line_feed}
-use Rattle.rv_machine.specs.Streams.{IsTold, Becomes}
+use Rattle.rv_machine.specs.Streams.{IsTold, Becomes, streams_of}
 use Rattle.cf_layout.specs.Layout.{Plan}
 use Rattle.cf_bind.specs.declared.moves.Move.{Move}
 use Rattle.cf_bind.specs.declared.moves.Move.TheVariants.{Serve}
 use Rattle.cf_bind.specs.MoveTexts.{move_line}
 use Rattle.cf_semantics.specs.Bars.{bar as first_bar}
+use Rattle.cf_semantics.specs.Moves.{next}
 use Rattle.cf_semantics.specs.State.{Moment}
 use Rattle.cf_core.specs.Processors.{Processor, in_state}
+use Rattle.cf_core.specs.Stepping.{FailsToRead}
 use Rattle.cf_report.specs.Lines.{numbered_move}
 use Rattle.cf_scripts.specs.MoveLines.{move_in}
 use Rattle.cf_run.specs.declared.show.Show.TheVariants as show
@@ -75,42 +77,43 @@ pub record IsGroup (plan : Plan) (told : Option (List ℕ)) (last : Moment) (n :
   pub move : made.move ≡ mv
   pub is : group ≡ shown show.Moves plan n made
 
--- what is left begins with the line of a move that can be made, and it is the move's group up to this place, at which the group has another byte or the text has none
-pub record PartsAt (plan : Plan) (told : Option (List ℕ)) (last : Moment) (n : ℕ) (left : List ℕ) (place : ℕ) : Type 0 where
+-- what is left begins with the line of a move that can be made, which leads to the moment `stop`, and it is the move's group up to this place, at which the group has another byte or the text has none
+pub record PartsAt (plan : Plan) (told : Option (List ℕ)) (last : Moment) (n : ℕ) (left : List ℕ) (place : ℕ) (stop : Moment) : Type 0 where
   pub move : Move
   pub begins : BeginsWith left n move
   pub group : List ℕ
   pub is_group : IsGroup plan told last n move group
+  pub leads : stop ≡ next plan (record last { rest = is_group.rest }) move
   pub same : take place left ≡ take place group
   pub other : ℕ
   pub goes_on : slice_get group place ≡ Some other
   pub differs : slice_get left place ≡ Some other → ⊥
 
--- why what is left, which is not empty, is not the trace of further moves from the moment, the next of which has this number; the place is that of the byte of it that shows it. The tests stand in the order in which they are made: no line feed is left; the first line is that of no move; the move is barred; what follows is not its group
-unfoldable pub Fails : Plan → Option (List ℕ) → Moment → ℕ → List ℕ → ℕ → TraceKind → Type 0
-Fails plan told last n left place Cut =
-    ((has_line left ≡ false) × (place ≡ 0))
-    ⊎ (PartsAt plan told last n left place × (place ≡ length left))
-Fails plan told last n left place NotAMove =
-    (has_line left ≡ true) × ((mv : Move) → BeginsWith left n mv → ⊥) × (place ≡ 0)
-Fails plan told last n left place (Barred b) =
-    (mv : Move) × BeginsWith left n mv × (first_bar plan last.state mv ≡ Some b) × (place ≡ 0)
-Fails plan told last n left place Differs =
-    PartsAt plan told last n left place × (place < length left)
+-- why what is left, which is not empty, is not the trace of further moves from the moment, the next of which has this number; the place is that of the byte of it that shows it. The tests stand in the order in which they are made: no line feed is left; the first line is that of no move; the move is barred; what follows is not its group. Only for the last is a move made: all stops at the moment to which it leads, and else at this one
+unfoldable pub Fails : Plan → Option (List ℕ) → Moment → ℕ → List ℕ → ℕ → TraceKind → (stop : Moment) → Type 0
+Fails plan told last n left place Cut stop =
+    ((has_line left ≡ false) × (place ≡ 0) × (stop ≡ last))
+    ⊎ (PartsAt plan told last n left place stop × (place ≡ length left))
+Fails plan told last n left place NotAMove stop =
+    (has_line left ≡ true) × ((mv : Move) → BeginsWith left n mv → ⊥) × (place ≡ 0) × (stop ≡ last)
+Fails plan told last n left place (Barred b) stop =
+    (mv : Move) × BeginsWith left n mv × (first_bar plan last.state mv ≡ Some b) × (place ≡ 0) × (stop ≡ last)
+Fails plan told last n left place Differs stop =
+    PartsAt plan told last n left place stop × (place < length left)
 
--- The text is not the trace of a run: behind the groups of a run a test fails, in this line.
-pub record GoesWrong (core : Processor) (told : Option (List ℕ)) (text : List ℕ) (line : ℕ) (kind : TraceKind) : Type 0 where
+-- The text is not the trace of a run: behind the groups of a run a test fails, in this line. The moves that are made lead to the moment `stop`.
+pub record GoesWrong (core : Processor) (told : Option (List ℕ)) (text : List ℕ) (line : ℕ) (kind : TraceKind) (stop : Moment) : Type 0 where
   pub front : List ℕ
   pub left : List ℕ
   pub n : ℕ
   pub last : Moment
   pub agrees : AgreesSoFar core told text front left n last
   pub place : ℕ
-  pub fails : Fails core.plan told last (n + 1) left place kind
+  pub fails : Fails core.plan told last (n + 1) left place kind stop
   pub line_is : line ≡ line_of text (length front + place)
 
--- Behind the groups of a run stands the line of Serve, which nothing bars: this call is the one that failed.
-pub record StopsAtCall (core : Processor) (told : Option (List ℕ)) (text : List ℕ) : Type 0 where
+-- Behind the groups of a run stands the line of Serve, which nothing bars: this call is the one that failed, and the processor and the input are what it leaves.
+pub record StopsAtCall (core new : Processor) (told now : Option (List ℕ)) (text : List ℕ) : Type 0 where
   pub front : List ℕ
   pub left : List ℕ
   pub n : ℕ
@@ -118,3 +121,6 @@ pub record StopsAtCall (core : Processor) (told : Option (List ℕ)) (text : Lis
   pub agrees : AgreesSoFar core told text front left n last
   pub begins : BeginsWith left (n + 1) Serve
   pub allowed : first_bar core.plan last.state Serve ≡ None
+  pub asked : Option (List ℕ)
+  pub input : Becomes told asked last.rest
+  pub fails : FailsToRead (in_state core last.state) new (streams_of asked None) (streams_of now None)

@@ -56,7 +56,7 @@ Tries text mv now new None = Advances mv now new
 Tries text mv now new (Some (Agrees n)) = ⊥
 Tries text mv now new (Some (Wrong line NotAMove)) = ⊥
 Tries text mv now new (Some (Wrong line (Barred b))) =
-    (first_bar now.place.core.plan now.place.core.state mv ≡ Some b) × (line ≡ line_of text now.seen.agreed)
+    (first_bar now.place.core.plan now.place.core.state mv ≡ Some b) × (line ≡ line_of text now.seen.agreed) × (new ≡ now)
 Tries text mv now new (Some (Wrong line Differs)) =
     Parts mv now new × (new.seen.agreed < length new.seen.text) × (line ≡ line_of text new.seen.agreed)
 Tries text mv now new (Some (Wrong line Cut)) =
@@ -69,8 +69,10 @@ Tests text now new (Some (Agrees n)) =
     (length (left_of now.seen) ≡ 0) × (n ≡ now.place.tally.moves) × (new ≡ now)
 Tests text now new (Some (Wrong line NotAMove)) =
     (has_line (left_of now.seen) ≡ true) × ((mv : Move) → NextIs now mv → ⊥) × (line ≡ line_of text now.seen.agreed)
+    × (new ≡ now)
 Tests text now new (Some (Wrong line Cut)) =
-    ((0 < length (left_of now.seen)) × (has_line (left_of now.seen) ≡ false) × (line ≡ line_of text now.seen.agreed))
+    ((0 < length (left_of now.seen)) × (has_line (left_of now.seen) ≡ false) × (line ≡ line_of text now.seen.agreed)
+    × (new ≡ now))
     ⊎ ((mv : Move) × NextIs now mv × Tries text mv now new (Some (Wrong line Cut)))
 Tests text now new answer = (mv : Move) × NextIs now mv × Tries text mv now new answer
 

@@ -156,7 +156,8 @@ fn advance<S: Source>(
 /// by byte; nothing of it is kept. `Agrees` comes exactly where the trace is that of a run, of so many moves, which leads to
 /// where the processor and the input then stand. `Wrong` comes exactly where it is none, by the first test that fails, in
 /// the order of [`TraceKind`]. The line is that of the group's first line; for `Differs` that of the first byte that
-/// differs, and for `Cut` that in which the trace ends.
+/// differs, and for `Cut` that in which the trace ends. The processor and the input then stand where the moves lead that
+/// were made: those of the groups before, and for `Differs`, and for `Cut` within a group, the one of this group too.
 ///
 /// So the lines of retired instructions in a trace that agrees are those of the sequential machine, in its order, whoever
 /// has made the trace and in whatever order its moves were made.

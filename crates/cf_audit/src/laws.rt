@@ -11,6 +11,6 @@ ghost use Rattle.cf_audit.specs.Traces.{GoesWrong, IsTrace};
 pub fn t9_1()
     ensures one_number { (core : Processor) (told text : List ℕ) (n k : ℕ) (last end : Moment) →
         IsTrace core (Some told) text n last → IsTrace core (Some told) text k end → n ≡ k }
-    ensures wrong_for_none { (core : Processor) (told text : List ℕ) (line n : ℕ) (kind : Kind) (last : Moment) →
-        GoesWrong core (Some told) text line kind → IsTrace core (Some told) text n last → ⊥ }
+    ensures wrong_for_none { (core : Processor) (told text : List ℕ) (line n : ℕ) (kind : Kind) (stop last : Moment) →
+        GoesWrong core (Some told) text line kind stop → IsTrace core (Some told) text n last → ⊥ }
 {}

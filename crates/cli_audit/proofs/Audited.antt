@@ -23,8 +23,9 @@ answers : (plan : Plan) (hart : Hart) (new : Processor) (text : List ℕ) (befor
 unfolding Audits
 answers plan hart new text before after (found.Agrees n) (last, is, stands) lines =
     (n, record { last = last; is = is; input = stands.input; retires = retires plan hart before text n lines }, refl)
-answers plan hart new text before after (found.Wrong number kind) wrong lines = (wrong, refl)
-answers plan hart new text before after found.ReadFault stops lines = (stops, refl)
+answers plan hart new text before after (found.Wrong number kind) (stop, wrong, stands) lines =
+    (record { stop = stop; wrong = wrong; input = stands.input }, refl)
+answers plan hart new text before after found.ReadFault stops lines = ((new, stops), refl)
 
 accepted : (n : ℕ) (a : Audit) → IsAgreement n a → IsAccepted n (status_of a) (text_of a)
 accepted n (found.Agrees m) same = ap trace_of same

@@ -5,9 +5,10 @@ use Rattle.rv_machine.specs.Hart.{Hart}
 use Rattle.rv_machine.specs.Streams.{Becomes}
 use Rattle.cf_layout.specs.Layout.{Plan}
 use Rattle.cf_semantics.specs.State.{Moment}
-use Rattle.cf_core.specs.Processors.{opened}
+use Rattle.cf_core.specs.Processors.{Processor, opened}
 use Rattle.cf_audit.specs.declared.answer.Audit.{Audit}
 use Rattle.cf_audit.specs.declared.answer.Audit.TheVariants as found
+use Rattle.cf_audit.specs.declared.answer.TraceKind.{TraceKind}
 use Rattle.cf_audit.specs.Audits.{RetiresAs}
 use Rattle.cf_audit.specs.Traces.{IsTrace, GoesWrong, StopsAtCall}
 use Rattle.cf_texts.specs.Texts.{line}
@@ -66,14 +67,26 @@ pub record IsTraceOf (plan : Plan) (hart : Hart) (text : List ℕ) (before after
   pub input : Becomes before after last.rest
   pub retires : RetiresAsMachine plan hart before text n
 
+-- the text is the trace of no run, which is seen in this line, for this reason; the moves that were made leave the input so
+pub record IsNoTraceOf (plan : Plan) (hart : Hart) (text : List ℕ) (before after : Option (List ℕ)) (number : ℕ)
+    (kind : TraceKind) : Type 0 where
+  pub stop : Moment
+  pub wrong : GoesWrong (opened plan hart) before text number kind stop
+  pub input : Becomes before after stop.rest
+
+-- the input failed the call that the text tells behind the trace of a run, and is left so
+abbrev pub FailsAtCall : Plan → Hart → List ℕ → (before after : Option (List ℕ)) → Type 0
+FailsAtCall plan hart text before after =
+    (last : Processor) × StopsAtCall (opened plan hart) last before after text
+
 -- what is answered of a text, by the status: it is the trace of a run; or it is none, which is seen in this line; or the input failed the call that it tells; or memory for the processor was refused
 abbrev pub AnswersText : Plan → Hart → List ℕ → (before after : Option (List ℕ)) → Status → List ℕ → Type 0
 AnswersText plan hart text before after status.Done report =
     (n : ℕ) × IsTraceOf plan hart text before after n × (report ≡ trace_of n)
 AnswersText plan hart text before after (status.BadTrace (fault.Line number kind)) report =
-    GoesWrong (opened plan hart) before text number kind × (report ≡ bad_trace (fault.Line number kind))
+    IsNoTraceOf plan hart text before after number kind × (report ≡ bad_trace (fault.Line number kind))
 AnswersText plan hart text before after (status.ReadFault which.Input) report =
-    StopsAtCall (opened plan hart) before text × (report ≡ line (codes "read fault input"))
+    FailsAtCall plan hart text before after × (report ≡ line (codes "read fault input"))
 AnswersText plan hart text before after status.NoMemory report =
     (after ≡ before) × (report ≡ line (codes "no memory"))
 AnswersText plan hart text before after _ report = ⊥
