@@ -1,3 +1,4 @@
+pub mod Excluded
 pub mod FileFronts
 pub mod Flat
 pub mod Named

@@ -17,7 +17,7 @@ mod status;
 pub use answer::Answer;
 pub use layouts::{layout_at, no_memory};
 pub use loading::{Loaded, load};
-pub use opening::{MOST_BYTES, is_elf};
+pub use opening::{MOST_BYTES, is_elf, open_again};
 pub use programs::{open_image, program_at};
 pub use refusals::{bad_program, bad_words, line};
 pub use run_files::{Ready, read_files};

@@ -14,7 +14,7 @@ use crate::status::ProgramErr;
 use elf_view::Elf;
 use mem_regions::{LoadErr, Part, Regions};
 use rv_machine::Machine;
-use std::alloc::Global;
+use std::alloc::{AllocError, Global};
 
 /// The greatest length of a program file, in bytes.
 pub const MOST_BYTES: u64 = 33_554_432;
@@ -115,5 +115,18 @@ pub fn open(alloc: Global, image: &[u8]) -> Result<Machine, OpenErr>
         open_elf(alloc, image)
     } else {
         open_flat(alloc, image)
+    }
+}
+
+/// The machine that a file starts which was opened before, and so is a program: nothing but memory can be refused for it.
+pub fn open_again(alloc: Global, image: &[u8]) -> Result<Machine, AllocError>
+    requires { IsProgram image.now }
+    ensures machine { IfOk result (λ machine. machine ≡ opened image.now) }
+    ensures count { IfOk result (λ machine. machine.retired ≡ 0) }
+{
+    match open(alloc, image) {
+        Ok(machine) => Ok(machine),
+        Err(OpenErr::NoMemory) => Err(AllocError),
+        Err(OpenErr::Refused(_)) => unreachable!(),
     }
 }

@@ -1,6 +1,6 @@
 //! The run of a program on a layout, by which its time is measured.
 
-ghost use Rattle.std.specs.Prelude.{◌≡◌, ◌≤◌, IfOk};
+ghost use Rattle.std.specs.Prelude.{◌≤◌, IfOk};
 ghost use Rattle.cli_files.specs.Image.{IsProgram, opened};
 ghost use Rattle.cli_time.specs.Measures.{Measures};
 
@@ -9,8 +9,7 @@ use cf_index::Candidates;
 use cf_io::{Empty, Nowhere};
 use cf_layout::Layout;
 use cf_timed::{Clock, Delays, Timed, run_timed};
-use cli_files::open_image;
-use rv_machine::Machine;
+use cli_files::open_again;
 use std::alloc::{AllocError, Global};
 
 /// What is measured of the run of a program on a layout.
@@ -24,18 +23,6 @@ pub struct Measured {
     pub moves: u64,
     /// How many instructions retired.
     pub retired: u64,
-}
-
-/// The machine that a program's file starts, loaded anew: only memory can be refused for it.
-fn load_anew(alloc: Global, image: &[u8]) -> Result<Machine, AllocError>
-    requires { IsProgram image.now }
-    ensures machine { IfOk result (λ machine. machine ≡ opened image.now) }
-    ensures count { IfOk result (λ machine. machine.retired ≡ 0) }
-{
-    match open_image(alloc, image) {
-        Ok(machine) => Ok(machine),
-        Err(_) => Err(AllocError),
-    }
 }
 
 /// Loads the program anew, and runs it on the processor of a layout by the moves that are done first, over an empty input and
@@ -52,7 +39,7 @@ pub(crate) fn measure(
     requires program { IsProgram image.now }
     ensures { IfOk result (Measures delays limit layout.now (opened image.now)) }
 {
-    let machine = load_anew(alloc, image)?;
+    let machine = open_again(alloc, image)?;
     let mut candidates = Candidates::new(alloc)?;
     let mut core = Core::new(alloc, *layout, machine)?;
     let mut clock = Clock::new(layout, delays);
