@@ -7,42 +7,67 @@ use Rattle.cf_io.specs.Reads.{Told}
 use Rattle.cf_io.specs.declared.files.FilesErr.{FilesErr}
 use Rattle.cf_io.specs.declared.files.FilesErr.TheVariants as err
 
--- names with their bytes, the names of failed reads in order, the calls so far, the count of faults
+-- names with their bytes, the names that were read and those whose read failed, both in order, how many reads found no memory, the calls so far, the count of faults
 pub record MemoryFiles : Type 0 where
   pub files : List (List ℕ × List ℕ)
+  pub read : List (List ℕ)
   pub failed : List (List ℕ)
+  pub unheld : ℕ
   pub calls : Calls
   pub faults : ℕ
 
 -- before the first read
 abbrev pub unread_files : List (List ℕ × List ℕ) → List ℕ → MemoryFiles
-unread_files files fails = record { files = files; failed = []; calls = no_calls fails; faults = 0 }
+unread_files files fails = record {
+  files = files;
+  read = [];
+  failed = [];
+  unheld = 0;
+  calls = no_calls fails;
+  faults = 0;
+}
 
 -- what they tell
 abbrev pub told_by : MemoryFiles → Told
-told_by files = record { content = content_of files.files; failed = files.failed }
+told_by files = record {
+  content = content_of files.files;
+  read = files.read;
+  failed = files.failed;
+  unheld = files.unheld;
+}
 
 -- whether a read of that name fails: by its number, or since there is no such file
 unfoldable pub read_fails : MemoryFiles → List ℕ → Bool
 read_fails files name = fails_next files.calls || is_none (content_of files.files name)
 
--- after one more read
-abbrev pub after_read : MemoryFiles → MemoryFiles
-after_read files = record files { calls = after_call files.calls }
+-- after one more read, of that name
+abbrev pub after_read : MemoryFiles → List ℕ → MemoryFiles
+after_read files name = record files {
+  calls = after_call files.calls;
+  read = files.read ++ name ∷ [];
+}
 
 -- after one more read, of that name, that failed
 abbrev pub after_failed : MemoryFiles → List ℕ → MemoryFiles
 after_failed files name = record files {
   calls = after_call files.calls;
+  read = files.read ++ name ∷ [];
   failed = files.failed ++ name ∷ [];
   faults = raised files.faults;
+}
+
+-- after one more read that found no memory
+abbrev pub after_unheld : MemoryFiles → MemoryFiles
+after_unheld files = record files {
+  calls = after_call files.calls;
+  unheld = raised files.unheld;
 }
 
 -- just the reads that are to fail do, but for want of memory, and each read is counted
 abbrev pub ReadsCounted : {T : Type 0} → MemoryFiles → MemoryFiles → List ℕ → Result T FilesErr →
     Type 0
 ReadsCounted files after name (Ok bytes) =
-    (read_fails files name ≡ false) × (after ≡ after_read files)
+    (read_fails files name ≡ false) × (after ≡ after_read files name)
 ReadsCounted files after name (Err err.Failed) =
     (read_fails files name ≡ true) × (after ≡ after_failed files name)
-ReadsCounted files after name (Err err.NoMemory) = after ≡ after_read files
+ReadsCounted files after name (Err err.NoMemory) = after ≡ after_unheld files

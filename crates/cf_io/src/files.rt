@@ -14,7 +14,8 @@ pub enum FilesErr {
 
 /// Files that are read by name.
 pub trait Files {
-    /// The bytes of each name and the names whose read failed, where the files tell them.
+    /// The bytes of each name, the names that were read, those whose read failed, and how many reads found no memory, where
+    /// the files tell them.
     ghost told: { Self → Option Told };
 
     /// How often the files have failed, up to the greatest `u64`.
@@ -23,8 +24,8 @@ pub trait Files {
     /// The first `most` bytes of the file called `name`, or all of it where it has fewer.
     ///
     /// `Failed` comes only where the files' count of faults rose in this call. Files that tell
-    /// their contents then append the name to their list of failed reads; no other read changes
-    /// the list.
+    /// their contents note each read: they append the name to their list of reads, after `Failed`
+    /// to that of failed reads too, and after `NoMemory` they count one more that found none.
     fn read(&mut self, alloc: Global, name: &str, most: u64) -> Result<Vec<u8>, FilesErr>
         ensures bytes { Reads (told self.old) (told self.new) name.now most result }
         ensures most { IfOk result (λ bytes. vec_len bytes ≤ most) }

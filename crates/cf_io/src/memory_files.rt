@@ -1,5 +1,6 @@
-ghost use Rattle.std.specs.Prelude.{◌≡◌, Some, None, map, take, IfSome, IfNone, IfOk, IfErr};
-ghost use Rattle.std.specs.Prelude.{◌≤◌, vec_len};
+ghost use Rattle.std.specs.Prelude.{◌≡◌, ◌<◌, ◌≤◌, [], ◌∷◌, ◌++◌, Some, None, map, take, IfSome, IfNone, IfOk, IfErr};
+ghost use Rattle.std.specs.Prelude.{vec_len, vec_capacity};
+ghost use Rattle.cf_io.specs.Causes.{raised};
 ghost use Rattle.cf_io.specs.Reads.{Reads, HasReadCause};
 ghost use Rattle.cf_io.specs.MemoryFiles.{unread_files, told_by, ReadsCounted};
 ghost use Rattle.cf_io.specs.NamedFiles.{content_of, entry_of};
@@ -14,7 +15,9 @@ use std::marker::Model;
 #[derive(Drop)]
 pub struct MemFiles {
     files: Vec<(String, Vec<u8>)>,
+    read: Vec<String>,
     failed: Vec<String>,
+    unheld: u64,
     calls: FailingCalls,
     faults: u64,
 }
@@ -28,7 +31,9 @@ impl Model for MemFiles {
 
     ghost view = { λ f. record {
       files = map entry_of f.files.items;
+      read = map string_bytes f.read.items;
       failed = map string_bytes f.failed.items;
+      unheld = f.unheld;
       calls = f.calls;
       faults = f.faults;
     } };
@@ -36,13 +41,15 @@ impl Model for MemFiles {
 
 impl MemFiles {
     /// Files with these names and bytes. `fails` lists the numbers of the reads that fail,
-    /// counted from 1. The list of failed reads will take its memory from `alloc`.
+    /// counted from 1. The lists of reads will take their memory from `alloc`.
     pub fn new(alloc: Global, files: Vec<(String, Vec<u8>)>, fails: Vec<u64>) -> MemFiles
         ensures { result ≡ unread_files (map entry_of files.items) fails.items }
     {
         MemFiles {
             files,
+            read: Vec::new(alloc),
             failed: Vec::new(alloc),
+            unheld: 0,
             calls: FailingCalls::new(fails),
             faults: 0,
         }
@@ -75,6 +82,28 @@ fn front_of(alloc: Global, bytes: &[u8], most: u64) -> Result<Vec<u8>, FilesErr>
     }
 }
 
+/// Appends a name to a list that has room for it.
+fn append(names: &mut Vec<String>, name: String)
+    requires { vec_len names.old < vec_capacity names.old }
+    ensures { names.new.items ≡ names.old.items ++ name ∷ [] }
+{
+    match names.push(name) {
+        Ok(()) => (),
+        Err(_) => unreachable!(),
+    }
+}
+
+impl MemFiles {
+    /// Counts one more read that found no memory, and answers so.
+    fn refuse_memory(&mut self) -> FilesErr
+        ensures answer { result ≡ FilesErr.NoMemory }
+        ensures state { self.new ≡ record self.old { unheld = raised self.old.unheld } }
+    {
+        self.unheld = self.unheld.saturating_add(1);
+        FilesErr::NoMemory
+    }
+}
+
 impl Files for MemFiles {
     ghost use Rattle.std.specs.Prelude.{Some};
     ghost use Rattle.cf_io.specs.MemoryFiles.{told_by};
@@ -92,20 +121,28 @@ impl Files for MemFiles {
         ensures exact { ReadsCounted self.old self.new name.now result }
     {
         let fails = self.calls.next();
-        let Ok(kept) = String::from_str(alloc, name) else {
-            return Err(FilesErr::NoMemory);
+        let Ok(read) = String::from_str(alloc, name) else {
+            return Err(self.refuse_memory());
         };
-        if self.failed.reserve(1).is_err() {
-            return Err(FilesErr::NoMemory);
+        let Ok(failed) = String::from_str(alloc, name) else {
+            return Err(self.refuse_memory());
+        };
+        if self.read.reserve(1).is_err() || self.failed.reserve(1).is_err() {
+            return Err(self.refuse_memory());
         }
         match find_content(self.files.as_slice(), name) {
-            Some(bytes) if !fails => front_of(alloc, bytes, most),
+            Some(bytes) if !fails => match front_of(alloc, bytes, most) {
+                Ok(front) => {
+                    append(&mut self.read, read);
+                    Ok(front)
+                }
+                Err(_) => Err(self.refuse_memory()),
+            },
             _ => {
                 self.faults = self.faults.saturating_add(1);
-                match self.failed.push(kept) {
-                    Ok(()) => Err(FilesErr::Failed),
-                    Err(_) => unreachable!(),
-                }
+                append(&mut self.read, read);
+                append(&mut self.failed, failed);
+                Err(FilesErr::Failed)
             }
         }
     }
