@@ -1,3 +1,4 @@
+pub mod FilesRead
 pub mod InRounds
 pub mod Machines
 pub mod ProcessorRuns

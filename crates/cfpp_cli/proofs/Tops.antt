@@ -11,6 +11,7 @@ use Rattle.cfpp_cli.specs.Top.{Completes, IsTop, NoneRose, Reports, says_fault}
 use Rattle.cli_files.specs.declared.answer.Answer.{Answer}
 use Rattle.cli_files.specs.declared.status.Status.{Status}
 use Rattle.cli_files.specs.declared.status.Status.TheVariants as status
+use Rattle.cfpp_cli.proofs.FilesRead.{answers-read, breaks-read}
 use Rattle.cfpp_cli.proofs.Reports.{writes-again, front-again}
 
 -- counts of faults rose just where the status says so
@@ -32,6 +33,7 @@ pub top-put : (words : List (List ℕ)) (before after : Outside) (blank half ful
 top-put words before after blank half full clear between faults answer d causes put sooner later = record {
   reading = d.reading;
   reads = d.reads;
+  read = answers-read d.reading before after blank answer.status (d.decides.0 ++ answer.closing) d.decides.2;
   ends = inl (record {
     answer = answer.status;
     text = d.decides.0 ++ answer.closing;
@@ -56,6 +58,7 @@ pub top-failed : (words : List (List ℕ)) (before after : Outside)
 top-failed words before after blank half full clear between faults answer d causes put sooner rose = record {
   reading = d.reading;
   reads = d.reads;
+  read = answers-read d.reading before after blank answer.status (d.decides.0 ++ answer.closing) d.decides.2;
   ends = inl (record {
     answer = answer.status;
     text = d.decides.0 ++ answer.closing;
@@ -80,6 +83,7 @@ pub top-cut : (words : List (List ℕ)) (before after : Outside) (blank full : O
 top-cut words before after blank full clear faults d files input output rose = record {
   reading = d.reading;
   reads = d.reads;
+  read = breaks-read d.reading before after blank full d.decides;
   ends = inr (record {
     status_is = refl;
     breaks = d.decides;

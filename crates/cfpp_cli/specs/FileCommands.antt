@@ -4,7 +4,7 @@ use Rattle.cf_io.specs.Puts.{Writes, WritesFront}
 use Rattle.cf_io.specs.Reads.{Told}
 use Rattle.cf_texts.specs.Texts.{line}
 use Rattle.cli_files.specs.Outside.{Outside}
-use Rattle.cli_files.specs.Files.{IsFrontOf, IsUnreadable, LacksMemory}
+use Rattle.cli_files.specs.Files.{IsFrontOf, LacksBytes}
 use Rattle.cli_files.specs.declared.status.Status.{Status}
 use Rattle.cli_files.specs.declared.status.Status.TheVariants as status
 use Rattle.cli_files.specs.declared.status.Which.{Which}
@@ -45,13 +45,8 @@ pub record ComesOfFile
   pub front : IsFrontOf most before.files after.files name bytes
   pub comes : Comes bytes before.output after.output answer report
 
--- the file could not be read, and the output was left alone
-abbrev pub IsUnread : Which → List ℕ → List ℕ → FileSide → FileSide → Status → List ℕ → Type 0
-IsUnread which reported name before after answer report =
-    IsUnreadable which reported name before.files after.files answer report
+-- the file gave no bytes, and the output was left alone
+abbrev pub RefusesFile : Which → List ℕ → List ℕ → FileSide → FileSide → Status → List ℕ → Type 0
+RefusesFile which reported name before after answer report =
+    LacksBytes which reported name before.files after.files answer report
     × (after.output ≡ before.output)
-
--- memory for the file was refused, and the output was left alone
-abbrev pub IsUnheld : FileSide → FileSide → Status → List ℕ → Type 0
-IsUnheld before after answer report =
-    LacksMemory before.files after.files answer report × (after.output ≡ before.output)

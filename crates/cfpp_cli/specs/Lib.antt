@@ -8,6 +8,7 @@ pub mod Finish
 pub mod Lines
 pub mod Listings
 pub mod Machine
+pub mod NamedFiles
 pub mod Options
 pub mod Rounds
 pub mod Run

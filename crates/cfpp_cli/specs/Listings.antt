@@ -6,7 +6,7 @@ use Rattle.cf_io.specs.Puts.{WritesFront}
 use Rattle.cf_listing.specs.Listing.{elf_listing, flat_listing}
 use Rattle.cli_files.specs.Image.{most_bytes}
 use Rattle.cli_files.specs.Refusals.{bad_program}
-use Rattle.cfpp_cli.specs.FileCommands.{FileSide, PutsText, FailsText, ComesOfFile, IsUnread, IsUnheld}
+use Rattle.cfpp_cli.specs.FileCommands.{FileSide, PutsText, FailsText, ComesOfFile, RefusesFile}
 use Rattle.cfpp_cli.specs.declared.listing.ListErr.{ListErr}
 use Rattle.cfpp_cli.specs.declared.listing.ListErr.TheVariants as err
 use Rattle.cli_files.specs.declared.status.ProgramErr.{ProgramErr}
@@ -53,5 +53,4 @@ ListsImage image before after _ report = ⊥
 abbrev pub AnswersList : List ℕ → FileSide → FileSide → Status → List ℕ → Type 0
 AnswersList name before after answer report =
     ComesOfFile ListsImage (most_bytes + 1) name before after answer report
-    ⊎ (IsUnread which.Program (codes "read fault program") name before after answer report
-    ⊎ IsUnheld before after answer report)
+    ⊎ RefusesFile which.Program (codes "read fault program") name before after answer report

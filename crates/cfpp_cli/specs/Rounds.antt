@@ -16,9 +16,10 @@ use Rattle.cf_run.specs.Policies.{most_moves}
 use Rattle.cf_closing.specs.Closing.{closing_in_rounds}
 use Rattle.cf_words.specs.Words.{Layout}
 use Rattle.cli_files.specs.Loading.{IsLoaded, LacksLoaded}
+use Rattle.cli_files.specs.Memory.{LacksProcessor}
 use Rattle.cli_files.specs.Outside.{Outside}
 use Rattle.cli_files.specs.declared.status.Status.{Status}
-use Rattle.cfpp_cli.specs.Run.{start_of, status_of, AgreesWithMachine, LacksProcessor}
+use Rattle.cfpp_cli.specs.Run.{start_of, status_of, AgreesWithMachine}
 
 -- what the words ask of `rounds`: where the layout is, the file with the program, and the retired instructions at which the run stops
 pub record RoundsAsked : Type 0 where

@@ -3,7 +3,7 @@ use Rattle.std.specs.Prelude.{◌≡◌, ◌≤◌, ◌-◌, ◌⊎◌, ℕ, Lis
 use Rattle.cf_io.specs.Puts.{WritesFront}
 use Rattle.rv_machine.specs.Hart.{Hart}
 use Rattle.rv_machine.specs.Streams.{Streams}
-use Rattle.cf_texts.specs.Texts.{line, counted_line}
+use Rattle.cf_texts.specs.Texts.{counted_line}
 use Rattle.cf_layout.specs.Layout.{Plan, has_mul}
 use Rattle.cf_bind.specs.declared.moves.Move.{Move}
 use Rattle.cf_core.specs.Processors.{Processor, opened}
@@ -27,6 +27,7 @@ use Rattle.cf_closing.specs.Closing.{closing, is_report_fault}
 use Rattle.cf_closing.specs.Lines.{first_line}
 use Rattle.cfpp_cli.specs.Machine.{RunsHart}
 use Rattle.cfpp_cli.specs.Options.{chosen_of}
+use Rattle.cli_files.specs.Memory.{LacksProcessor}
 use Rattle.cli_files.specs.Outside.{Outside}
 use Rattle.cli_files.specs.RunFiles.{RunAsked, ReadsFiles, AnswersFiles}
 use Rattle.cli_files.specs.Schedules.{ReadySchedule, in_script, drawn_from, in_turn}
@@ -142,12 +143,6 @@ pub record RunsOpened (limit : ℕ) (show : Show) (plan : Plan) (hart : Hart) (l
   pub runs : RunsCore limit show (opened plan hart) last (chosen_by limit show schedule) before after blank answer report
   pub agrees : AgreesWithMachine limit plan hart before after runs.run.finish last runs.run.tally answer
   pub complete : IsComplete schedule answer
-
--- memory for the processor was refused, before its first move
-pub record LacksProcessor (before after : Streams) (answer : Status) (report : List ℕ) : Type 0 where
-  pub status_is : answer ≡ status.NoMemory
-  pub reports : report ≡ line (codes "no memory")
-  pub streams : after ≡ before
 
 -- what comes of a layout, a hart and a schedule: the processor of that layout, opened on the hart, was run
 abbrev pub ComesOf : ℕ → Show → Plan → Hart → ReadySchedule → Streams → Streams → Option (List ℕ) → Status →

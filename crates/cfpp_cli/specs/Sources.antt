@@ -1,6 +1,5 @@
 -- What the command `asm` answers, and what it leaves of the outside.
 use Rattle.std.specs.Prelude.{◌≡◌, ◌≢◌, ◌⊎◌, ℕ, List, codes, Option, Err}
-use Rattle.cf_texts.specs.Texts.{line}
 use Rattle.rv_asm.specs.declared.object.Object.{Object}
 use Rattle.rv_asm.specs.declared.refusal.AsmErr.{AsmErr}
 use Rattle.rv_asm.specs.declared.refusal.AsmKind.TheVariants as AsmKind
@@ -9,7 +8,8 @@ use Rattle.rv_asm.specs.Objects.{Objects}
 use Rattle.elf_make.specs.Files.{elf_file}
 use Rattle.elf_make.specs.Viewed.{IsView}
 use Rattle.asm_texts.specs.Refusals.{bad_source}
-use Rattle.cfpp_cli.specs.FileCommands.{FileSide, PutsOrFails, ComesOfFile, IsUnread, IsUnheld}
+use Rattle.cfpp_cli.specs.FileCommands.{FileSide, PutsOrFails, ComesOfFile, RefusesFile}
+use Rattle.cli_files.specs.Memory.{SaysNoMemory}
 use Rattle.cli_files.specs.declared.status.Status.{Status}
 use Rattle.cli_files.specs.declared.status.Status.TheVariants as status
 use Rattle.cli_files.specs.declared.status.Which.TheVariants as which
@@ -30,13 +30,13 @@ abbrev pub IsUnassembled : List ℕ → Status → List ℕ → Type 0
 IsUnassembled source answer report =
     ((error : AsmErr) × (assembled source ≡ Err error) × (answer ≡ status.BadSource error)
     × (report ≡ bad_source error))
-    ⊎ ((answer ≡ status.NoMemory) × (report ≡ line (codes "no memory")))
+    ⊎ SaysNoMemory answer report
 
 -- the status and the report of a refusal
 abbrev pub Refused : AsmErr → Status → List ℕ → Type 0
 Refused error answer report =
     ((error.kind ≢ AsmKind.NoMemory) × (answer ≡ status.BadSource error) × (report ≡ bad_source error))
-    ⊎ ((answer ≡ status.NoMemory) × (report ≡ line (codes "no memory")))
+    ⊎ SaysNoMemory answer report
 
 -- the file of the source was put to the output, or the output failed at it
 pub record PutsAssembly (source : List ℕ) (before after : Option (List ℕ)) (answer : Status)
@@ -55,5 +55,4 @@ AssemblesSource source before after answer report =
 abbrev pub AnswersAsm : List ℕ → FileSide → FileSide → Status → List ℕ → Type 0
 AnswersAsm name before after answer report =
     ComesOfFile AssemblesSource most_source name before after answer report
-    ⊎ (IsUnread which.Source (codes "read fault source") name before after answer report
-    ⊎ IsUnheld before after answer report)
+    ⊎ RefusesFile which.Source (codes "read fault source") name before after answer report

@@ -7,8 +7,9 @@ use Rattle.cf_layout.specs.Layout.{Plan}
 use Rattle.cf_core.specs.Processors.{Processor, opened}
 use Rattle.cf_closing.specs.Moves.{moves_text}
 use Rattle.cf_run.specs.declared.show.Show.{Show}
+use Rattle.cli_files.specs.Memory.{LacksProcessor}
 use Rattle.cli_files.specs.Outside.{Outside}
-use Rattle.cfpp_cli.specs.Run.{chosen_by, RunsOpened, LacksProcessor, BreaksCore}
+use Rattle.cfpp_cli.specs.Run.{chosen_by, RunsOpened, BreaksCore}
 use Rattle.cli_files.specs.RunFiles.{RunAsked, ReadsFiles, AnswersFiles}
 use Rattle.cli_files.specs.Schedules.{ReadySchedule}
 use Rattle.cli_files.specs.declared.status.Status.{Status}

@@ -13,11 +13,13 @@ use Rattle.cli_time.specs.Asked.{time_asked}
 use Rattle.cli_time.specs.Times.{AnswersTime, BreaksTime}
 use Rattle.cli_files.specs.Causes.{files_answered, input_answered, output_answered}
 use Rattle.cli_files.specs.Outside.{Outside, Report}
+use Rattle.cli_files.specs.Reads.{WereRead}
 use Rattle.cfpp_cli.specs.Machine.{AnswersMachine, BreaksProgram}
 use Rattle.cfpp_cli.specs.Check.{AnswersCheck}
 use Rattle.cfpp_cli.specs.Drawn.{AnswersDrawn, BreaksDrawn}
 use Rattle.cfpp_cli.specs.FileCommands.{PutsOrFails, side_of}
 use Rattle.cfpp_cli.specs.Listings.{AnswersList}
+use Rattle.cfpp_cli.specs.NamedFiles.{files_named}
 use Rattle.cfpp_cli.specs.Sources.{AnswersAsm}
 use Rattle.cli_files.specs.RunFiles.{run_asked}
 use Rattle.cfpp_cli.specs.Rounds.{rounds_asked, AnswersRounds, BreaksRounds}
@@ -128,11 +130,12 @@ pub record IsCut (reading : Result Asked ℕ) (before after : Outside) (blank fu
   pub input : before.input_faults ≤ after.input_faults
   pub output : before.output_faults ≤ after.output_faults
 
--- the top call: its words, the outside and the report before and after it, and its status
+-- the top call: its words, the outside and the report before and after it, and its status; of the files that the words name it read the first ones, in their order and each once
 pub record IsTop (words : List (List ℕ)) (before after : Outside) (blank full : Report)
     (result : Status) : Type 0 where
   pub reading : Result Asked ℕ
   pub reads : Reading words reading
+  pub read : WereRead (files_named reading) before.files after.files
   pub ends : Completes reading before after blank full result
       ⊎ IsCut reading before after blank full result
 

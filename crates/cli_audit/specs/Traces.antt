@@ -1,7 +1,7 @@
 -- The trace that a file holds, and why there is none.
 use Rattle.std.specs.Prelude.{◌≡◌, ◌<◌, ◌≤◌, ◌+◌, ◌⊎◌, ℕ, List, length, codes, Option}
 use Rattle.cf_io.specs.Reads.{Told}
-use Rattle.cli_files.specs.Files.{IsFrontOf, IsUnreadable, LacksMemory}
+use Rattle.cli_files.specs.Files.{IsFrontOf, LacksBytes}
 use Rattle.cli_files.specs.declared.status.Status.{Status}
 use Rattle.cli_files.specs.declared.status.Status.TheVariants as status
 use Rattle.cli_files.specs.declared.status.TraceFault.TheVariants as fault
@@ -30,5 +30,4 @@ pub record IsTooLong (name : List ℕ) (before after : Option Told) (answer : St
 abbrev pub LacksTrace : List ℕ → Option Told → Option Told → Status → List ℕ → Type 0
 LacksTrace name before after answer report =
     IsTooLong name before after answer report
-    ⊎ (IsUnreadable which.Trace (codes "read fault trace") name before after answer report
-    ⊎ LacksMemory before after answer report)
+    ⊎ LacksBytes which.Trace (codes "read fault trace") name before after answer report

@@ -12,6 +12,7 @@ use Rattle.cf_debug.specs.Sessions.{Debugs, StaysOnRun, session_of}
 use Rattle.cf_texts.specs.Texts.{line}
 use Rattle.cf_words.specs.Words.{Layout}
 use Rattle.cli_files.specs.Loading.{IsLoaded, LacksLoaded}
+use Rattle.cli_files.specs.Memory.{LacksProcessor}
 use Rattle.cli_files.specs.Outside.{Outside}
 use Rattle.cli_files.specs.declared.status.Status.{Status}
 use Rattle.cli_files.specs.declared.status.Status.TheVariants as status
@@ -53,16 +54,10 @@ pub record AnswersSession (plan : Plan) (hart : Hart) (before after : Streams) (
   pub status_is : answer ≡ status_of ended
   pub reports : report ≡ answers ++ closing_of ended
 
--- memory for the processor or for what is kept of its moves was refused, before the first command
-pub record LacksMemory (before after : Streams) (answer : Status) (report : List ℕ) : Type 0 where
-  pub status_is : answer ≡ status.NoMemory
-  pub reports : report ≡ line (codes "no memory")
-  pub streams : after ≡ before
-
 -- what comes of a layout and a hart
 abbrev pub ComesOfCommands : Plan → Hart → (before after : Streams) → Status → List ℕ → Type 0
 ComesOfCommands plan hart before after answer report =
-    AnswersSession plan hart before after answer report ⊎ LacksMemory before after answer report
+    AnswersSession plan hart before after answer report ⊎ LacksProcessor before after answer report
 
 -- the report failed in the session
 abbrev pub BreaksSession : Plan → Hart → (before after : Streams) → (blank full : Option (List ℕ)) → Type 0

@@ -2,15 +2,15 @@
 use Rattle.std.proofs.Common.{◌≡◌, ℕ, List, take, Option, Some, None, Ok, refl}
 use Rattle.std.specs.Prelude.{option_map, Vec}
 use Rattle.std.specs.Global.{Global}
-use Rattle.cf_io.specs.Reads.{Told, Reads}
-use Rattle.cli_files.specs.Files.{IsFrontOf, TellSame}
+use Rattle.cf_io.specs.Reads.{Told, Reads, with_read}
+use Rattle.cli_files.specs.Files.{IsFrontOf}
 
 -- the file that the front was taken of
 front-of : (most : ℕ) (told : Told) (after : Option Told) (name bytes : List ℕ) (content : Option (List ℕ)) →
-    told.content name ≡ content → option_map (take most) content ≡ Some bytes → after ≡ Some told →
+    told.content name ≡ content → option_map (take most) content ≡ Some bytes → after ≡ Some (with_read told name) →
     IsFrontOf most (Some told) after name bytes
-front-of most told after name bytes None e h same = absurd (cc)
-front-of most told after name bytes (Some content) e h same = (content, e, cc, same)
+front-of most told after name bytes None e h noted = absurd (cc)
+front-of most told after name bytes (Some content) e h noted = (content, e, cc, noted)
 
 -- what the read leaves
 pub file-front : (most : ℕ) (told after : Option Told) (name : List ℕ) (bytes : Vec ℕ Global) →
@@ -18,9 +18,3 @@ pub file-front : (most : ℕ) (told after : Option Told) (name : List ℕ) (byte
 file-front most None after name bytes h = tt
 file-front most (Some told) after name bytes h =
     front-of most told after name bytes.items (told.content name) refl h.0 h.1
-
--- nor does it change what the files tell
-pub front-tells : (most : ℕ) (told after : Option Told) (name bytes : List ℕ) →
-    IsFrontOf most told after name bytes → TellSame told after
-front-tells most None after name bytes front = tt
-front-tells most (Some told) after name bytes front = front.3

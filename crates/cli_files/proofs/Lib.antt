@@ -5,4 +5,5 @@ pub mod Named
 pub mod NoStreams
 pub mod Opened
 pub mod ProgramFiles
+pub mod Reading
 pub mod Segments

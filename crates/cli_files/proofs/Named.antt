@@ -1,5 +1,5 @@
 -- A layout that a word names, or that it lacks.
-use Rattle.std.proofs.Common.{◌≡◌, ℕ, ◌+◌, List, Option, Result, Ok, Err, IfOk, IfErr, inl, inr}
+use Rattle.std.proofs.Common.{ℕ, ◌+◌, List, Option, Result, Ok, Err, IfOk, IfErr, inl}
 use Rattle.cf_io.specs.Reads.{Told}
 use Rattle.cf_layout.specs.Layout.{Plan}
 use Rattle.layout_file.specs.Answers.{Describes}
@@ -7,8 +7,6 @@ use Rattle.cf_words.specs.Words.{in_file}
 use Rattle.cli_files.specs.Files.{IsFrontOf}
 use Rattle.cli_files.specs.Layouts.{most_layout_bytes, IsLayoutAt, IsNoLayout, LacksLayout}
 use Rattle.cli_files.specs.declared.answer.Answer.{Answer}
-use Rattle.cli_files.specs.declared.status.Status.{Status}
-use Rattle.cli_files.proofs.FileFronts.{front-tells}
 
 -- a file that describes a layout is where it is
 pub layout-described : (before after : Option Told) (name file : List ℕ) (r : Result Plan Answer) →
@@ -18,30 +16,10 @@ layout-described before after name file (Ok plan) front h = (file, front, h)
 layout-described before after name file (Err answer) front h = tt
 
 -- a file that is refused gives none
-file-refused : (before after : Option Told) (name file : List ℕ) (answer : Status) (report : List ℕ) →
-    IsFrontOf (most_layout_bytes + 1) before after name file → IsNoLayout file answer report →
-    LacksLayout (in_file name) before after answer report
-file-refused before after name file answer report front (inl (error, fails, reason, status, reports)) =
-    inl (record {
-      file = file;
-      front = front;
-      error = error;
-      fails = fails;
-      reason = reason;
-      status_is = status;
-      reports = reports;
-    })
-file-refused before after name file answer report front (inr (status, reports)) =
-    inr (inr (record {
-      status_is = status;
-      files = front-tells (most_layout_bytes + 1) before after name file front;
-      reports = reports;
-    }))
-
 pub layout-refused : (before after : Option Told) (name file : List ℕ) (r : Result Plan Answer) →
     IsFrontOf (most_layout_bytes + 1) before after name file →
     IfErr r (λ answer. IsNoLayout file answer.status answer.closing) →
     IfErr r (λ answer. LacksLayout (in_file name) before after answer.status answer.closing)
 layout-refused before after name file (Ok plan) front h = tt
 layout-refused before after name file (Err answer) front h =
-    file-refused before after name file answer.status answer.closing front h
+    inl (record { file = file; front = front; why = h })

@@ -4,9 +4,9 @@ use Rattle.cf_io.specs.Causes.{HasCause}
 use Rattle.cf_io.specs.Reads.{Told}
 use Rattle.cf_words.specs.Words.{Layout, plain, in_file}
 use Rattle.cli_files.specs.Causes.{input_answered, output_answered}
-use Rattle.cli_files.specs.Layouts.{LacksLayout}
+use Rattle.cli_files.specs.Layouts.{IsNoLayout, LacksLayout}
 use Rattle.cli_files.specs.Loading.{LacksLoaded}
-use Rattle.cli_files.specs.Programs.{LacksProgram}
+use Rattle.cli_files.specs.Programs.{IsNoProgram, LacksProgram}
 use Rattle.cli_files.specs.RunFiles.{RunAsked, LacksFile}
 use Rattle.cli_files.specs.Scripts.{LacksScript}
 use Rattle.cli_files.specs.declared.status.Status.{Status}
@@ -21,11 +21,18 @@ pub record SaysNoStream (answer : Status) : Type 0 where
   pub input : input_answered answer ≡ Ok tt
   pub output : output_answered answer ≡ Ok tt
 
+no-layout-says : (file : List ℕ) (answer : Status) (report : List ℕ) → IsNoLayout file answer report → SaysNoStream answer
+no-layout-says file answer report (inl (error, fails, reason, is, reports)) = record { input = rw is; output = rw is }
+no-layout-says file answer report (inr (is, reports)) = record { input = rw is; output = rw is }
+
+no-program-says : (image : List ℕ) (answer : Status) (report : List ℕ) → IsNoProgram image answer report → SaysNoStream answer
+no-program-says image answer report (inl (error, refused, is, reports)) = record { input = rw is; output = rw is }
+no-program-says image answer report (inr (is, reports)) = record { input = rw is; output = rw is }
+
 pub lacks-layout-says : (word : Layout) (before after : Option Told) (answer : Status) (report : List ℕ) →
     LacksLayout word before after answer report → SaysNoStream answer
 lacks-layout-says plain before after answer report h = absurd h
-lacks-layout-says (in_file name) before after answer report (inl r) =
-    record { input = rw r.status_is; output = rw r.status_is }
+lacks-layout-says (in_file name) before after answer report (inl r) = no-layout-says r.file answer report r.why
 lacks-layout-says (in_file name) before after answer report (inr (inl r)) =
     record { input = rw r.status_is; output = rw r.status_is }
 lacks-layout-says (in_file name) before after answer report (inr (inr r)) =
@@ -33,8 +40,7 @@ lacks-layout-says (in_file name) before after answer report (inr (inr r)) =
 
 pub lacks-program-says : (name : List ℕ) (before after : Option Told) (answer : Status) (report : List ℕ) →
     LacksProgram name before after answer report → SaysNoStream answer
-lacks-program-says name before after answer report (inl r) =
-    record { input = rw r.status_is; output = rw r.status_is }
+lacks-program-says name before after answer report (inl r) = no-program-says r.image answer report r.why
 lacks-program-says name before after answer report (inr (inl r)) =
     record { input = rw r.status_is; output = rw r.status_is }
 lacks-program-says name before after answer report (inr (inr r)) =

@@ -1,13 +1,11 @@
 -- A program that a file holds, or that it does not.
-use Rattle.std.proofs.Common.{◌≡◌, ℕ, ◌+◌, List, Option, Result, Ok, Err, IfOk, IfErr, inl, inr}
+use Rattle.std.proofs.Common.{◌≡◌, ℕ, ◌+◌, List, Option, Result, Ok, Err, IfOk, IfErr, inl}
 use Rattle.cf_io.specs.Reads.{Told}
 use Rattle.rv_machine.specs.Hart.{Hart}
 use Rattle.cli_files.specs.Files.{IsFrontOf}
 use Rattle.cli_files.specs.Image.{most_bytes, IsProgram, opened}
 use Rattle.cli_files.specs.Programs.{IsProgramAt, IsNoProgram, LacksProgram}
 use Rattle.cli_files.specs.declared.answer.Answer.{Answer}
-use Rattle.cli_files.specs.declared.status.Status.{Status}
-use Rattle.cli_files.proofs.FileFronts.{front-tells}
 
 -- an image that was read and is a program is in its file
 pub program-found : (before after : Option Told) (name image : List ℕ) (r : Result Hart Answer) →
@@ -23,29 +21,10 @@ program-found before after name image (Ok hart) front program begins = record {
 program-found before after name image (Err answer) front program begins = tt
 
 -- one that was read and is none
-image-refused : (before after : Option Told) (name image : List ℕ) (answer : Status) (report : List ℕ) →
-    IsFrontOf (most_bytes + 1) before after name image →
-    IsNoProgram image answer report → LacksProgram name before after answer report
-image-refused before after name image answer report front (inl (error, refused, status, reports)) =
-    inl (record {
-      image = image;
-      front = front;
-      error = error;
-      refused = refused;
-      status_is = status;
-      reports = reports;
-    })
-image-refused before after name image answer report front (inr (status, reports)) =
-    inr (inr (record {
-      status_is = status;
-      files = front-tells (most_bytes + 1) before after name image front;
-      reports = reports;
-    }))
-
 pub program-refused : (before after : Option Told) (name image : List ℕ) (r : Result Hart Answer) →
     IsFrontOf (most_bytes + 1) before after name image →
     IfErr r (λ answer. IsNoProgram image answer.status answer.closing) →
     IfErr r (λ answer. LacksProgram name before after answer.status answer.closing)
 program-refused before after name image (Ok hart) front h = tt
 program-refused before after name image (Err answer) front h =
-    image-refused before after name image answer.status answer.closing front h
+    inl (record { image = image; front = front; why = h })

@@ -7,9 +7,9 @@ use Rattle.layout_file.specs.declared.fault.FileErr.{FileErr}
 use Rattle.layout_file.specs.declared.fault.FileErr.TheVariants as err
 use Rattle.layout_file.specs.Answers.{Fails, Describes}
 use Rattle.layout_refusals.specs.Texts.{bad_layout}
-use Rattle.cf_texts.specs.Texts.{line}
 use Rattle.cf_words.specs.Words.{Layout, plain, in_file}
-use Rattle.cli_files.specs.Files.{IsFrontOf, IsUnreadable, LacksMemory}
+use Rattle.cli_files.specs.Files.{IsFrontOf, LacksBytes}
+use Rattle.cli_files.specs.Memory.{SaysNoMemory}
 use Rattle.cli_files.specs.declared.status.Status.{Status}
 use Rattle.cli_files.specs.declared.status.Status.TheVariants as status
 use Rattle.cli_files.specs.declared.status.Which.TheVariants as which
@@ -30,23 +30,18 @@ abbrev pub IsNoLayout : List ℕ → Status → List ℕ → Type 0
 IsNoLayout file answer report =
     ((error : FileErr) × Fails file error × (error ≢ err.NoMemory)
     × (answer ≡ status.BadLayout error) × (report ≡ bad_layout error))
-    ⊎ ((answer ≡ status.NoMemory) × (report ≡ line (codes "no memory")))
+    ⊎ SaysNoMemory answer report
 
--- the file was read, and is no layout
+-- the file was read, and gives no layout
 pub record RefusesLayout (name : List ℕ) (before after : Option Told) (answer : Status)
     (report : List ℕ) : Type 0 where
   pub file : List ℕ
   pub front : IsFrontOf (most_layout_bytes + 1) before after name file
-  pub error : FileErr
-  pub fails : Fails file error
-  pub reason : error ≢ err.NoMemory
-  pub status_is : answer ≡ status.BadLayout error
-  pub reports : report ≡ bad_layout error
+  pub why : IsNoLayout file answer report
 
 -- why the word names no layout, the status that says so, and the report; the built-in layout is always there
 abbrev pub LacksLayout : Layout → Option Told → Option Told → Status → List ℕ → Type 0
 LacksLayout plain before after answer report = ⊥
 LacksLayout (in_file name) before after answer report =
     RefusesLayout name before after answer report
-    ⊎ (IsUnreadable which.Layout (codes "read fault layout") name before after answer report
-    ⊎ LacksMemory before after answer report)
+    ⊎ LacksBytes which.Layout (codes "read fault layout") name before after answer report

@@ -5,9 +5,11 @@ pub mod Files
 pub mod Image
 pub mod Layouts
 pub mod Loading
+pub mod Memory
 pub mod Opening
 pub mod Outside
 pub mod Programs
+pub mod Reads
 pub mod Refusals
 pub mod RunFiles
 pub mod Schedules

@@ -2,9 +2,9 @@
 use Rattle.std.specs.Prelude.{◌≡◌, ◌+◌, ◌⊎◌, ℕ, List, codes, Option}
 use Rattle.cf_io.specs.Reads.{Told}
 use Rattle.rv_machine.specs.Hart.{Hart}
-use Rattle.cf_texts.specs.Texts.{line}
-use Rattle.cli_files.specs.Files.{IsFrontOf, IsUnreadable, LacksMemory}
+use Rattle.cli_files.specs.Files.{IsFrontOf, LacksBytes}
 use Rattle.cli_files.specs.Image.{most_bytes, IsProgram, IsRefused, opened}
+use Rattle.cli_files.specs.Memory.{SaysNoMemory}
 use Rattle.cli_files.specs.Refusals.{bad_program}
 use Rattle.cli_files.specs.declared.status.ProgramErr.{ProgramErr}
 use Rattle.cli_files.specs.declared.status.Status.{Status}
@@ -23,21 +23,17 @@ abbrev pub IsNoProgram : List ℕ → Status → List ℕ → Type 0
 IsNoProgram image answer report =
     ((error : ProgramErr) × IsRefused image error × (answer ≡ status.BadProgram error)
     × (report ≡ bad_program error))
-    ⊎ ((answer ≡ status.NoMemory) × (report ≡ line (codes "no memory")))
+    ⊎ SaysNoMemory answer report
 
--- the file's first bytes are none
+-- the file was read, and gives none
 pub record RefusesProgram (name : List ℕ) (before after : Option Told) (answer : Status)
     (report : List ℕ) : Type 0 where
   pub image : List ℕ
   pub front : IsFrontOf (most_bytes + 1) before after name image
-  pub error : ProgramErr
-  pub refused : IsRefused image error
-  pub status_is : answer ≡ status.BadProgram error
-  pub reports : report ≡ bad_program error
+  pub why : IsNoProgram image answer report
 
 -- why the file of this name gives no program, the status that says so, and the report
 abbrev pub LacksProgram : List ℕ → Option Told → Option Told → Status → List ℕ → Type 0
 LacksProgram name before after answer report =
     RefusesProgram name before after answer report
-    ⊎ (IsUnreadable which.Program (codes "read fault program") name before after answer report
-    ⊎ LacksMemory before after answer report)
+    ⊎ LacksBytes which.Program (codes "read fault program") name before after answer report

@@ -2,7 +2,7 @@
 use Rattle.std.specs.Prelude.{◌≡◌, ◌<◌, ◌≤◌, ◌+◌, ◌⊎◌, ℕ, List, length, codes, Option}
 use Rattle.cf_io.specs.Reads.{Told}
 use Rattle.cf_texts.specs.Texts.{line}
-use Rattle.cli_files.specs.Files.{IsFrontOf, IsUnreadable, LacksMemory}
+use Rattle.cli_files.specs.Files.{IsFrontOf, LacksBytes}
 use Rattle.cli_files.specs.declared.status.ScriptFault.TheVariants as fault
 use Rattle.cli_files.specs.declared.status.Status.{Status}
 use Rattle.cli_files.specs.declared.status.Status.TheVariants as status
@@ -30,5 +30,4 @@ pub record IsTooLong (name : List ℕ) (before after : Option Told) (answer : St
 abbrev pub LacksScript : List ℕ → Option Told → Option Told → Status → List ℕ → Type 0
 LacksScript name before after answer report =
     IsTooLong name before after answer report
-    ⊎ (IsUnreadable which.Script (codes "read fault script") name before after answer report
-    ⊎ LacksMemory before after answer report)
+    ⊎ LacksBytes which.Script (codes "read fault script") name before after answer report

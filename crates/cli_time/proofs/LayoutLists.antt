@@ -1,16 +1,14 @@
 -- Layouts that are read one after another.
-use Rattle.std.proofs.Common.{◌≡◌, ◌∙◌, ℕ, suc, ◌+◌, List, [], ◌∷◌, ◌++◌, length, map, take, drop, ◌<◌, String, Option, Some, None, refl, sym, ap, subst, inl, inr, arith}
+use Rattle.std.proofs.Common.{◌≡◌, ◌∙◌, ℕ, suc, ◌+◌, List, [], ◌∷◌, ◌++◌, length, map, take, drop, ◌<◌, String, Option, Some, refl, sym, ap, subst, inl, inr, arith}
 use Rattle.std.specs.Prelude.{codes, slice_get, slice_index_or, string_bytes}
 use Rattle.std.specs.Global.{Global}
 use Rattle.cf_io.specs.Reads.{Told}
 use Rattle.cf_layout.specs.Layout.{Plan}
 use Rattle.cf_texts.specs.Texts.{line}
-use Rattle.cf_words.specs.Words.{Layout, plain, in_file, layout_in}
-use Rattle.cli_files.specs.Files.{TellSame}
-use Rattle.cli_files.specs.Layouts.{most_layout_bytes, IsLayoutAt, LacksLayout}
+use Rattle.cf_words.specs.Words.{Layout, layout_in}
+use Rattle.cli_files.specs.Layouts.{IsLayoutAt, LacksLayout}
 use Rattle.cli_files.specs.declared.status.Status.{Status}
 use Rattle.cli_files.specs.declared.status.Status.TheVariants as status
-use Rattle.cli_files.proofs.FileFronts.{front-tells}
 use Rattle.cli_time.specs.LayoutFiles.{AreLayoutsAt, LacksLayouts}
 use Rattle.cli_time.proofs.Lists.{got-within, length-mapped, mapped-at, split-at, take-next, there-at}
 
@@ -34,12 +32,6 @@ lacks-behind (w ∷ words) more [] a b c answer report all h = absurd all
 lacks-behind (w ∷ words) more (p ∷ plans) a b c answer report (m, first, rest) h =
     inr (inr (m, p, first, lacks-behind words more plans m b c answer report rest h))
 
--- reading a layout does not change what the files tell
-layout-tells : (word : Layout) (plan : Plan) (a b : Option Told) → IsLayoutAt word a b plan → TellSame a b
-layout-tells plain plan None b h = tt
-layout-tells plain plan (Some told) b h = h.1
-layout-tells (in_file name) plan a b (file, front, describes) = front-tells (most_layout_bytes + 1) a b name file front
-
 -- the next one is refused, or memory for it behind its reading
 pub refused-next : (words : List Layout) (plans : List Plan) (i : ℕ) (word : Layout) (a b c : Option Told) (answer : Status) (report : List ℕ) →
     slice_get words i ≡ Some word → AreLayoutsAt (take i words) a b plans → LacksLayout word b c answer report →
@@ -54,7 +46,7 @@ pub unheld-next : (words : List Layout) (plans : List Plan) (i : ℕ) (word : La
 unheld-next words plans i word plan a b c answer report e all h is reports =
     subst (λ (ws : List Layout). LacksLayouts ws a c answer report) (sym (split-at words i word e))
     (lacks-behind (take i words) (word ∷ drop (i + 1) words) plans a b c answer report all
-    (inr (inl (record { status_is = is; files = layout-tells word plan b c h; reports = reports }))))
+    (inr (inl (plan, h, (is, reports)))))
 
 -- and read
 pub read-next : (words : List Layout) (plans : List Plan) (i : ℕ) (word : Layout) (plan : Plan) (a b c : Option Told) →

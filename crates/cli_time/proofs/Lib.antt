@@ -6,3 +6,4 @@ pub mod Measured
 pub mod ProgramFound
 pub mod Rows
 pub mod NoStreams
+pub mod FilesRead

@@ -23,8 +23,8 @@ lacks-layouts-says : (words : List Layout) (before after : Option Told) (answer 
     LacksLayouts words before after answer report → SaysNoStream answer
 lacks-layouts-says [] before after answer report h = absurd h
 lacks-layouts-says (word ∷ words) before after answer report (inl h) = lacks-layout-says word before after answer report h
-lacks-layouts-says (word ∷ words) before after answer report (inr (inl r)) =
-    record { input = rw r.status_is; output = rw r.status_is }
+lacks-layouts-says (word ∷ words) before after answer report (inr (inl (plan, first, (is, reports)))) =
+    record { input = rw is; output = rw is }
 lacks-layouts-says (word ∷ words) before after answer report (inr (inr (between, plan, first, h))) =
     lacks-layouts-says words between after answer report h
 

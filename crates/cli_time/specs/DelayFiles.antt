@@ -2,7 +2,7 @@
 use Rattle.std.specs.Prelude.{◌≡◌, ◌<◌, ◌≤◌, ◌+◌, ◌⊎◌, ℕ, List, length, codes, Option, Ok, Err}
 use Rattle.cf_io.specs.Reads.{Told}
 use Rattle.cf_timed.specs.DelayLines.{delays_in}
-use Rattle.cli_files.specs.Files.{IsFrontOf, IsUnreadable, LacksMemory}
+use Rattle.cli_files.specs.Files.{IsFrontOf, LacksBytes}
 use Rattle.cli_files.specs.declared.status.DelaysFault.{DelaysFault}
 use Rattle.cli_files.specs.declared.status.DelaysFault.TheVariants as fault
 use Rattle.cli_files.specs.declared.status.Status.{Status}
@@ -41,5 +41,4 @@ pub record RefusesDelays (name : List ℕ) (before after : Option Told) (answer 
 abbrev pub LacksDelays : List ℕ → Option Told → Option Told → Status → List ℕ → Type 0
 LacksDelays name before after answer report =
     RefusesDelays name before after answer report
-    ⊎ (IsUnreadable which.Delays (codes "read fault delays") name before after answer report
-    ⊎ LacksMemory before after answer report)
+    ⊎ LacksBytes which.Delays (codes "read fault delays") name before after answer report

@@ -3,8 +3,8 @@ use Rattle.std.specs.Prelude.{◌≡◌, ◌⊎◌, ℕ, List, [], ◌∷◌, Op
 use Rattle.cf_io.specs.Reads.{Told}
 use Rattle.cf_layout.specs.Layout.{Plan}
 use Rattle.cf_words.specs.Words.{Layout}
-use Rattle.cli_files.specs.Files.{LacksMemory}
 use Rattle.cli_files.specs.Layouts.{IsLayoutAt, LacksLayout}
+use Rattle.cli_files.specs.Memory.{SaysNoMemory}
 use Rattle.cli_files.specs.declared.status.Status.{Status}
 
 -- the words name these layouts, in their order
@@ -15,11 +15,11 @@ AreLayoutsAt (word ∷ words) before after [] = ⊥
 AreLayoutsAt (word ∷ words) before after (plan ∷ plans) =
     (between : Option Told) × IsLayoutAt word before between plan × AreLayoutsAt words between after plans
 
--- the first words name layouts, and the next one none, or memory for it was refused: the status that says why, and the report
+-- the first words name layouts, and the next one none, or memory to keep it was refused: the status that says why, and the report
 abbrev pub LacksLayouts : List Layout → Option Told → Option Told → Status → List ℕ → Type 0
 LacksLayouts [] before after answer report = ⊥
 LacksLayouts (word ∷ words) before after answer report =
     LacksLayout word before after answer report
-    ⊎ (LacksMemory before after answer report
+    ⊎ (((plan : Plan) × IsLayoutAt word before after plan × SaysNoMemory answer report)
     ⊎ ((between : Option Told) × (plan : Plan) × IsLayoutAt word before between plan
     × LacksLayouts words between after answer report))

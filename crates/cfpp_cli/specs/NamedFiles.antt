@@ -1,0 +1,25 @@
+-- Which files the words name, in the order in which they are read.
+use Rattle.std.specs.Prelude.{ℕ, List, [], ◌∷◌, ◌++◌, Result, Ok, Err}
+use Rattle.cf_words.specs.Words.{Asked, machine, run, moves, rounds, debug, time, audit, check, asm, listing, gen, help, version}
+use Rattle.cli_files.specs.Reads.{layout_files, files_of_layouts, script_files}
+
+-- the layout, unless it is built in, the program, and the script where there is one; the delays, the layouts and the program; the one file of a command that has no other
+abbrev pub files_of : Asked → List (List ℕ)
+files_of (machine program limit retired mul) = program ∷ []
+files_of (run layout program schedule limit lines) = (layout_files layout ++ program ∷ []) ++ script_files schedule
+files_of (moves layout program schedule limit) = (layout_files layout ++ program ∷ []) ++ script_files schedule
+files_of (rounds layout program limit) = layout_files layout ++ program ∷ []
+files_of (debug layout program) = layout_files layout ++ program ∷ []
+files_of (time delays program layouts limit sites) = ((delays ∷ []) ++ files_of_layouts layouts) ++ program ∷ []
+files_of (audit layout program trace) = (layout_files layout ++ program ∷ []) ++ trace ∷ []
+files_of (check layout) = layout_files layout
+files_of (asm source) = source ∷ []
+files_of (listing program) = program ∷ []
+files_of (gen number runs) = []
+files_of help = []
+files_of version = []
+
+-- words that ask nothing name none
+abbrev pub files_named : Result Asked ℕ → List (List ℕ)
+files_named (Ok asked) = files_of asked
+files_named (Err index) = []
