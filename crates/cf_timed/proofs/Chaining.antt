@@ -115,7 +115,7 @@ all_ends plan delays moves earlier (mv ∷ rest) h =
     (all_ends plan delays (moves ++ mv ∷ []) (done_behind plan delays earlier mv ∷ earlier) rest (ends_more plan delays moves earlier mv h, all_more plan delays moves mv earlier h))
 
 -- every move passes a test that always holds
-always : (moves : List Done) → filter (λ done. true) moves ≡ moves
+pub always : (moves : List Done) → filter (λ done. true) moves ≡ moves
 always [] = refl
 always (done ∷ moves) = ap (λ (l : List Done). done ∷ l) (always moves)
 

@@ -206,7 +206,7 @@ unfolding greatest_time
 latest_more moves mv t = omega arith
 
 -- no place that a move uses has a later time than the move
-no_later : (plan : Plan) (delays : List ℕ) (moves : List Done) (mv : Move) (x : Site) → uses_place plan mv x ≡ true → last_at plan moves x ≤ time_behind plan delays moves mv
+pub no_later : (plan : Plan) (delays : List ℕ) (moves : List Done) (mv : Move) (x : Site) → uses_place plan mv x ≡ true → last_at plan moves x ≤ time_behind plan delays moves mv
 unfolding time_behind shares uses_place
 no_later plan delays moves mv x e =
     let r = reaches (last_at plan moves) x (used plan mv) e in

@@ -49,7 +49,7 @@ reached-within limit begin now h within =
     subst (λ (p : Processor). p.state.retired ≤ limit) (sym h.core) l
 
 -- so few moves are made that no time is beyond 64 bits
-moves-few : (limit : ℕ) (begin now : Place) (first : Pending) (at : Chooser Pending) → IsAccepted begin.core.plan → length begin.core.state.regs ≡ 32 → IsOpened begin.core → limit ≤ 1000000000 → begin.core.state.retired ≤ limit → (h : Reaches limit show.Report begin now) → Picks pending_pick behind_pick begin.core.plan (fresh first) begin.core.state h.trace at → 1000 * (length h.trace + 1) < 2 ^ 64
+pub moves-few : (limit : ℕ) (begin now : Place) (first : Pending) (at : Chooser Pending) → IsAccepted begin.core.plan → length begin.core.state.regs ≡ 32 → IsOpened begin.core → limit ≤ 1000000000 → begin.core.state.retired ≤ limit → (h : Reaches limit show.Report begin now) → Picks pending_pick behind_pick begin.core.plan (fresh first) begin.core.state h.trace at → 1000 * (length h.trace + 1) < 2 ^ 64
 unfolding tally_of
 moves-few limit begin now first at acc wide o few within h picks =
     let b = reached-bounded pending_pick behind_pick limit show.Report begin now first at acc wide o h picks in
@@ -108,15 +108,16 @@ stopped plan delays limit now new at to later ran.WriteFault e acc few count ahe
     record { picked = behind_earliest plan delays to.policy (offered_to now.core.plan to now.core.state); stops_so = fault-so plan delays limit now new at to later ran.WriteFault e acc few count ahead stops; none = refl; none_so = refl; clock_is = behind-clock at.policy (offered_to now.core.plan at now.core.state) later stops.later_is }
 stopped plan delays limit now new at to later ran.ReportFault e acc few count ahead none stops = absurd (none refl)
 
--- the run is one of the policy by times, and the clock was told its moves
-pub record IsTimed (delays : List ℕ) (limit : ℕ) (begin new : Place) (answer : Answer) (clock : SiteTimes) : Type 0 where
+-- the run is one of the policy by times, the clock was told its moves, and this holds of them
+pub record IsTimed (Holds : List Move → Type 0) (delays : List ℕ) (limit : ℕ) (begin new : Place) (answer : Answer) (clock : SiteTimes) : Type 0 where
   pub picked : List Done
   pub right : RunsRight (earliest begin.core.plan delays) (behind_earliest begin.core.plan delays) limit show.Report begin new [] picked answer
   pub told_is : Tells begin.core.plan delays (times begin.core.plan delays right.moves) clock
+  pub holds : Holds right.moves
 
-pub is-timed : (delays : List ℕ) (limit : ℕ) (begin new : Place) (later : Pending) (answer : Answer) → IsAccepted begin.core.plan → length begin.core.state.regs ≡ 32 → IsOpened begin.core → AreDelays delays → limit ≤ 1000000000 → begin.core.state.retired ≤ limit → answer ≢ ran.ReportFault → RunsRight pending_pick behind_pick limit show.Report begin new (record { clock = started begin.core.plan delays; last = None }) later answer → IsTimed delays limit begin new answer (clock_behind later answer)
+pub is-timed : (Holds : List Move → Type 0) (delays : List ℕ) (limit : ℕ) (begin new : Place) (later : Pending) (answer : Answer) → IsAccepted begin.core.plan → length begin.core.state.regs ≡ 32 → IsOpened begin.core → AreDelays delays → limit ≤ 1000000000 → begin.core.state.retired ≤ limit → answer ≢ ran.ReportFault → (r : RunsRight pending_pick behind_pick limit show.Report begin new (record { clock = started begin.core.plan delays; last = None }) later answer) → Holds r.moves → IsTimed Holds delays limit begin new answer (clock_behind later answer)
 unfolding times
-is-timed delays limit begin new later answer acc wide o few small within none r =
+is-timed Holds delays limit begin new later answer acc wide o few small within none r holds =
     let plan : Plan = begin.core.plan in
     let runs = r.runs in
     let first : Pending = record { clock = started plan delays; last = None } in
@@ -143,28 +144,39 @@ is-timed delays limit begin new later answer acc wide o few small within none r 
         sequential = r.sequential;
       };
       told_is = subst (λ (k : SiteTimes). Tells plan delays (times_behind plan delays [] r.moves) k) (sym t.clock_is) there;
+      holds = holds;
     }
 
--- so a timed run is what it is to be
+-- so a timed run is what it is to be, and this holds of its moves
+pub record RunsTimedSo (Holds : List Move → Type 0) (delays : List ℕ) (limit : ℕ) (begin : Place) (core : Processor) (streams : Streams) (clock : SiteTimes) (moves : ℕ) (answer : Timed) : Type 0 where
+  pub timed : RunsTimed delays limit begin core streams clock moves answer
+  pub holds : Holds timed.right.moves
+
+pub runs-timed-so : (Holds : List Move → Type 0) (delays : List ℕ) (limit : ℕ) (core new : Processor) (before after : Streams) (tally : Tally) (later : Pending) (answer : Answer) (timed : Timed) (clock : SiteTimes) → IsAccepted core.plan → length core.state.regs ≡ 32 → IsOpened core → AreDelays delays → limit ≤ 1000000000 → core.state.retired ≤ limit → answer ≢ ran.ReportFault
+    → (right : RunsRight pending_pick behind_pick limit show.Report (begins core before) (place_of new after None tally) (record { clock = started core.plan delays; last = None }) later answer) → Holds right.moves → EndsSequentially limit (begins core before) (place_of new after None tally) (Ran answer)
+    → answer_of timed ≡ answer → clock ≡ clock_behind later answer → RunsTimedSo Holds delays limit (begins core before) new after clock tally.moves timed
+runs-timed-so Holds delays limit core new before after tally later answer timed clock acc wide o few small within none right holds ends e clock_is =
+    let begin : Place = begins core before in
+    let there : Place = place_of new after None tally in
+    let t = is-timed Holds delays limit begin there later answer acc wide o few small within none right holds in
+    let all : RunsTimedSo Holds delays limit begin new after (clock_behind later answer) tally.moves timed =
+    subst-answer delays limit core new before after tally answer timed (clock_behind later answer) (sym e) t ends in
+    subst (λ (k : SiteTimes). RunsTimedSo Holds delays limit begin new after k tally.moves timed) (sym clock_is) all
+  where
+    subst-answer : (delays : List ℕ) (limit : ℕ) (core new : Processor) (before after : Streams) (tally : Tally) (answer : Answer) (timed : Timed) (clock : SiteTimes) → answer ≡ answer_of timed → IsTimed Holds delays limit (begins core before) (place_of new after None tally) answer clock → EndsSequentially limit (begins core before) (place_of new after None tally) (Ran answer) → RunsTimedSo Holds delays limit (begins core before) new after clock tally.moves timed
+    subst-answer delays limit core new before after tally answer timed clock e t ends =
+        let begin : Place = begins core before in
+        let there : Place = place_of new after None tally in
+        let u : IsTimed Holds delays limit begin there (answer_of timed) clock = subst (λ (a : Answer). IsTimed Holds delays limit begin there a clock) e t in
+        let f : EndsSequentially limit begin there (Ran (answer_of timed)) = subst (λ (a : Answer). EndsSequentially limit begin there (Ran a)) e ends in
+        record { timed = record { tally = tally; counted = refl; picked = u.picked; right = u.right; told = u.told_is; ends = f }; holds = u.holds }
+
 pub runs-timed : (delays : List ℕ) (limit : ℕ) (core new : Processor) (before after : Streams) (tally : Tally) (first later : Pending) (answer : Answer) (timed : Timed) (clock : SiteTimes) → IsAccepted core.plan → length core.state.regs ≡ 32 → IsOpened core → AreDelays delays → limit ≤ 1000000000 → core.state.retired ≤ limit → answer ≢ ran.ReportFault → first ≡ record { clock = started core.plan delays; last = None }
     → RunsRight pending_pick behind_pick limit show.Report (begins core before) (place_of new after None tally) first later answer → EndsSequentially limit (begins core before) (place_of new after None tally) (Ran answer)
     → answer_of timed ≡ answer → clock ≡ clock_behind later answer → RunsTimed delays limit (begins core before) new after clock tally.moves timed
 runs-timed delays limit core new before after tally first later answer timed clock acc wide o few small within none fresh_is right ends e clock_is =
-    let begin : Place = begins core before in
-    let there : Place = place_of new after None tally in
-    let r = subst (λ (p : Pending). RunsRight pending_pick behind_pick limit show.Report begin there p later answer) fresh_is right in
-    let t = is-timed delays limit begin there later answer acc wide o few small within none r in
-    let all : RunsTimed delays limit begin new after (clock_behind later answer) tally.moves timed =
-    subst-answer delays limit core new before after tally answer timed (clock_behind later answer) (sym e) t ends in
-    subst (λ (k : SiteTimes). RunsTimed delays limit begin new after k tally.moves timed) (sym clock_is) all
-  where
-    subst-answer : (delays : List ℕ) (limit : ℕ) (core new : Processor) (before after : Streams) (tally : Tally) (answer : Answer) (timed : Timed) (clock : SiteTimes) → answer ≡ answer_of timed → IsTimed delays limit (begins core before) (place_of new after None tally) answer clock → EndsSequentially limit (begins core before) (place_of new after None tally) (Ran answer) → RunsTimed delays limit (begins core before) new after clock tally.moves timed
-    subst-answer delays limit core new before after tally answer timed clock e t ends =
-        let begin : Place = begins core before in
-        let there : Place = place_of new after None tally in
-        let u : IsTimed delays limit begin there (answer_of timed) clock = subst (λ (a : Answer). IsTimed delays limit begin there a clock) e t in
-        let f : EndsSequentially limit begin there (Ran (answer_of timed)) = subst (λ (a : Answer). EndsSequentially limit begin there (Ran a)) e ends in
-        record { tally = tally; counted = refl; picked = u.picked; right = u.right; told = u.told_is; ends = f }
+    let r = subst (λ (p : Pending). RunsRight pending_pick behind_pick limit show.Report (begins core before) (place_of new after None tally) p later answer) fresh_is right in
+    (runs-timed-so (λ moves. Unit {0}) delays limit core new before after tally later answer timed clock acc wide o few small within none r tt ends e clock_is).timed
 
 -- the report never fails, since its count of faults never rises
 pub never-fails : (answer : Answer) → HasCause 0 0 (report_stopped (Some answer)) → answer ≢ ran.ReportFault

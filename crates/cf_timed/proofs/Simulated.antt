@@ -33,11 +33,11 @@ delay_few delays mv h = read delays (kind_place mv) (λ k d within. (h.each k d 
     read (x ∷ xs) (suc i) h = read xs i (λ k d within. h (suc k) d (omega (arith, within)))
 
 -- a move is done at most its delay behind all earlier ones
-all_time : (done : Done) (moves : List Done) → greatest_time (done ∷ moves) ≡ max done.time (greatest_time moves)
+pub all_time : (done : Done) (moves : List Done) → greatest_time (done ∷ moves) ≡ max done.time (greatest_time moves)
 unfolding greatest_time
 all_time done moves = refl
 
-kept_time : (test : Done → Bool) (moves : List Done) → greatest_time (filter test moves) ≤ greatest_time moves
+pub kept_time : (test : Done → Bool) (moves : List Done) → greatest_time (filter test moves) ≤ greatest_time moves
 kept_time test [] = let e = where_none test in omega (arith, e)
 kept_time test (done ∷ moves) =
     let e = where_more test done moves in

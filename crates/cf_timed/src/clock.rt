@@ -65,7 +65,7 @@ impl Clock {
     }
 
     /// What every clock keeps: a delay of each kind of move. It does nothing.
-    pub(crate) fn known(&self)
+    pub fn known(&self)
         ensures { AreDelays self.now.delays }
     {
         self.delays.known();

@@ -30,7 +30,7 @@ impl Model for Delays {
 
 /// The place of the move's kind among the kinds.
 #[inline(always)]
-fn kind_place(mv: Move) -> usize
+pub fn kind_place(mv: Move) -> usize
     ensures place { result ≡ kind_place mv }
     ensures within { result < 14 }
 {
@@ -66,7 +66,7 @@ impl Delays {
     }
 
     /// What they are: one of each kind, from 1 to 1,000. It does nothing.
-    pub(crate) fn known(&self)
+    pub fn known(&self)
         ensures { AreDelays self.now }
     {
         let _ = &self.ticks;

@@ -14,10 +14,12 @@ mod timing;
 
 pub use answer::Timed;
 pub use clock::Clock;
-pub use delays::Delays;
+pub use delays::{Delays, kind_place};
+pub use reaching::port;
 pub use reading::read_delays;
 pub use refusal::{DelayErr, DelayKind};
-pub use run::run_timed;
+pub use run::{clock_behind, run_timed, timed};
+pub use timing::Timing;
 
 #[cfg(test)]
 mod tests;

@@ -15,7 +15,7 @@ use rv_inst::Class;
 /// The numbers of Memory's siding and of its last cell, at which the port to memory is.
 #[inline(always)]
 #[tactic(auto, unfolding(cf_semantics::specs::Layouts::port))]
-pub(crate) fn port(layout: &Layout) -> (usize, usize)
+pub fn port(layout: &Layout) -> (usize, usize)
     ensures { SidingCell result.0 result.1 ≡ way_out layout.now (port_of layout.now) }
 {
     let _accepted = layout.stages();

@@ -76,7 +76,7 @@ pub fn run_timed<S: Source, K: Sink>(
 
 /// The clock behind the moves that were made: a fault comes at a move that was picked and not made.
 #[tactic(auto, unfolding(crate::specs::Timings::clock_behind))]
-fn clock_behind(timing: &Timing, ran: Ran) -> Clock
+pub fn clock_behind(timing: &Timing, ran: Ran) -> Clock
     ensures { result ≡ clock_behind timing.now ran }
 {
     match ran {
@@ -86,7 +86,7 @@ fn clock_behind(timing: &Timing, ran: Ran) -> Clock
 }
 
 /// The answer of a run whose report never fails.
-fn timed(ran: Ran) -> Timed
+pub fn timed(ran: Ran) -> Timed
     ensures { ran ≢ answers.ReportFault → answer_of result ≡ ran }
 {
     match ran {

@@ -14,7 +14,7 @@ use std::marker::Model;
 /// Picks the candidate that is done first, and the first in the order of all moves where several are. The clock is told a move once
 /// the next one is to be picked, since a call of the environment may fail. It is seen as the clock and the last pick.
 #[derive(Drop)]
-pub(crate) struct Timing {
+pub struct Timing {
     clock: Clock,
     last: Option<Move>,
 }
@@ -63,14 +63,22 @@ impl Clock {
 
 impl Timing {
     /// Nothing was picked yet.
-    pub(crate) fn new(clock: Clock) -> Timing
+    pub fn new(clock: Clock) -> Timing
         ensures { result ≡ record { clock = clock; last = None } }
     {
         Timing { clock, last: None }
     }
 
+    /// The last pick, of which the clock was not told yet.
+    #[inline(always)]
+    pub fn last(&self) -> Option<Move>
+        ensures { result ≡ self.now.last }
+    {
+        self.last
+    }
+
     /// The clock, without the last pick.
-    pub(crate) fn clock(&self) -> Clock
+    pub fn clock(&self) -> Clock
         ensures { result ≡ self.now.clock }
     {
         self.clock
@@ -79,7 +87,7 @@ impl Timing {
     /// The clock, told of the last pick.
     #[inline(always)]
     #[tactic(auto, unfolding(crate::specs::Timings::told))]
-    pub(crate) fn told(&self) -> Clock
+    pub fn told(&self) -> Clock
         ensures { result ≡ told self.now }
     {
         let mut clock = self.clock;
