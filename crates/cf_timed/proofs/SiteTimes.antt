@@ -29,7 +29,7 @@ greatest-append [] ys = omega arith
 greatest-append (x ∷ xs) ys = let r = greatest-append xs ys in omega (arith, r)
 
 -- one number more that passes the test, or not
-numbers_more : (test : ℕ → Bool) (k : ℕ) → filter test (counted_from 0 (k + 1)) ≡ filter test (counted_from 0 k) ++ cond (test k) (k ∷ []) []
+pub numbers_more : (test : ℕ → Bool) (k : ℕ) → filter test (counted_from 0 (k + 1)) ≡ filter test (counted_from 0 k) ++ cond (test k) (k ∷ []) []
 numbers_more test k = ap (filter test) (counted_split 0 k 1) ∙ filter-append test (counted_from 0 k) (counted_from (0 + k) 1) ∙ ap (λ (i : ℕ). filter test (counted_from 0 k) ++ filter test (counted_from i 1)) (omega arith)
 
 -- the greatest time, with one place more or without

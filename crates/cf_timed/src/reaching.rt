@@ -1,6 +1,6 @@
 //! The times of the places that a move uses are read.
 
-ghost use Rattle.std.specs.Prelude.{◌≡◌, ◌+◌, ◌-◌, if◌then◌else◌, map};
+ghost use Rattle.std.specs.Prelude.{◌≡◌, ◌+◌, ◌-◌, ◌<◌, ◌^◌, if◌then◌else◌, map};
 ghost use Rattle.cf_semantics.specs.Sites.{SidingCell, Stage};
 ghost use Rattle.cf_semantics.specs.Layouts.{port as port_of};
 ghost use Rattle.cf_index.specs.Sites.{used, way_out, ways_in, ways_out};
@@ -16,7 +16,9 @@ use rv_inst::Class;
 #[inline(always)]
 #[tactic(auto, unfolding(cf_semantics::specs::Layouts::port))]
 pub fn port(layout: &Layout) -> (usize, usize)
-    ensures { SidingCell result.0 result.1 ≡ way_out layout.now (port_of layout.now) }
+    ensures cell { SidingCell result.0 result.1 ≡ way_out layout.now (port_of layout.now) }
+    ensures siding { result.0 < 2 ^ 32 }
+    ensures last { result.1 < 2 ^ 32 }
 {
     let _accepted = layout.stages();
     match layout.siding_of(Class::Memory) {

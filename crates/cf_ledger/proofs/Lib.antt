@@ -1,0 +1,10 @@
+pub mod SidingUse
+pub mod Laters
+pub mod Latests
+pub mod Numbered
+pub mod Marked
+pub mod Placed
+pub mod Putting
+pub mod Growing
+pub mod Keeping
+pub mod Noted

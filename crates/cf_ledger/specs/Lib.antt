@@ -1,0 +1,4 @@
+pub mod Breakdowns
+pub mod Ledgers
+pub mod Watchings
+pub mod NotedRuns

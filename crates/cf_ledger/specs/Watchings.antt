@@ -1,0 +1,33 @@
+-- The policy of a timed run of which a ledger is kept: the clock picks, and the ledger is told each move when the clock is.
+use Rattle.std.specs.Prelude.{ℕ, List}
+use Rattle.cf_bind.specs.declared.moves.Move.{Move}
+use Rattle.cf_semantics.specs.Options.{on}
+use Rattle.cf_run.specs.declared.answer.Ran.{Ran as Answer}
+use Rattle.cf_run.specs.declared.answer.Ran.TheVariants as ran
+use Rattle.cf_timed.specs.Timings.{Pending, behind_pick, pending_pick}
+use Rattle.cf_ledger.specs.Ledgers.{noted}
+use Rattle.cf_ledger.specs.declared.ledger.Ledger.{Ledger}
+
+-- the clock with the last move that was picked, and the ledger, which was not told of that move yet
+pub record Watched : Type 0 where
+  pub pending : Pending
+  pub ledger : Ledger
+
+-- the ledger, told of the last move
+unfoldable pub ledger_told : Watched → Ledger
+ledger_told w = on w.pending.last w.ledger (noted w.ledger)
+
+-- what is picked of some moves
+abbrev pub watched_pick : Watched → List Move → ℕ
+watched_pick w moves = pending_pick w.pending moves
+
+-- and what there is behind that
+abbrev pub behind_watched : Watched → List Move → Watched
+behind_watched w moves = record { pending = behind_pick w.pending moves; ledger = ledger_told w }
+
+-- the ledger behind the moves that were made: a fault comes at a move that was picked and not made
+unfoldable pub ledger_behind : Watched → Answer → Ledger
+ledger_behind w ran.ReadFault = w.ledger
+ledger_behind w ran.WriteFault = w.ledger
+ledger_behind w ran.ReportFault = w.ledger
+ledger_behind w answer = ledger_told w

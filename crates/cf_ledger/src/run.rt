@@ -1,0 +1,71 @@
+//! The timed run of which a ledger is kept.
+
+ghost use Rattle.std.specs.Prelude.{◌≡◌, ◌-◌, ◌≤◌, Some};
+ghost use Rattle.cf_io.specs.Causes.{HasCause};
+ghost use Rattle.rv_machine.specs.Streams.{streams_of};
+ghost use Rattle.cf_run.specs.Policies.{IsOpened, input_stopped, most_moves, output_stopped};
+ghost use Rattle.cf_timed.specs.Clocks.{started};
+ghost use Rattle.cf_timed.specs.TimedRuns.{answer_of, begins};
+ghost use Rattle.cf_ledger.specs.Ledgers.{opened};
+ghost use Rattle.cf_ledger.specs.NotedRuns.{RunsNoted};
+
+use crate::ledger::Ledger;
+use crate::watching::Watching;
+use cf_core::Core;
+use cf_index::Candidates;
+use cf_io::{Nowhere, Sink, Source};
+use cf_report::Tally;
+use cf_run::{Show, known, run_policy};
+use cf_timed::{Clock, Timed, clock_behind, timed};
+
+/// Runs an opened processor as `run_timed` of cf_timed does, by a clock and with a ledger that were told no move. The ledger is told
+/// the moves that the clock is told. It takes no memory, and always comes to an end.
+pub fn run_noted<S: Source, K: Sink>(
+    core: &mut Core,
+    candidates: &mut Candidates,
+    clock: &mut Clock,
+    ledger: &mut Ledger,
+    limit: u64,
+    input: &mut S,
+    output: &mut K,
+    moves: &mut u64,
+) -> Timed
+    requires limit { limit ≤ 1000000000 }
+    requires retired { core.old.state.retired ≤ limit }
+    requires opened { IsOpened core.old }
+    requires clock { clock.old ≡ started core.old.plan clock.old.delays }
+    requires ledger { ledger.old ≡ opened core.old.plan clock.old.delays }
+    requires moves { moves.old ≡ 0 }
+    ensures run { RunsNoted clock.old.delays limit
+        (begins core.old (streams_of (S.left input.old) (K.written output.old)))
+        core.new (streams_of (S.left input.new) (K.written output.new)) clock.new ledger.new moves.new result }
+    ensures bounded { moves.new ≤ most_moves core.old.plan (core.new.state.retired - core.old.state.retired) }
+    ensures input { HasCause (S.faults input.old) (S.faults input.new) (input_stopped (Some (answer_of result))) }
+    ensures output { HasCause (K.faults output.old) (K.faults output.new) (output_stopped (Some (answer_of result))) }
+{
+    known(core);
+    clock.known();
+    let mut watching = Watching::new(*clock, *ledger);
+    let mut nowhere = Nowhere;
+    let mut tally = Tally {
+        moves: 0,
+        meets: 0,
+        kills: 0,
+        dead: 0,
+    };
+    let ran = run_policy(
+        core,
+        candidates,
+        &mut watching,
+        limit,
+        Show::Report,
+        input,
+        output,
+        &mut nowhere,
+        &mut tally,
+    );
+    *moves = tally.moves;
+    *clock = clock_behind(watching.timing(), ran);
+    *ledger = watching.ledger_behind(ran);
+    timed(ran)
+}
