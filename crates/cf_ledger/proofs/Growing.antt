@@ -1,5 +1,5 @@
 -- What one move more changes: times, sums of delays, and numbers of moves by kind.
-use Rattle.std.proofs.Common.{◌≡◌, ◌≢◌, ◌∙◌, refl, sym, ap, ℕ, zero, suc, ◌+◌, ◌-◌, ◌*◌, ◌^◌, ◌<◌, ◌≤◌, List, [], ◌∷◌, ◌++◌, length, map, min, Bool, true, false, cond, nat_eq, arith}
+use Rattle.std.proofs.Common.{◌≡◌, ◌≢◌, ◌∙◌, refl, ap, ℕ, suc, ◌+◌, ◌*◌, ◌^◌, ◌<◌, ◌≤◌, List, [], ◌∷◌, ◌++◌, length, Bool, true, false, cond, nat_eq, arith}
 use Rattle.std.specs.Prelude.{filter, slice_set, ◌==◌}
 use Rattle.std.proofs.lemmas.Bool.Decides.{nat_tests}
 use Rattle.std.proofs.lemmas.List.{length-append}
@@ -10,7 +10,7 @@ use Rattle.cf_bind.specs.declared.moves.Move.TheVariants.{Issue, Emit, Climb, Fa
 use Rattle.cf_index.specs.Order.{kind_place}
 use Rattle.cf_timed.specs.Chains.{sum_of_delays}
 use Rattle.cf_timed.specs.Delays.{AreDelays, delay}
-use Rattle.cf_timed.specs.Times.{Done, done_behind, greatest_time, time_behind, times, times_behind}
+use Rattle.cf_timed.specs.Times.{Done, done_behind, greatest_time, times, times_behind}
 use Rattle.cf_timed.proofs.Simulated.{all_time, delay_few, time_few}
 use Rattle.cf_ledger.specs.Breakdowns.{busy, chain_to, kinds, leads_to, of_kind}
 use Rattle.cf_ledger.specs.Ledgers.{one_more, plus, plus_if}

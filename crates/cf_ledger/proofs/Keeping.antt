@@ -1,7 +1,7 @@
 -- A ledger that was told the moves of a run tells what its time is made of.
-use Rattle.std.proofs.Common.{◌≡◌, ◌∙◌, refl, sym, ap, subst, ℕ, zero, suc, ◌+◌, ◌-◌, ◌*◌, ◌^◌, ◌<◌, ◌≤◌, List, [], ◌∷◌, ◌++◌, length, map, Bool, true, false, cond, nat_eq, arith, append-nil, append_assoc}
-use Rattle.std.specs.Prelude.{filter, replicate, ◌&&◌, ◌||◌}
-use Rattle.std.specs.List.{AllByRecursion, list_any}
+use Rattle.std.proofs.Common.{◌≡◌, ◌∙◌, refl, sym, ap, subst, ℕ, zero, suc, ◌+◌, ◌-◌, ◌*◌, ◌^◌, ◌<◌, List, [], ◌∷◌, ◌++◌, length, map, Bool, true, false, cond, nat_eq, arith, append-nil, append_assoc}
+use Rattle.std.specs.Prelude.{replicate, ◌&&◌}
+use Rattle.std.specs.List.{AllByRecursion}
 use Rattle.std.proofs.lemmas.List.{length-append}
 use Rattle.cf_layout.specs.Layout.{Plan}
 use Rattle.cf_bind.specs.declared.moves.Move.{Move}
@@ -10,19 +10,18 @@ use Rattle.cf_semantics.specs.Sites.{Site, among}
 use Rattle.cf_index.specs.Sites.{shares, used, uses_place}
 use Rattle.cf_timed.specs.Chains.{sum_of_delays}
 use Rattle.cf_timed.specs.Delays.{AreDelays, delay}
-use Rattle.cf_timed.specs.Times.{Done, before, done_behind, greatest_time, time_behind, times}
+use Rattle.cf_timed.specs.Times.{Done, done_behind, greatest_time, time_behind, times}
 use Rattle.cf_timed.proofs.Chaining.{always}
 use Rattle.cf_timed.proofs.Following.{AreKept, IsKept, no_later}
 use Rattle.cf_timed.proofs.Greatest.{greatest_where}
 use Rattle.cf_timed.proofs.Simulated.{delay_few, kept_time}
 use Rattle.cf_ledger.specs.Breakdowns.{breakdown, busy, chain_to, is_last, kinds, leads_to, longest_chain, of_kind, uses_siding, uses_stage}
 use Rattle.cf_ledger.specs.Ledgers.{charged, followed, later, latest_of, mark_at, mark_of, no_mark, noted, noted_all, one_more, opened, place_number, place_numbers, plus, plus_if, put_marks, told_by}
-use Rattle.cf_ledger.specs.declared.breakdown.Breakdown.{Breakdown}
 use Rattle.cf_ledger.specs.declared.ledger.Ledger.{Ledger}
 use Rattle.cf_ledger.specs.declared.mark.Mark.{Mark}
 use Rattle.cf_ledger.proofs.Growing.{busy_few, busy_more, chain_few, grows, kinds_more, times_few, times_length, times_more, times_none}
 use Rattle.cf_ledger.proofs.Laters.{later_new, later_none}
-use Rattle.cf_ledger.proofs.Latests.{latest_any, latest_kinds, latest_never, latest_number, latest_same, latest_time, latest_where, mark_behind, mark_if}
+use Rattle.cf_ledger.proofs.Latests.{latest_any, latest_kinds, latest_never, latest_number, latest_time, latest_where, mark_behind, mark_if}
 use Rattle.cf_ledger.proofs.Marked.{marks_put, put_size}
 use Rattle.cf_ledger.proofs.Numbered.{charged_numbered}
 

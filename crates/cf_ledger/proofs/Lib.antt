@@ -7,4 +7,5 @@ pub mod Placed
 pub mod Putting
 pub mod Growing
 pub mod Keeping
+pub mod Longest
 pub mod Noted

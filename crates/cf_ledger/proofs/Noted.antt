@@ -1,5 +1,5 @@
 -- A run with a ledger is a timed run, and its ledger was told the moves of it.
-use Rattle.std.proofs.Common.{◌≡◌, ◌≢◌, ◌∙◌, refl, sym, ap, subst, ℕ, suc, ◌+◌, ◌*◌, ◌^◌, ◌<◌, ◌≤◌, List, [], ◌∷◌, ◌++◌, length, Option, Some, None, arith, append-nil}
+use Rattle.std.proofs.Common.{◌≡◌, ◌≢◌, ◌∙◌, refl, sym, ap, subst, ℕ, suc, ◌≤◌, List, [], ◌∷◌, ◌++◌, length, Some, None, arith, append-nil}
 use Rattle.std.specs.Prelude.{slice_get}
 use Rattle.std.specs.List.{AllByRecursion}
 use Rattle.rv_machine.specs.Streams.{Streams}
@@ -21,7 +21,7 @@ use Rattle.cf_run.specs.Policies.{Chooser, Chooses, IsOpened, Picks, RunsPolicy,
 use Rattle.cf_timed.specs.Clocks.{SiteTimes, started}
 use Rattle.cf_timed.specs.Delays.{AreDelays}
 use Rattle.cf_timed.specs.Timings.{Pending, behind_pick, clock_behind, pending_pick}
-use Rattle.cf_timed.specs.TimedRuns.{RunsTimed, answer_of, begins}
+use Rattle.cf_timed.specs.TimedRuns.{answer_of, begins}
 use Rattle.cf_timed.specs.declared.answer.Timed.{Timed}
 use Rattle.cf_timed.proofs.Following.{AreKept}
 use Rattle.cf_timed.proofs.Rightly.{moves-few, runs-timed-so}

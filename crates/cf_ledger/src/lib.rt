@@ -3,6 +3,7 @@
 
 mod breakdown;
 mod charging;
+pub mod laws;
 mod ledger;
 mod mark;
 mod places;

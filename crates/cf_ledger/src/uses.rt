@@ -21,8 +21,8 @@ pub(crate) fn uses_stage(layout: &Layout, i: usize, mv: Move) -> bool
         Move::Emit | Move::Leave | Move::Serve => i == top,
         Move::Climb(j) => i == j as usize || i == j as usize + 1,
         Move::Fall(j) => i == j as usize || i == j.saturating_sub(1) as usize,
-        Move::Meet(j) | Move::Execute(j) | Move::Send(j) | Move::Launch(j) | Move::Recover(j) =>
-            i == j as usize,
+        Move::Meet(j) | Move::Execute(j) | Move::Send(j) | Move::Launch(j) | Move::Recover(j) => i
+            == j as usize,
         Move::Slide(_, _) | Move::Access => false,
     }
 }

@@ -15,13 +15,13 @@ pub shares_turned : (plan : Plan) (a b : Move) → shares plan a b ≡ true → 
 shares_turned plan a b e = let x = shared_place plan a b e in shared_at plan b a x.0 x.2 x.1
 
 -- a part of a run, with a move more behind the run, or behind both
-part_more : (part moves : List Move) (mv : Move) → ArePart part moves → ArePart part (moves ++ mv ∷ [])
+pub part_more : (part moves : List Move) (mv : Move) → ArePart part moves → ArePart part (moves ++ mv ∷ [])
 part_more [] moves mv h = tt
 part_more (p ∷ part) [] mv h = absurd h
 part_more (p ∷ part) (first ∷ moves) mv (inl h) = inl (h.0, part_more part moves mv h.1)
 part_more (p ∷ part) (first ∷ moves) mv (inr h) = inr (part_more (p ∷ part) moves mv h)
 
-part_last : (part moves : List Move) (mv : Move) → ArePart part moves → ArePart (part ++ mv ∷ []) (moves ++ mv ∷ [])
+pub part_last : (part moves : List Move) (mv : Move) → ArePart part moves → ArePart (part ++ mv ∷ []) (moves ++ mv ∷ [])
 part_last [] [] mv h = inl (refl, tt)
 part_last [] (first ∷ moves) mv h = inr (part_last [] moves mv tt)
 part_last (p ∷ part) [] mv h = absurd h
@@ -29,13 +29,13 @@ part_last (p ∷ part) (first ∷ moves) mv (inl h) = inl (h.0, part_last part m
 part_last (p ∷ part) (first ∷ moves) mv (inr h) = inr (part_last (p ∷ part) moves mv h)
 
 -- a chain that ends with a move, of which the next one uses a place
-linked_last : (plan : Plan) (chain : List Move) (last mv : Move) → AreLinked plan (chain ++ last ∷ []) → shares plan last mv ≡ true → AreLinked plan ((chain ++ last ∷ []) ++ mv ∷ [])
+pub linked_last : (plan : Plan) (chain : List Move) (last mv : Move) → AreLinked plan (chain ++ last ∷ []) → shares plan last mv ≡ true → AreLinked plan ((chain ++ last ∷ []) ++ mv ∷ [])
 linked_last plan [] last mv h e = (e, tt)
 linked_last plan (c ∷ []) last mv h e = (h.0, (e, tt))
 linked_last plan (c ∷ d ∷ chain) last mv h e = (h.0, linked_last plan (d ∷ chain) last mv h.1 e)
 
 -- the sum of no delays, of one and some, and of some and one more
-sum_none : (delays : List ℕ) → sum_of_delays delays [] ≡ 0
+pub sum_none : (delays : List ℕ) → sum_of_delays delays [] ≡ 0
 unfolding sum_of_delays
 sum_none delays = refl
 
@@ -43,7 +43,7 @@ sum_first : (delays : List ℕ) (mv : Move) (moves : List Move) → sum_of_delay
 unfolding sum_of_delays
 sum_first delays mv moves = refl
 
-sum_last : (delays : List ℕ) (moves : List Move) (mv : Move) → sum_of_delays delays (moves ++ mv ∷ []) ≡ sum_of_delays delays moves + delay delays mv
+pub sum_last : (delays : List ℕ) (moves : List Move) (mv : Move) → sum_of_delays delays (moves ++ mv ∷ []) ≡ sum_of_delays delays moves + delay delays mv
 unfolding sum_of_delays
 sum_last delays [] mv = omega arith
 sum_last delays (m ∷ moves) mv = let r = sum_last delays moves mv in omega (arith, r)
