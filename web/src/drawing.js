@@ -1,6 +1,6 @@
 // Draws the processor: the register file and the lane on top, the stages with the sidings beside them, fetch and the cache below.
 
-import { svg } from "./element.js";
+import { fill, svg } from "./element.js";
 import { geometryOf } from "./geometry.js";
 import { chip, chipWidth, cut, stageGroup } from "./stages.js";
 import { memorySiding } from "./layout.js";
@@ -147,14 +147,14 @@ function arrowHead() {
   return svg("defs", {}, svg("marker", { id: "arrow", ...form }, head));
 }
 
-// Puts parts in the place of those that are shown. One that looks as before stays, so that the browser need not lay it out again.
-function replaceParts(into, parts) {
-  parts.forEach((part, at) => {
-    const shown = into.children[at];
-    if (!shown) into.append(part);
-    else if (!shown.isEqualNode(part)) shown.replaceWith(part);
-  });
-  while (into.children.length > parts.length) into.lastChild.remove();
+// The size of the drawing and of its stages. Set anew it would have the browser look at the whole drawing again.
+function setSize(into, { width, height, row }, stages) {
+  const size = `0 0 ${width} ${height}`;
+  if (into.getAttribute("viewBox") === size) return;
+  into.setAttribute("viewBox", size);
+  into.style.setProperty("--row", `${row}px`);
+  // The whole is to be seen at once, but no stage is to be lower than can be read.
+  into.style.setProperty("--least", `${240 + 28 * stages}px`);
 }
 
 // Draws into the element. `view` has the layout, the picture and the one before it, the texts, the last move with the names of its
@@ -162,19 +162,15 @@ function replaceParts(into, parts) {
 export function draw(into, view) {
   const geometry = geometryOf(view.layout);
   const stages = Array.from({ length: view.layout.stages }, (_, above) => view.layout.stages - above);
-  into.setAttribute("viewBox", `0 0 ${geometry.width} ${geometry.height}`);
-  into.style.setProperty("--row", `${geometry.row}px`);
-  // The whole is to be seen at once, but no stage is to be lower than can be read.
-  into.style.setProperty("--least", `${240 + 28 * view.layout.stages}px`);
-  replaceParts(into, [
+  setSize(into, geometry, view.layout.stages);
+  fill(into,
     arrowHead(),
     registerFile(view, geometry),
     lane(view, geometry),
     // A way passes behind the cells of the sidings that stand nearer to the pipe.
-    ...view.layout.sidings.map((_, at) => ways(view, geometry, at)),
-    ...view.layout.sidings.map((_, at) => siding(view, geometry, at)),
-    ...stages.map((stage) => stageGroup(view, geometry, stage)),
+    view.layout.sidings.map((_, at) => ways(view, geometry, at)),
+    view.layout.sidings.map((_, at) => siding(view, geometry, at)),
+    stages.map((stage) => stageGroup(view, geometry, stage)),
     fetch(view, geometry),
-    ...[cache(view, geometry)].filter((part) => part),
-  ]);
+    cache(view, geometry));
 }

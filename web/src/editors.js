@@ -1,6 +1,6 @@
 // The two editors: a program in assembly, with the line of its first fault marked, and a layout in TOML.
 
-import { byId, html } from "./element.js";
+import { byId, fill, html } from "./element.js";
 
 export class Editors {
   constructor(simulator, reasons) {
@@ -21,7 +21,7 @@ export class Editors {
   numberLines(bad) {
     const count = byId("source").value.split("\n").length;
     const lines = Array.from({ length: count }, (_, at) => html("span", { class: at + 1 === bad ? "bad" : "" }, `${at + 1}\n`));
-    byId("source-lines").replaceChildren(...lines);
+    fill(byId("source-lines"), lines);
   }
 
   // The program that the source is, or null where it is refused: then the fault is shown and its line marked.

@@ -1,6 +1,6 @@
 // The keys: all that the mouse can do.
 
-import { byId, html } from "./element.js";
+import { byId, fill, html } from "./element.js";
 
 // Keys that make a move; those with `#` make it at the selected stage.
 export const MOVE_KEYS = {
@@ -23,7 +23,7 @@ const OTHER_KEYS = [
 export function showKeys() {
   const moves = Object.entries(MOVE_KEYS).map(([key, move]) => [key, move.replace("#", "at the chosen stage")]);
   const rows = [...OTHER_KEYS, ...moves].map(([key, words]) => [html("dt", {}, html("kbd", {}, key)), html("dd", {}, words)]);
-  byId("key-list").replaceChildren(...rows.flat());
+  fill(byId("key-list"), rows);
 }
 
 function isTyping(target) {

@@ -2,7 +2,7 @@
 
 import { built, examples, explanations, fromBase64, moduleBytes } from "./data.js";
 import { draw } from "./drawing.js";
-import { byId, html, sentence } from "./element.js";
+import { byId, fill, html, made, sentence } from "./element.js";
 import { Editors } from "./editors.js";
 import { listenToKeys, showKeys } from "./keys.js";
 import { memorySiding } from "./layout.js";
@@ -32,8 +32,10 @@ class Page {
     this.examples = examples();
     this.editors = new Editors(this.simulator, this.reasons);
     this.orders = new AnyOrder(this.simulator, LIMIT);
-    this.player = new Player(() => this.step());
+    this.player = new Player(() => this.advance(), () => this.show());
     this.selected = 1;
+    // Why the last move that was asked for could not be made.
+    this.why = "";
   }
 
   // What is drawn.
@@ -47,11 +49,12 @@ class Page {
   show() {
     const view = this.view;
     const hadFocus = byId("drawing").contains(document.activeElement);
+    byId("drawing").classList.toggle("still", this.player.isFast);
     draw(byId("drawing"), view);
     if (hadFocus) byId("drawing").querySelector(".selected").focus();
     this.tell(view);
-    showMoves(view.picture, (move) => this.make(move));
-    showStage(view, (move) => this.make(move));
+    showMoves(view.picture);
+    showStage(view);
     showBarred(view.picture, this.reasons);
     showMachine(view, this.machine);
     showWritten(view.picture);
@@ -65,16 +68,16 @@ class Page {
   tell(view) {
     const { last, undone } = this.session;
     const notes = (last ?? undone.at(-1))?.notes ?? [];
-    byId("notes").textContent = notes.map((note) => note.replace(/^#\s*/, "")).join(" ");
-    byId("told").replaceChildren(...(last ? this.wordsOfLast(view) : [this.wordsAtStart()]));
+    fill(byId("notes"), notes.map((note) => note.replace(/^#\s*/, "")).join(" "));
+    fill(byId("told"), last ? this.wordsOfLast(view) : this.wordsAtStart());
     const { first } = view.picture;
-    byId("ending").textContent = first.startsWith("script end") ? "" : `The run has ended: ${first}.`;
-    this.explain("");
+    fill(byId("ending"), first.startsWith("script end") ? "" : `The run has ended: ${first}.`);
+    fill(byId("why"), sentence(this.why));
   }
 
   wordsOfLast({ before, picture, texts, layout, last }) {
     const words = told(last, before, picture, texts, memorySiding(layout));
-    return [`${this.session.steps.length}. `, html("b", {}, last), " ", ...sentence(words)];
+    return [`${this.session.steps.length}. `, html("b", {}, last), " ", sentence(words)];
   }
 
   wordsAtStart() {
@@ -83,21 +86,19 @@ class Page {
     return "Nothing has happened yet. Make a move: click on it, or press →.";
   }
 
-  explain(words) {
-    byId("why").replaceChildren(...sentence(words));
-  }
-
   // What is done.
 
-  refused(move, { kind, reason }) {
-    this.explain(`\`${move}\` cannot be made. ${kind === "bar" ? this.reasons.bar(reason) : this.reasons.refusal("Scripts", reason)}`);
+  // Whether a move was made: keeps why not, where it was refused.
+  took(move, refused) {
+    const reason = refused && (refused.kind === "bar" ? this.reasons.bar(refused.reason) : this.reasons.refusal("Scripts", refused.reason));
+    this.why = refused ? `\`${move}\` cannot be made. ${reason}` : "";
+    return !refused;
   }
 
   make(move) {
-    const refused = this.session.choose(move);
-    if (refused) this.refused(move, refused);
-    else this.show();
-    return !refused;
+    const isMade = this.took(move, this.session.choose(move));
+    this.show();
+    return isMade;
   }
 
   get schedule() {
@@ -107,39 +108,45 @@ class Page {
     return this.seeded;
   }
 
-  // One move: of those that were taken back the last, or else what the schedule chooses.
-  step() {
-    if (this.session.undone.length > 0) return this.again();
+  // Makes one move, of those that were taken back the last, or else what the schedule chooses. Whether it was made.
+  advance() {
+    const step = this.session.undone.at(-1);
+    if (step) return this.took(step.move, this.session.again());
     const move = this.session.chosenBy(this.schedule);
-    return move !== null && this.make(move);
+    return move !== null && this.took(move, this.session.choose(move));
+  }
+
+  step() {
+    this.advance();
+    this.show();
   }
 
   again() {
-    const step = this.session.undone.at(-1);
-    if (!step) return false;
-    const refused = this.session.again();
-    if (refused) this.refused(step.move, refused);
-    else this.show();
-    return !refused;
+    if (this.session.undone.length > 0) this.step();
+  }
+
+  // Changes the moves that are made; nothing that was refused before counts any more.
+  change(how) {
+    this.player.stop();
+    this.why = "";
+    how(this.session);
+    this.show();
   }
 
   forward() {
-    this.player.stop();
-    const next = this.session.undone.length;
-    this.session.forward();
-    this.show();
-    if (next > 0 && this.session.undone.length > 0) this.again();
+    this.change((session) => {
+      session.forward();
+      // What is left begins with a move that cannot be made.
+      if (session.undone.length > 0) this.advance();
+    });
   }
 
   back() {
-    this.player.stop();
-    if (this.session.back()) this.show();
+    this.change((session) => session.back());
   }
 
   rewind() {
-    this.player.stop();
-    this.session.rewind();
-    this.show();
+    this.change((session) => session.rewind());
   }
 
   // A click on a part of a stage, or Enter on the stage: its one move, or else the stage is chosen, with all its moves beside.
@@ -148,11 +155,12 @@ class Page {
     const possible = side ? moves[side] : [...moves.meeting, ...moves.passenger, ...moves.packet];
     this.selected = stage;
     if (possible.length === 1) this.make(possible[0]);
-    else this.show();
+    else this.select(stage);
   }
 
   select(stage) {
     this.selected = Math.max(1, Math.min(this.session.layout.stages, stage));
+    this.why = "";
     this.show();
   }
 
@@ -175,8 +183,12 @@ class Page {
     const [, problem] = /^bad program: (.*)$/.exec(this.machine.first) ?? [];
     byId("loaded").textContent = problem ? `No program: ${this.reasons.refusal("Programs", problem)}` : name;
     byId("input").value = text(input);
-    this.session.load(script);
-    this.show();
+    this.load(script);
+  }
+
+  // Takes a script that is to be played.
+  load(script) {
+    this.change((session) => session.load(script));
   }
 
   openExample(example) {
@@ -203,17 +215,16 @@ class Page {
 function fillChoices(page) {
   const groups = new Map();
   page.examples.programs.forEach((example, at) => {
-    if (!groups.has(example.group)) groups.set(example.group, html("optgroup", { label: example.group }));
-    groups.get(example.group).append(html("option", { value: at }, example.title));
+    groups.set(example.group, [...(groups.get(example.group) ?? []), html("option", { value: at }, example.title)]);
   });
-  for (const id of ["example", "layout"]) byId(id).append(html("option", { value: OWN, hidden: true }, "your own"));
-  byId("example").append(...groups.values());
-  byId("layout").append(...Object.keys(page.examples.layouts).map((name) => html("option", { value: name }, name)));
+  const own = html("option", { value: OWN, hidden: true }, "your own");
+  fill(byId("example"), own, [...groups].map(([group, options]) => html("optgroup", { label: group }, options)));
+  fill(byId("layout"), own, Object.keys(page.examples.layouts).map((name) => html("option", { value: name }, name)));
   byId("example").value = "0";
 }
 
 function save(name, parts) {
-  const link = html("a", { download: name, href: URL.createObjectURL(new Blob(parts)) });
+  const link = made(html("a", { download: name, href: URL.createObjectURL(new Blob(parts)) }));
   link.click();
   URL.revokeObjectURL(link.href);
 }
@@ -277,8 +288,7 @@ function listenToScript(page) {
   byId("save-layout").addEventListener("click", () => save("layout.toml", [page.session.layout.text]));
   byId("script-file").addEventListener("change", async ({ target }) => {
     if (!target.files[0]) return;
-    page.session.load(await target.files[0].text());
-    page.show();
+    page.load(await target.files[0].text());
   });
   byId("share").addEventListener("click", async () => {
     const { layout, bytes, input, script } = page.session;
@@ -300,6 +310,7 @@ function listenToDrawing(page) {
     if (move) page.make(move.dataset.move);
     else if (stage) page.touch(Number(stage.dataset.stage), target.closest("[data-side]")?.dataset.side);
   });
+  for (const id of ["moves", "stage-moves"]) byId(id).addEventListener("click", ({ target }) => target.dataset.move && page.make(target.dataset.move));
   listenToKeys({
     ArrowRight: () => page.step(),
     ArrowLeft: () => page.back(),

@@ -1,6 +1,6 @@
 // What stands beside the drawing: the moves, one stage's moves with why they are barred, the sequential machine, the script.
 
-import { byId, html, sentence } from "./element.js";
+import { byId, fill, html, sentence } from "./element.js";
 import { movesOfStage } from "./moves.js";
 import { text } from "./program.js";
 import { firstDifference, readRetired } from "./sequential.js";
@@ -11,16 +11,12 @@ const ROWS = 14;
 // A browser lays out a long text anew at each change. The whole script is what Save saves.
 const STEPS_SHOWN = 300;
 
-export function showMoves(picture, make) {
-  const buttons = picture.allowed.map((move) => {
-    const button = html("button", { "data-move": move }, move);
-    button.addEventListener("click", () => make(move));
-    return button;
-  });
+export function showMoves(picture) {
+  const buttons = picture.allowed.map((move) => html("button", { "data-move": move }, move));
   const hadFocus = byId("moves").contains(document.activeElement);
-  byId("moves").replaceChildren(...(buttons.length > 0 ? buttons : ["nothing"]));
+  fill(byId("moves"), buttons.length > 0 ? buttons : "nothing");
   // Who makes moves here by keys goes on here.
-  if (hadFocus) buttons[0]?.focus();
+  if (hadFocus) byId("moves").querySelector("button")?.focus();
 }
 
 function movesAt(layout, stage) {
@@ -29,21 +25,17 @@ function movesAt(layout, stage) {
 }
 
 // The moves of one stage that are barred; a click on one says why.
-export function showStage(view, make) {
+export function showStage(view) {
   const { picture, layout, selected } = view;
   const barred = movesAt(layout, selected).filter((move) => picture.barred.has(move));
-  byId("stage-heading").textContent = `Barred at stage ${selected}, and why`;
-  byId("stage-moves").replaceChildren(...barred.map((move) => {
-    const button = html("button", {}, `${move}: ${picture.barred.get(move)}`);
-    button.addEventListener("click", () => make(move));
-    return button;
-  }));
+  fill(byId("stage-heading"), `Barred at stage ${selected}, and why`);
+  fill(byId("stage-moves"), barred.map((move) => html("button", { "data-move": move }, `${move}: ${picture.barred.get(move)}`)));
 }
 
 export function showBarred(picture, reasons) {
   if (!byId("barred-details").open) return;
   const rows = [...picture.barred].flatMap(([move, bar]) => [html("dt", {}, move), html("dd", {}, sentence(reasons.bar(bar)))]);
-  byId("barred").replaceChildren(...rows);
+  fill(byId("barred"), rows);
 }
 
 function machineRow(view, line, at, retired) {
@@ -62,27 +54,30 @@ export function showMachine(view, machine) {
   const rows = machine.lines.slice(from, from + ROWS).map((line, at) => machineRow(view, line, from + at, retired));
   const mark = html("li", { class: "here" }, `▲ the processor has retired ${retired}`);
   rows.splice(Math.min(retired - from, rows.length), 0, mark);
-  byId("machine").replaceChildren(...rows);
+  fill(byId("machine"), rows);
   const total = machine.lines.length;
   const ends = machine.first.startsWith("limit") ? `the first ${total} are shown` : `it retires ${total}, then: ${machine.first}`;
   const bar = html("progress", { value: Math.min(retired, total), max: Math.max(total, 1), "aria-label": "retired" });
-  byId("progress").replaceChildren(bar, ` ${retired} of ${total}; ${ends}`);
+  fill(byId("progress"), bar, ` ${retired} of ${total}; ${ends}`);
   showAgreement(machine, view.picture);
 }
 
 function showAgreement(machine, picture) {
   const shown = { ...picture, lines: picture.lines.slice(0, machine.lines.length) };
   const place = firstDifference(machine, shown);
-  const it = byId("agreement");
-  it.className = place < 0 ? "" : "fault";
-  if (place >= 0) it.textContent = `Instruction ${place + 1} differs. This must not be: please report it, with the script.`;
-  else if (picture.retired === 0) it.textContent = "Nothing has retired yet.";
-  else it.textContent = `What the processor retired is what this machine retires first: ${shown.lines.length} of ${shown.lines.length} lines are the same.`;
+  byId("agreement").classList.toggle("fault", place >= 0);
+  fill(byId("agreement"), agreementWords(place, picture.retired, shown.lines.length));
+}
+
+function agreementWords(place, retired, count) {
+  if (place >= 0) return `Instruction ${place + 1} differs. This must not be: please report it, with the script.`;
+  if (retired === 0) return "Nothing has retired yet.";
+  return `What the processor retired is what this machine retires first: ${count} of ${count} lines are the same.`;
 }
 
 export function showWritten(picture) {
   byId("written-words").hidden = byId("written").hidden = picture.output.length === 0;
-  byId("written").textContent = text(picture.output);
+  fill(byId("written"), text(picture.output));
 }
 
 export function showScript(session) {
@@ -95,11 +90,11 @@ export function showScript(session) {
 }
 
 export function showReport(picture) {
-  if (byId("report-details").open) byId("report").textContent = picture.text;
+  if (byId("report-details").open) fill(byId("report"), picture.text);
 }
 
 export function showLegend() {
   const words = { out: "out: its operation is in a siding", value: "a value", turn: "a turn or a halt" };
   const kinds = ["new", "out", "done", "dead", "trap", "exit", "value", "turn"];
-  byId("legend").replaceChildren(...kinds.map((kind) => html("span", { class: `is-${kind}` }, words[kind] ?? kind)));
+  fill(byId("legend"), kinds.map((kind) => html("span", { class: `is-${kind}` }, words[kind] ?? kind)));
 }

@@ -1,16 +1,30 @@
-// Plays moves by themselves, so many a second.
+// Plays moves by themselves, so many a second: at each frame of the browser those that are due, drawn once.
 
 import { byId } from "./element.js";
 
+// Where a frame comes late, no more moves than these are made up for at once.
+const MOST = 12;
+// From so many moves a second on, what moves is not shown on its way.
+const FAST = 8;
+
 export class Player {
-  // `step` makes one move and says whether there may be more.
-  constructor(step) {
-    this.step = step;
-    this.timer = null;
+  // `make` makes one move and says whether there may be more; `show` draws where the moves led.
+  constructor(make, show) {
+    this.make = make;
+    this.show = show;
+    this.frame = null;
   }
 
   get isPlaying() {
-    return this.timer !== null;
+    return this.frame !== null;
+  }
+
+  get speed() {
+    return Number(byId("speed").value);
+  }
+
+  get isFast() {
+    return this.isPlaying && this.speed >= FAST;
   }
 
   toggle() {
@@ -22,19 +36,32 @@ export class Player {
     byId("play-word").textContent = "Stop";
     // Who listens to the page hears single moves alone.
     byId("telling").setAttribute("aria-live", "off");
-    this.next = performance.now();
-    this.turn();
+    this.due = 1;
+    this.last = performance.now();
+    this.wait();
   }
 
-  turn() {
-    this.next = Math.max(this.next + 1000 / Number(byId("speed").value), performance.now() - 100);
-    this.timer = setTimeout(() => this.turn(), Math.max(0, this.next - performance.now()));
-    if (!this.step()) this.stop();
+  wait() {
+    this.frame = requestAnimationFrame((now) => this.turn(now));
+  }
+
+  turn(now) {
+    this.due = Math.min(MOST, this.due + (Math.max(0, now - this.last) * this.speed) / 1000);
+    this.last = now;
+    this.wait();
+    if (this.due >= 1) this.play();
+  }
+
+  play() {
+    let goesOn = true;
+    for (; goesOn && this.due >= 1; this.due -= 1) goesOn = this.make();
+    if (!goesOn) this.stop();
+    this.show();
   }
 
   stop() {
-    clearTimeout(this.timer);
-    this.timer = null;
+    cancelAnimationFrame(this.frame);
+    this.frame = null;
     byId("play-word").textContent = "Play";
     byId("telling").setAttribute("aria-live", "polite");
   }

@@ -40,7 +40,7 @@ export class Session {
   // Makes one more move: the answer is the bar where it cannot be made.
   make(move, notes = []) {
     const step = { move, notes };
-    const after = this.simulator.standing(this, this.scriptOf([...this.steps, step]));
+    const after = this.simulator.standing(this, this.script + this.scriptOf([step]), this.picture);
     const refused = /^(barred at line \d+|bad script line \d+): (.*)$/.exec(after.first);
     if (refused) return { kind: refused[1].startsWith("barred") ? "bar" : "line", reason: refused[2] };
     step.issues = issuesAfter(this.issues, move, this.picture, after);

@@ -75,16 +75,12 @@ export class Simulator {
     }, 0);
   }
 
-  // Where a script leads, with the moves that can be made there and why the others cannot.
-  standing(session, script) {
-    const report = this.run(session, script);
-    if (!report.first.startsWith("script end")) return report;
-    return { ...report, ...this.nextMoves(session, script) };
-  }
-
-  // Which moves can be made behind a script, and the first bar of each of the others.
-  nextMoves(session, script) {
-    const { allowed, barred } = readReport(this.scripted(session, script, "moves").report);
-    return { allowed, barred };
+  // Where a script leads, with the moves that can be made there and why the others cannot. The lines of what retired are asked for just
+  // where they are not those of the picture before.
+  standing(session, script, before = null) {
+    const answer = this.scripted(session, script, "moves");
+    const report = readReport(answer.report);
+    const lines = report.retired === before?.retired ? before.lines : this.run(session, script).lines;
+    return { ...report, output: answer.output, lines };
   }
 }
