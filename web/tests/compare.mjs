@@ -1,4 +1,5 @@
-// Compares the page's module with the native program, byte for byte: every stored script, and random calls from a seed.
+// Compares the page's module with the native program, byte for byte: every stored script, each command on stored files, and random calls
+// from a seed.
 //
 //     node web/tests/compare.mjs [COUNT [SEED]]
 
@@ -72,7 +73,7 @@ function randomCall(draw, native) {
   const shown = ["--show", draw.of(["report", "retired", "moves"])];
   const limit = ["--limit", String(draw.below(60))];
   const onProcessor = ["run", "layout", "program"];
-  const kind = draw.below(10);
+  const kind = draw.below(12);
   if (kind < 4) {
     files.script = randomScript(draw, native, files.layout, files.program, input);
     const words = draw.of([[...onProcessor, ...shown], ["moves", "layout", "program"]]);
@@ -87,7 +88,10 @@ function randomCall(draw, native) {
     const words = draw.of([["check", "layout"], ["list", "program"], [...onProcessor, ...limit]]);
     return [words, { layout: changed(draw, files.layout), program: changed(draw, files.program) }, input];
   }
-  return [["asm", "source"], { source: changed(draw, draw.of(sources)) }, input];
+  if (kind === 9) return [["asm", "source"], { source: changed(draw, draw.of(sources)) }, input];
+  if (kind === 10) return [["rounds", "layout", "program", ...limit], files, input];
+  const delays = changed(draw, read("examples/delays/slow_memory.delays"));
+  return [["time", "delays", "program", "plain", "layout", ...limit], { ...files, delays }, input];
 }
 
 const native = new Native();
@@ -108,6 +112,35 @@ for (const { name, files, report } of scripts) {
   count(name, difference(answer, native.call(words, files)) ?? fault);
 }
 
+// Calls of the other commands on stored files: what a traced run shows is audited, also with a byte changed.
+function storedCalls() {
+  const files = (names) => Object.fromEntries(Object.entries(names).map(([name, file]) => [name, read(file)]));
+  const seven = files({ layout: "examples/layouts/tiny.toml", program: "examples/seven.bin" });
+  const sorted = files({
+    delays: "examples/delays/slow_memory.delays", program: "examples/sorted.bin",
+    tiny: "examples/layouts/tiny.toml", deep: "examples/layouts/deep.toml", cached: "examples/layouts/cached.toml",
+  });
+  const guess = files({ program: "examples/debug/wrong_guess.bin" });
+  const { report } = native.call(["run", "layout", "program", "--show", "moves"], seven);
+  const trace = report.subarray(0, report.indexOf("exit 7\n"));
+  const changed = Buffer.from(trace);
+  changed[changed.lastIndexOf("fetch") + 6] ^= 1;
+  const none = new Uint8Array();
+  return [
+    ...[["help"], ["--help"], ["--version"], ["gen", "40"], ["gen", "40", "--run"], ["gen", "0"], []].map((words) => [words, {}, none]),
+    ...["layout", "plain"].map((layout) => [["rounds", layout, "program", "--limit", "60"], seven, none]),
+    [["rounds", "cached", "program"], sorted, none],
+    ...[trace, changed, trace.subarray(0, 200), none].map((bytes) => [["audit", "layout", "program", "trace"], { ...seven, trace: bytes }, none]),
+    [["time", "delays", "program", "plain", "tiny", "deep", "cached", "--limit", "300"], sorted, none],
+    [["time", "tiny", "program", "plain"], sorted, none],
+    [["debug", "plain", "program"], guess, read("examples/debug/wrong_guess.commands")],
+    [["debug", "plain", "program"], guess, Buffer.from("auto 40\nshow\nregs\nmem 00010000 16\nbound\nback\nback\nmove serve\nleap\n")],
+  ];
+}
+
+const stored = storedCalls();
+for (const call of stored) count(`the call ${call[0].join(" ")}`, difference(module.call(...call), native.call(...call)));
+
 const statuses = new Map();
 let moves = 0;
 for (let at = 0; at < COUNT; at += 1) {
@@ -120,5 +153,5 @@ for (let at = 0; at < COUNT; at += 1) {
 }
 native.end();
 const ended = [...statuses].sort(([one], [other]) => one - other).map(([status, times]) => `${status} (${times})`).join(", ");
-console.log(`${scripts.length} stored scripts and ${COUNT} random calls with ${moves} moves, statuses ${ended}: ${failed} differ`);
+console.log(`${scripts.length} stored scripts, ${stored.length} stored calls and ${COUNT} random calls with ${moves} moves, statuses ${ended}: ${failed} differ`);
 process.exitCode = failed === 0 ? 0 : 1;
