@@ -1,9 +1,11 @@
 /* Stands before the C library of a program that tools/refusals starts: refuses its N-th request for memory (REFUSE=memory N),
    fails its N-th open, read or write (REFUSE=calls N), or has its N-th read or write of several bytes move one (REFUSE=short N).
-   Where it came to that, a byte is written to the descriptor REFUSE_TOLD. */
+   For tools/checking/process it cuts a file off behind what was read of it, at the N-th read (REFUSE=lost N). Where it came to
+   that, a byte is written to the descriptor REFUSE_TOLD. */
 #include <errno.h>
 #include <fcntl.h>
 #include <stdarg.h>
+#include <stdio.h>
 #include <stdlib.h>
 #include <string.h>
 #include <sys/syscall.h>
@@ -12,7 +14,7 @@
 extern void *__libc_malloc(size_t size);
 extern void *__libc_realloc(void *old, size_t size);
 
-enum kind { NOTHING, MEMORY, CALLS, SHORT };
+enum kind { NOTHING, MEMORY, CALLS, SHORT, LOST };
 
 static enum kind kind;
 static long left;
@@ -23,7 +25,7 @@ __attribute__((constructor)) static void begin(void) {
     if (refuse == NULL)
         return;
     const char *number = strchr(refuse, ' ');
-    kind = refuse[0] == 'm' ? MEMORY : refuse[0] == 'c' ? CALLS : SHORT;
+    kind = refuse[0] == 'm' ? MEMORY : refuse[0] == 'c' ? CALLS : refuse[0] == 's' ? SHORT : LOST;
     left = number == NULL ? 0 : strtol(number, NULL, 10);
 }
 
@@ -60,9 +62,18 @@ int open(const char *name, int flags, ...) {
     return fails() ? -1 : (int)syscall(SYS_openat, AT_FDCWD, name, flags, mode);
 }
 
+static void cut(int file) {
+    char name[40];
+    snprintf(name, sizeof name, "/proc/self/fd/%d", file);
+    if (truncate(name, lseek(file, 0, SEEK_CUR)) != 0)
+        abort();
+}
+
 ssize_t read(int file, void *into, size_t size) {
     if (fails())
         return -1;
+    if (is_it(LOST))
+        cut(file);
     return syscall(SYS_read, file, into, size > 1 && is_it(SHORT) ? 1 : size);
 }
 

@@ -5,6 +5,9 @@ import re
 MEMORY = 200 << 20
 SECONDS = 20
 
+# The name of the file with a trace as it was recorded.
+RECORDED = "recorded"
+
 ADDRESS = "[0-9a-f]{8}"
 E = r"[A-Z][A-Za-z0-9]*(?: [^\n]*)?"
 
@@ -38,6 +41,12 @@ RUN = rf"retired [0-9]+\n(?:rounds [0-9]+\n)?{TALLY}{REGISTERS}{PICTURE}"
 SHOWN = rf"(?:{RETIREMENT})*"
 SHOWN_MOVES = rf"(?:move [0-9]+ [^\n]+\n(?:{RETIREMENT})?{PICTURE})*"
 CHOICES = r"(?:(?:allowed|barred) [^\n]+\n)+"
+MOVE = rf"(?:issue (?:next|taken|wait|to {ADDRESS})|[a-z]+(?: [0-9]+){{0,2}})"
+
+# What the debugger answers.
+ANSWERS = [RETIREMENT, PICTURE, REGISTERS, r"moved\n", rf"back {MOVE}\n", r"auto [0-9]+\n", r"bound [0-9]+\n"]
+ANSWERS += [rf"break (?:{ADDRESS}|none)\n", rf"{ADDRESS}(?: [0-9a-f]{{2}}){{1,16}}\n", r"\? [A-Z][A-Za-z]+(?: x[0-9]{2})?\n"]
+SESSION = f"(?:{'|'.join(ANSWERS)})*"
 
 # What stands behind the first closing line, and before it, where the guest's run has begun.
 CLOSED = {
@@ -52,7 +61,7 @@ CLOSED = {
 DONE = {
     "time": rf"(?:[^\n]+: [^\n]+ time [0-9]+ moves [0-9]+ retired [0-9]+\n(?:(?:stage|siding|moves|chain)[^\n]*\n)*)+least [^\n]+\n",
     "audit": r"trace of [0-9]+ moves\n",
-    "debug": r"(?:[^\n]*\n)*",
+    "debug": SESSION,
     "gen": "",
 }
 
@@ -81,11 +90,17 @@ def has_form(command, status, report):
     if status == 0 and re.fullmatch(DONE.get(command, "$^" if command in CLOSED else ""), report):
         return True
     if command == "debug":
-        return re.fullmatch(rf"(?:[^\n]*\n)*{first_line(status)}\n", report) is not None
+        return re.fullmatch(rf"{SESSION}{first_line(status)}\n", report) is not None
     if command in CLOSED:
         before, behind = CLOSED[command]
         return re.fullmatch(rf"{before}{first_line(status)}\n{behind}", report) is not None
     return False
+
+
+def trace_of(report):
+    """What stands before the closing lines of a run that showed its moves."""
+    closing = re.search(rf"^(?:exit [0-9]+|{SCRIPT_END}|{'|'.join(FIRST_LINES.values())})$", report, re.MULTILINE)
+    return report[: closing.start()].encode(errors="surrogateescape") if closing else b""
 
 
 def faults(call):
@@ -102,3 +117,5 @@ def faults(call):
         yield f"its report has not the form of status {call.status}"
     if is_refusal(call.status, call.report) and call.output_size and call.status != 129:
         yield "it was refused and wrote to the output"
+    if command == "audit" and call.words[-1] == RECORDED and call.status == 132:
+        yield "a trace that was recorded does not agree"
