@@ -1,12 +1,12 @@
 -- The lines of some moves, and of those behind them.
-use Rattle.std.proofs.Common.{◌≡◌, ℕ, zero, suc, ◌+◌, ◌-◌, ◌<◌, ◌≤◌, List, [], ◌∷◌, ◌++◌, map, length, take, drop, get_or, Option, Some, None, refl, ap, sym, ◌∙◌, subst, append-nil, append_assoc, arith}
+use Rattle.std.proofs.Common.{◌≡◌, ℕ, zero, suc, ◌+◌, ◌-◌, ◌<◌, ◌≤◌, List, [], ◌∷◌, ◌++◌, map, length, take, drop, get_or, refl, ap, sym, ◌∙◌, subst, append-nil, append_assoc, arith}
 use Rattle.std.specs.List.{flat_map}
 use Rattle.std.specs.Prelude.{slice_get, unwrap_or}
 use Rattle.std.proofs.lemmas.List.{flat_map_more, take_more, take_all, take-append-drop}
 use Rattle.std.proofs.lemmas.List.Concat.{flat_map-append}
 use Rattle.cf_layout.specs.Layout.{Plan, SidingPlan, no_siding, cells_of}
 use Rattle.cf_bind.specs.declared.moves.Move.{Move}
-use Rattle.cf_semantics.specs.Candidates.{counted_from, at_stages}
+use Rattle.cf_semantics.specs.Candidates.{counted_from}
 use Rattle.cf_semantics.specs.State.{State}
 use Rattle.cf_closing.specs.Moves.{cell_moves, siding_moves, every_move, line_in, moves_text}
 use Rattle.cf_closing.specs.Parts.{part_moves, lines_in}

@@ -1,4 +1,4 @@
--- The first line of the report that closes a run of the processor: how the run finished (a format of this project).
+-- The first line of the report that closes a run: how the run finished (a format of this project).
 use Rattle.std.specs.Prelude.{ℕ, List, [], ◌++◌, codes, decimal}
 use Rattle.cf_bind.specs.declared.moves.Bar.{Bar}
 use Rattle.cf_bind.specs.declared.moves.Bar.TheVariants as bar

@@ -1,11 +1,10 @@
 //! The report that closes a run.
-#![tactic(auto, unfolding(crate::specs::Closing::closing, crate::specs::Closing::head_text, crate::specs::Closing::whole_closing))]
+#![tactic(auto, unfolding(crate::specs::Closing::head_text, crate::specs::Closing::machine_closing))]
 
-ghost use Rattle.std.specs.Prelude.{◌≡◌, ◌++◌, codes};
+ghost use Rattle.std.specs.Prelude.{◌≡◌, ◌≤◌, length, codes};
 ghost use Rattle.cf_texts.specs.Texts.{counted_line};
 ghost use Rattle.cf_report.specs.Putting.{PutsText};
-ghost use Rattle.cf_closing.specs.Lines.{first_line};
-ghost use Rattle.cf_closing.specs.Closing.{head_text, rest_text, whole_closing, closing, closing_in_rounds};
+ghost use Rattle.cf_closing.specs.Closing.{head_text, rest_text, machine_closing, closing, closing_in_rounds};
 
 use crate::first_line::push_first_line;
 use cf_core::Core;
@@ -16,11 +15,21 @@ use cf_texts::Page;
 
 /// How the run finished, and how many instructions have retired.
 fn head_page(limit: u64, moves: u64, answer: Scripted, retired: u64) -> Page
-    ensures { result ≡ first_line limit moves answer ++ counted_line (codes "retired ") retired }
+    ensures text { result ≡ head_text limit moves answer retired }
+    ensures size { length result ≤ 110 }
 {
     let mut page = Page::new();
     push_first_line(&mut page, limit, moves, answer);
     page.push_counted(b"retired ", retired);
+    page
+}
+
+/// The same of the sequential machine, and its registers.
+fn machine_page(limit: u64, answer: Ran, retired: u64, regs: &[u32; 32]) -> Page
+    ensures { result ≡ machine_closing limit answer retired regs.now }
+{
+    let mut page = head_page(limit, 0, Scripted::Ran(answer), retired);
+    page.push_registers(regs);
     page
 }
 
@@ -33,7 +42,7 @@ fn put_head<R: Sink>(
 ) -> Result<(), Failed>
     ensures { PutsText (R.written report.old) (R.written report.new)
         (R.faults report.old) (R.faults report.new)
-        (head_text limit answer core.now.state tally.now) result }
+        (head_text limit tally.now.moves answer core.now.state.retired) result }
 {
     let page = head_page(limit, tally.moves, answer, core.retired());
     put_all(report, page.bytes())
@@ -58,25 +67,26 @@ fn put_rest<R: Sink>(core: &Core, tally: &Tally, report: &mut R) -> Result<(), F
     put_picture(core, report)
 }
 
-fn put_whole<R: Sink>(
-    core: &Core,
+/// Puts the report that closes a run of the sequential machine under this limit, which finished with this answer, with so
+/// many instructions retired and these registers: the line that tells how it finished, the count and the registers. After
+/// `Failed` a front of it was put.
+pub fn put_machine_closing<R: Sink>(
     limit: u64,
-    answer: Scripted,
-    tally: &Tally,
+    answer: Ran,
+    retired: u64,
+    regs: &[u32; 32],
     report: &mut R,
 ) -> Result<(), Failed>
     ensures { PutsText (R.written report.old) (R.written report.new)
-        (R.faults report.old) (R.faults report.new)
-        (whole_closing limit answer core.now.plan core.now.state tally.now) result }
+        (R.faults report.old) (R.faults report.new) (machine_closing limit answer retired regs.now) result }
 {
-    put_head(core, limit, answer, tally, report)?;
-    put_rest(core, tally, report)
+    let page = machine_page(limit, answer, retired, regs);
+    put_all(report, page.bytes())
 }
 
-/// Puts the report that closes a run under this limit, which finished with this answer and left the processor and the
-/// count so: the line that tells how it finished, how many instructions have retired, what was counted, the registers,
-/// and the picture of the processor. Nothing is put where the report failed in the run. After `Failed` a front of it
-/// was put.
+/// Puts the report that closes a run of the processor under this limit, which finished with this answer and left the
+/// processor and the count so: the line that tells how it finished, how many instructions have retired, what was counted,
+/// the registers, and the picture of the processor. After `Failed` a front of it was put.
 pub fn put_closing<R: Sink>(
     core: &Core,
     limit: u64,
@@ -88,15 +98,12 @@ pub fn put_closing<R: Sink>(
         (R.faults report.old) (R.faults report.new)
         (closing limit answer core.now.plan core.now.state tally.now) result }
 {
-    if matches!(answer, Scripted::Ran(Ran::ReportFault)) {
-        Ok(())
-    } else {
-        put_whole(core, limit, answer, tally, report)
-    }
+    put_head(core, limit, answer, tally, report)?;
+    put_rest(core, tally, report)
 }
 
-/// Puts the report that closes a run in so many rounds: that of any run, with their number behind that of the retired
-/// instructions. After `Failed` a front of it was put.
+/// Puts the report that closes a run in so many rounds: that of any run of the processor, with their number behind that of
+/// the retired instructions. After `Failed` a front of it was put.
 pub fn put_closing_in_rounds<R: Sink>(
     core: &Core,
     limit: u64,

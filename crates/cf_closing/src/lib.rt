@@ -1,5 +1,5 @@
-//! The report that closes a run of the processor: how it finished, what retired, what was counted, the registers, and
-//! the picture; and the moves that can be made where it stopped.
+//! The report that closes a run, of the sequential machine or of the processor: how it finished, what retired, what was
+//! counted, the registers and the picture; and the moves that can be made where a run of the processor stopped.
 #![tactic(auto)]
 
 mod closing;
@@ -7,7 +7,7 @@ mod first_line;
 mod moves;
 mod parts;
 
-pub use closing::{put_closing, put_closing_in_rounds};
+pub use closing::{put_closing, put_closing_in_rounds, put_machine_closing};
 pub use first_line::{push_bar, push_script, run_line};
 pub use moves::put_moves;
 

@@ -19,17 +19,17 @@ use Rattle.cfpp_cli.specs.Listings.{AnswersList}
 use Rattle.cfpp_cli.specs.Machine.{AnswersMachine, BreaksProgram}
 use Rattle.cfpp_cli.specs.NamedFiles.{files_named}
 use Rattle.cfpp_cli.specs.Options.{Chosen}
-use Rattle.cfpp_cli.specs.Rounds.{RoundsAsked, AnswersRounds, BreaksRounds}
+use Rattle.cfpp_cli.specs.Rounds.{RoundsAsked, AnswersRounds}
 use Rattle.cfpp_cli.specs.Sources.{most_source, AnswersAsm}
 use Rattle.cfpp_cli.specs.Top.{Answers, Breaks}
 
 -- of `machine`
-machine-read : (name : List ℕ) (chosen : Chosen) (before after : Outside) (answer : Status) (report : List ℕ) →
-    AnswersMachine name chosen before after answer report → WereRead (name ∷ []) before.files after.files
-machine-read name chosen before after answer report (inl r) =
+machine-read : (name : List ℕ) (chosen : Chosen) (before after : Outside) (answer : Status) (shown closing : List ℕ) →
+    AnswersMachine name chosen before after answer shown closing → WereRead (name ∷ []) before.files after.files
+machine-read name chosen before after answer shown closing (inl r) =
     were-all (name ∷ []) before.files after.files (program-read name before.files after.files r.start r.program)
-machine-read name chosen before after answer report (inr r) =
-    program-lacking name before.files after.files answer report r.lacks
+machine-read name chosen before after answer shown closing (inr r) =
+    program-lacking name before.files after.files answer (shown ++ closing) r.lacks
 
 machine-broken : (name : List ℕ) (chosen : Chosen) (before after : Outside) (blank full : Option (List ℕ)) →
     BreaksProgram name chosen before after blank full → WereRead (name ∷ []) before.files after.files
@@ -44,12 +44,6 @@ rounds-read asked before after answer report (inl r) =
     (loaded-read asked.layout asked.program before.files after.files r.plan r.hart r.loaded)
 rounds-read asked before after answer report (inr r) =
     loaded-lacking asked.layout asked.program before.files after.files answer report r.lacks
-
-rounds-broken : (asked : RoundsAsked) (before after : Outside) (blank full : Option (List ℕ)) →
-    BreaksRounds asked before after blank full → WereRead (layout_files asked.layout ++ asked.program ∷ []) before.files after.files
-rounds-broken asked before after blank full r =
-    were-all (layout_files asked.layout ++ asked.program ∷ []) before.files after.files
-    (loaded-read asked.layout asked.program before.files after.files r.plan r.hart r.loaded)
 
 -- of those that read one file
 check-read : (layout : Layout) (before after : FileSide) (answer : Status) (report : List ℕ) →
@@ -74,32 +68,32 @@ listing-read name before after answer report (inr (lacks, same)) =
     were-lacking _ _ name before.files after.files answer report lacks
 
 pub answers-read : (reading : Result Asked ℕ) (before after : Outside) (blank : Option (List ℕ)) (answer : Status)
-    (report : List ℕ) → Answers reading before after blank answer report → WereRead (files_named reading) before.files after.files
-answers-read (Ok (machine program limit retired mul)) before after blank answer report h =
-    machine-read program _ before after answer report h
-answers-read (Ok (run layout program schedule limit lines)) before after blank answer report h =
-    answered-read _ (run_asked layout program schedule limit lines) before after answer report h
-answers-read (Ok (moves layout program schedule limit)) before after blank answer report h =
-    answered-read _ (run_asked layout program schedule limit shows.Report) before after answer report h
-answers-read (Ok (rounds layout program limit)) before after blank answer report h =
-    rounds-read _ before after answer report h
-answers-read (Ok (debug layout program)) before after blank answer report h =
-    debugged-read layout program before after answer report h
-answers-read (Ok (time delays program layouts limit sites)) before after blank answer report h =
-    timed-read (time_asked delays program layouts limit) before.files after.files answer report h.0
-answers-read (Ok (audit layout program trace)) before after blank answer report h =
-    audited-read (audit_asked layout program trace) (audit_side before) (audit_side after) answer report h.0
-answers-read (Ok (check layout)) before after blank answer report h =
-    check-read layout (side_of before) (side_of after) answer report h.0
-answers-read (Ok (asm source)) before after blank answer report h =
-    source-read source (side_of before) (side_of after) answer report h.0
-answers-read (Ok (listing program)) before after blank answer report h =
-    listing-read program (side_of before) (side_of after) answer report h.0
-answers-read (Ok (gen number true)) before after blank answer report h = were-none [] before.files after.files h.1
-answers-read (Ok (gen number false)) before after blank answer report h = were-none [] before.files after.files h.files
-answers-read (Ok help) before after blank answer report h = were-none [] before.files after.files h.files
-answers-read (Ok version) before after blank answer report h = were-none [] before.files after.files h.files
-answers-read (Err index) before after blank answer report h = were-none [] before.files after.files h.files
+    (shown closing : List ℕ) → Answers reading before after blank answer shown closing → WereRead (files_named reading) before.files after.files
+answers-read (Ok (machine program limit retired mul)) before after blank answer shown closing h =
+    machine-read program _ before after answer shown closing h
+answers-read (Ok (run layout program schedule limit lines)) before after blank answer shown closing h =
+    answered-read _ (run_asked layout program schedule limit lines) before after answer (shown ++ closing) h
+answers-read (Ok (moves layout program schedule limit)) before after blank answer shown closing h =
+    answered-read _ (run_asked layout program schedule limit shows.Report) before after answer (shown ++ closing) h
+answers-read (Ok (rounds layout program limit)) before after blank answer shown closing h =
+    rounds-read _ before after answer (shown ++ closing) h
+answers-read (Ok (debug layout program)) before after blank answer shown closing h =
+    debugged-read layout program before after answer (shown ++ closing) h
+answers-read (Ok (time delays program layouts limit sites)) before after blank answer shown closing h =
+    timed-read (time_asked delays program layouts limit) before.files after.files answer (shown ++ closing) h.0
+answers-read (Ok (audit layout program trace)) before after blank answer shown closing h =
+    audited-read (audit_asked layout program trace) (audit_side before) (audit_side after) answer (shown ++ closing) h.0
+answers-read (Ok (check layout)) before after blank answer shown closing h =
+    check-read layout (side_of before) (side_of after) answer (shown ++ closing) h.0
+answers-read (Ok (asm source)) before after blank answer shown closing h =
+    source-read source (side_of before) (side_of after) answer (shown ++ closing) h.0
+answers-read (Ok (listing program)) before after blank answer shown closing h =
+    listing-read program (side_of before) (side_of after) answer (shown ++ closing) h.0
+answers-read (Ok (gen number true)) before after blank answer shown closing h = were-none [] before.files after.files h.1
+answers-read (Ok (gen number false)) before after blank answer shown closing h = were-none [] before.files after.files h.files
+answers-read (Ok help) before after blank answer shown closing h = were-none [] before.files after.files h.files
+answers-read (Ok version) before after blank answer shown closing h = were-none [] before.files after.files h.files
+answers-read (Err index) before after blank answer shown closing h = were-none [] before.files after.files h.files
 
 pub breaks-read : (reading : Result Asked ℕ) (before after : Outside) (blank full : Option (List ℕ)) →
     Breaks reading before after blank full → WereRead (files_named reading) before.files after.files
@@ -109,7 +103,7 @@ breaks-read (Ok (run layout program schedule limit lines)) before after blank fu
     files-read _ (run_asked layout program schedule limit lines) before after h
 breaks-read (Ok (moves layout program schedule limit)) before after blank full h =
     files-read _ (run_asked layout program schedule limit shows.Report) before after h
-breaks-read (Ok (rounds layout program limit)) before after blank full h = rounds-broken _ before after blank full h
+breaks-read (Ok (rounds layout program limit)) before after blank full h = absurd h
 breaks-read (Ok (debug layout program)) before after blank full h = broken-read layout program before after blank full h
 breaks-read (Ok (gen number true)) before after blank full h = were-none [] before.files after.files h.1
 breaks-read (Ok (time delays program layouts limit sites)) before after blank full h =

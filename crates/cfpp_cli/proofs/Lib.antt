@@ -3,8 +3,8 @@ pub mod InRounds
 pub mod Machines
 pub mod ProcessorRuns
 pub mod ProgramFiles
+pub mod PutReports
 pub mod Reports
 pub mod RunFiles
 pub mod Runs
-pub mod Shown
 pub mod Tops

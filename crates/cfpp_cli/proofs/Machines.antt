@@ -1,5 +1,5 @@
 -- A run of the processor that ends with Exit, Trap or Limit answers as `machine` does.
-use Rattle.std.proofs.Common.{◌≡◌, ◌<◌, ◌+◌, ◌-◌, ℕ, zero, suc, List, [], ◌++◌, Option, Some, None, Result, Ok, Err, false, refl, sym, ap, subst, ◌∙◌, inl, arith}
+use Rattle.std.proofs.Common.{◌≡◌, ◌<◌, ◌+◌, ◌-◌, ℕ, zero, suc, List, [], ◌++◌, Option, Some, None, Result, Ok, Err, false, refl, sym, ap, subst, ◌∙◌, inl, inr, arith}
 use Rattle.rv_inst.specs.declared.isa.Isa.{Isa}
 use Rattle.rv_machine.specs.Hart.{Hart}
 use Rattle.rv_machine.specs.Machine.{Machine}
@@ -7,6 +7,7 @@ use Rattle.rv_machine.specs.Outcome.{Outcome, Next, Trap, Exit}
 use Rattle.rv_machine.specs.Step.{step}
 use Rattle.rv_machine.specs.Streams.{Streams, Leaves}
 use Rattle.rv_machine.specs.declared.outcome.Retired.{Retired}
+use Rattle.cf_io.specs.Causes.{Rose}
 use Rattle.cf_io.specs.declared.failed.Failed.{Failed}
 use Rattle.cf_bind.specs.declared.moves.Move.{Move}
 use Rattle.cf_layout.specs.Layout.{Plan, has_mul}
@@ -23,18 +24,22 @@ use Rattle.cf_run.specs.declared.show.Show.{Show}
 use Rattle.cf_run.specs.Made.{Made}
 use Rattle.cf_run.specs.Ending.{EndsAsMachine, EndsSequentially, Ends, IsAfter}
 use Rattle.cf_run.specs.Moving.{Place, place_of}
-use Rattle.cf_run.specs.Policies.{IsOpened}
 use Rattle.cf_untold.specs.Anew.{GoesTo}
-use Rattle.cf_closing.specs.Lines.{first_line as line_of_finish, line_of_run}
-use Rattle.cfpp_cli.specs.Closing.{closing, first_line}
+use Rattle.cf_closing.specs.Closing.{head_text, machine_closing}
+use Rattle.cf_closing.specs.Lines.{first_line}
 use Rattle.cfpp_cli.specs.Finish.{opening, Runs}
 use Rattle.cfpp_cli.specs.Lines.{LeadsBy, ReachesBy, lines_of, text_of}
-use Rattle.cli_files.specs.Deciding.{Decides}
+use Rattle.cli_files.specs.Outside.{Report}
 use Rattle.cfpp_cli.specs.Options.{chosen_of}
-use Rattle.cfpp_cli.specs.Run.{start_of, status_of, chosen_by, head_of, AgreesWithMachine, IsMachines, IsComplete, RunsCore, RunsOpened, BreaksCore, ComesOf}
+use Rattle.cfpp_cli.specs.Reporting.{Puts, Adds, Carries, Comes}
+use Rattle.cli_files.specs.Memory.{LacksProcessor}
+use Rattle.cfpp_cli.specs.Run.{start_of, chosen_by, head_of, AgreesWithMachine, IsMachines, IsComplete, RunsCore, RunsOpened, BreaksCore, ComesOf}
+use Rattle.cfpp_cli.specs.Statuses.{status_of}
+use Rattle.cfpp_cli.specs.Tail.{lines_behind}
+use Rattle.cfpp_cli.specs.declared.reporting.Reported.{Reported}
+use Rattle.cfpp_cli.specs.declared.tail.Tail.{Tail}
+use Rattle.cfpp_cli.proofs.PutReports.{shows-none, adds-behind}
 use Rattle.cli_files.specs.Schedules.{ReadySchedule, in_script, drawn_from, in_turn}
-use Rattle.cli_files.specs.declared.answer.Answer.{Answer}
-use Rattle.cfpp_cli.specs.declared.running.Finish.TheVariants as finish
 use Rattle.cli_files.specs.declared.status.Status.{Status}
 use Rattle.cli_files.specs.declared.status.Status.TheVariants as status
 
@@ -84,7 +89,7 @@ reached limit hart begin new answer fresh e =
     }
 
 -- the run of the machine that finishes so, with its lines not shown
-exit_runs : (limit : ℕ) (plan : Plan) (hart : Hart) (before after : Streams) (m : Machine) (code : ℕ) → Reached limit (isa_of plan) hart before after m → (m.hart.retired < limit) × (step (isa_of plan) m ≡ Exit code) → Runs (chosen_of limit false (has_mul plan)) hart m.hart before after (finish.Exit code) []
+exit_runs : (limit : ℕ) (plan : Plan) (hart : Hart) (before after : Streams) (m : Machine) (code : ℕ) → Reached limit (isa_of plan) hart before after m → (m.hart.retired < limit) × (step (isa_of plan) m ≡ Exit code) → Runs (chosen_of limit false (has_mul plan)) hart m.hart before after (ran.Exit code) []
 exit_runs limit plan hart before after m code r (below, is) = record {
   count = m.hart.retired;
   last = m;
@@ -97,7 +102,7 @@ exit_runs limit plan hart before after m code r (below, is) = record {
   shows = refl;
 }
 
-trap_runs : (limit : ℕ) (plan : Plan) (hart : Hart) (before after : Streams) (m : Machine) (cause pc detail : ℕ) → Reached limit (isa_of plan) hart before after m → (m.hart.retired < limit) × (step (isa_of plan) m ≡ Trap cause pc detail) → Runs (chosen_of limit false (has_mul plan)) hart m.hart before after (finish.Trap cause pc detail) []
+trap_runs : (limit : ℕ) (plan : Plan) (hart : Hart) (before after : Streams) (m : Machine) (cause pc detail : ℕ) → Reached limit (isa_of plan) hart before after m → (m.hart.retired < limit) × (step (isa_of plan) m ≡ Trap cause pc detail) → Runs (chosen_of limit false (has_mul plan)) hart m.hart before after (ran.Trap cause pc detail) []
 trap_runs limit plan hart before after m cause pc detail r (below, is) = record {
   count = m.hart.retired;
   last = m;
@@ -110,7 +115,7 @@ trap_runs limit plan hart before after m cause pc detail r (below, is) = record 
   shows = refl;
 }
 
-limit_runs : (limit : ℕ) (plan : Plan) (hart : Hart) (before after : Streams) (m : Machine) → Reached limit (isa_of plan) hart before after m → m.hart.retired ≡ limit → Runs (chosen_of limit false (has_mul plan)) hart m.hart before after finish.Limit []
+limit_runs : (limit : ℕ) (plan : Plan) (hart : Hart) (before after : Streams) (m : Machine) → Reached limit (isa_of plan) hart before after m → m.hart.retired ≡ limit → Runs (chosen_of limit false (has_mul plan)) hart m.hart before after ran.Limit []
 limit_runs limit plan hart before after m r full = record {
   count = m.hart.retired;
   last = m;
@@ -125,49 +130,46 @@ limit_runs limit plan hart before after m r full = record {
 
 -- so the answer and the head of the report are those of `machine`
 exit_agrees : (limit : ℕ) (plan : Plan) (hart : Hart) (begin new : Place) (code : ℕ) → hart.retired ≡ 0 → begin.core.plan ≡ plan → EndsAsMachine limit hart begin new (ran.Exit code) → IsMachines limit plan hart begin.streams new.streams (status.Exit code) (head_of limit (Ran (ran.Exit code)) new.core new.tally)
-unfolding closing first_line line_of_finish line_of_run
+unfolding machine_closing head_text first_line
 exit_agrees limit plan hart begin new code fresh same e =
     let r = subst (λ (p : Plan). Reached limit (isa_of p) hart begin.streams new.streams e.at) same (reached limit hart begin new (ran.Exit code) fresh e) in
     let ends = subst (λ (p : Plan). Ends (isa_of p) limit e.at (ran.Exit code)) same e.ends in
     record {
       runs = record {
-        finish = finish.Exit code;
+        finish = ran.Exit code;
         status_is = refl;
         last = e.at.hart;
-        lines = [];
         runs = exit_runs limit plan hart begin.streams new.streams e.at code r ends;
-        reports = rw (e.retired, e.regs) refl;
+        closes = rw (e.retired, e.regs) refl;
       };
     }
 
 trap_agrees : (limit : ℕ) (plan : Plan) (hart : Hart) (begin new : Place) (cause pc detail : ℕ) → hart.retired ≡ 0 → begin.core.plan ≡ plan → EndsAsMachine limit hart begin new (ran.Trap cause pc detail) → IsMachines limit plan hart begin.streams new.streams (status.Trap cause pc detail) (head_of limit (Ran (ran.Trap cause pc detail)) new.core new.tally)
-unfolding closing first_line line_of_finish line_of_run
+unfolding machine_closing head_text first_line
 trap_agrees limit plan hart begin new cause pc detail fresh same e =
     let r = subst (λ (p : Plan). Reached limit (isa_of p) hart begin.streams new.streams e.at) same (reached limit hart begin new (ran.Trap cause pc detail) fresh e) in
     let ends = subst (λ (p : Plan). Ends (isa_of p) limit e.at (ran.Trap cause pc detail)) same e.ends in
     record {
       runs = record {
-        finish = finish.Trap cause pc detail;
+        finish = ran.Trap cause pc detail;
         status_is = refl;
         last = e.at.hart;
-        lines = [];
         runs = trap_runs limit plan hart begin.streams new.streams e.at cause pc detail r ends;
-        reports = rw (e.retired, e.regs) refl;
+        closes = rw (e.retired, e.regs) refl;
       };
     }
 
 limit_agrees : (limit : ℕ) (plan : Plan) (hart : Hart) (begin new : Place) → hart.retired ≡ 0 → begin.core.plan ≡ plan → EndsAsMachine limit hart begin new ran.Limit → IsMachines limit plan hart begin.streams new.streams (status.Limit (Some limit)) (head_of limit (Ran ran.Limit) new.core new.tally)
-unfolding closing first_line line_of_finish line_of_run
+unfolding machine_closing head_text first_line
 limit_agrees limit plan hart begin new fresh same e =
     let r = subst (λ (p : Plan). Reached limit (isa_of p) hart begin.streams new.streams e.at) same (reached limit hart begin new ran.Limit fresh e) in
     record {
       runs = record {
-        finish = finish.Limit;
+        finish = ran.Limit;
         status_is = refl;
         last = e.at.hart;
-        lines = [];
         runs = limit_runs limit plan hart begin.streams new.streams e.at r e.ends;
-        reports = rw (e.retired, e.regs) refl;
+        closes = rw (e.retired, e.regs) refl;
       };
     }
 
@@ -221,41 +223,55 @@ complete limit show (in_script text) start new finish trace moves answer by said
 complete limit show (drawn_from seed) start new finish trace moves answer by said = complete_ran limit new.tally.moves (drawn_from seed) by.answer answer (said ∙ ap (status_of limit new.tally.moves) by.finish_is)
 complete limit show in_turn start new finish trace moves answer by said = complete_ran limit new.tally.moves in_turn by.answer answer (said ∙ ap (status_of limit new.tally.moves) by.finish_is)
 
--- the run of a processor that was opened is what comes of its layout, hart and schedule
--- a run of the processor that was opened
-runs-opened : (limit : ℕ) (show : Show) (last : Processor) (plan : Plan) (hart : Hart) (schedule : ReadySchedule) (before after : Streams) (blank : Option (List ℕ)) (answer : Status) (text : List ℕ) → hart.retired ≡ 0
-    → RunsCore limit show (opened plan hart) last (chosen_by limit show schedule) before after blank answer text
-    → RunsOpened limit show plan hart last schedule before after blank answer text
-runs-opened limit show last plan hart schedule before after blank answer text fresh runs = record {
+-- a run of the processor that was opened, and its tail
+runs-opened : (limit : ℕ) (show : Show) (tail : Tail) (last : Processor) (plan : Plan) (hart : Hart) (schedule : ReadySchedule) (before after : Streams) (blank : Option (List ℕ)) (answer : Status) (shown text : List ℕ) → hart.retired ≡ 0
+    → RunsCore limit show (opened plan hart) last (chosen_by limit show schedule) before after blank answer shown text
+    → RunsOpened limit show tail plan hart last schedule before after blank answer shown (text ++ lines_behind tail answer last)
+runs-opened limit show tail last plan hart schedule before after blank answer shown text fresh runs = record {
+  text = text;
   runs = runs;
   agrees = agrees limit plan hart before after blank runs.run.told last runs.run.tally runs.run.finish answer fresh runs.run.ends runs.status_is;
   complete = complete limit show schedule _ _ runs.run.finish runs.run.trace runs.run.moves answer runs.run.runs runs.status_is;
+  closes = refl;
 }
 
--- is what is decided
-abbrev pub Opens : (limit : ℕ) (show : Show) (last : Processor) → Plan → Hart → ReadySchedule → (before after : Streams) → (blank full : Option (List ℕ)) → Result Answer Failed → Type 0
-Opens limit show last plan hart schedule before after blank full result =
-    Decides (RunsOpened limit show plan hart last schedule before after blank) (BreaksCore limit show (opened plan hart) (chosen_by limit show schedule) before after blank full) blank full result
+-- what comes of the run, as it was seen
+abbrev pub Opens : (limit : ℕ) (show : Show) (core last : Processor) → ReadySchedule → (before after : Streams) → (blank full : Report) → Result Reported Failed → Type 0
+Opens limit show core last schedule before after blank full result =
+    Comes (RunsCore limit show core last (chosen_by limit show schedule) before after blank.written) (BreaksCore limit show core (chosen_by limit show schedule) before after blank.written full.written) blank full result
 
-pub opens : (limit : ℕ) (seen show : Show) (core last : Processor) (plan : Plan) (hart : Hart) (schedule : ReadySchedule) (before after : Streams) (blank full : Option (List ℕ)) (result : Result Answer Failed) → core ≡ opened plan hart → seen ≡ show → hart.retired ≡ 0
-    → Decides (RunsCore limit seen core last (chosen_by limit seen schedule) before after blank) (BreaksCore limit seen core (chosen_by limit seen schedule) before after blank full) blank full result
-    → Opens limit show last plan hart schedule before after blank full result
-opens limit seen show core last plan hart schedule before after blank full result is same fresh decides = of result here
-  where
-    There : Show → Processor → Type 0
-    There s p = Decides (RunsCore limit s p last (chosen_by limit s schedule) before after blank) (BreaksCore limit s p (chosen_by limit s schedule) before after blank full) blank full result
+seen-opened : (limit : ℕ) (seen show : Show) (core last : Processor) (plan : Plan) (hart : Hart) (schedule : ReadySchedule) (before after : Streams) (blank full : Report) (result : Result Reported Failed) → core ≡ opened plan hart → seen ≡ show
+    → Opens limit seen core last schedule before after blank full result → Opens limit show (opened plan hart) last schedule before after blank full result
+seen-opened limit seen show core last plan hart schedule before after blank full result is same opens =
+    subst (λ (s : Show). Opens limit s (opened plan hart) last schedule before after blank full result) same (subst (λ (p : Processor). Opens limit seen p last schedule before after blank full result) is opens)
 
-    here : There show (opened plan hart)
-    here = subst (λ (s : Show). There s (opened plan hart)) same (subst (λ (p : Processor). There seen p) is decides)
+-- is what comes of the layout, the hart and the schedule, once the tail was put
+pub opened-comes : (limit : ℕ) (seen show : Show) (tail : Tail) (core last : Processor) (plan : Plan) (hart : Hart) (schedule : ReadySchedule) (before after : Streams) (blank half full : Report) (reported behind : Reported) → core ≡ opened plan hart → seen ≡ show → hart.retired ≡ 0
+    → Opens limit seen core last schedule before after blank half (Ok reported) → behind.status ≡ reported.status → Adds reported.put half full (lines_behind tail reported.status last) behind.put
+    → Comes (ComesOf limit show tail plan hart schedule before after blank.written) (BreaksCore limit show (opened plan hart) (chosen_by limit show schedule) before after blank.written full.written) blank full (Ok behind)
+opened-comes limit seen show tail core last plan hart schedule before after blank half full reported behind is same fresh opens said added =
+    let run = seen-opened limit seen show core last plan hart schedule before after blank half (Ok reported) is same opens in
+    let text : List ℕ = run.1 in (
+      run.0,
+      text ++ lines_behind tail reported.status last,
+      subst (λ (s : Status). ComesOf limit show tail plan hart schedule before after blank.written s run.0 (text ++ lines_behind tail reported.status last)) (sym said)
+          (inl (last, runs-opened limit show tail last plan hart schedule before after blank.written reported.status run.0 text fresh run.2)),
+      adds-behind blank half full run.0 text (lines_behind tail reported.status last) reported.put behind.put run.3 added,
+    )
 
-    of : (result : Result Answer Failed) → Decides (RunsCore limit show (opened plan hart) last (chosen_by limit show schedule) before after blank) (BreaksCore limit show (opened plan hart) (chosen_by limit show schedule) before after blank full) blank full result
-        → Opens limit show last plan hart schedule before after blank full result
-    of (Ok answer) (lines, put, runs) = (lines, put, runs-opened limit show last plan hart schedule before after blank answer.status (lines ++ answer.closing) fresh runs)
-    of (Err failed) breaks = breaks
+-- or the report failed in the run
+pub opened-breaks : {failed : Failed} (limit : ℕ) (seen show : Show) (core last : Processor) (plan : Plan) (hart : Hart) (schedule : ReadySchedule) (before after : Streams) (blank full : Report) → core ≡ opened plan hart → seen ≡ show
+    → Opens limit seen core last schedule before after blank full (Err failed)
+    → BreaksCore limit show (opened plan hart) (chosen_by limit show schedule) before after blank.written full.written × Rose blank.faults full.faults
+opened-breaks {failed = failed} limit seen show core last plan hart schedule before after blank full is same opens = seen-opened limit seen show core last plan hart schedule before after blank full (Err failed) is same opens
 
--- which comes of it
-pub opened-comes : (limit : ℕ) (show : Show) (last : Processor) (plan : Plan) (hart : Hart) (schedule : ReadySchedule) (before after : Streams) (blank full : Option (List ℕ)) (result : Result Answer Failed)
-    → Opens limit show last plan hart schedule before after blank full result
-    → Decides (ComesOf limit show plan hart schedule before after blank) (BreaksCore limit show (opened plan hart) (chosen_by limit show schedule) before after blank full) blank full result
-opened-comes limit show last plan hart schedule before after blank full (Ok answer) (lines, put, runs) = (lines, put, inl (last, runs))
-opened-comes limit show last plan hart schedule before after blank full (Err failed) breaks = breaks
+-- or memory for it was refused
+pub unopened-comes : (limit : ℕ) (show : Show) (tail : Tail) (plan : Plan) (hart : Hart) (schedule : ReadySchedule) (before after : Streams) (told : Option (List ℕ)) (blank full : Report) (answer : Status) (text : List ℕ) (reported : Reported) → reported.status ≡ answer
+    → LacksProcessor before after answer text → Puts blank full text reported.put
+    → Carries (ComesOf limit show tail plan hart schedule before after told) blank full reported
+unopened-comes limit show tail plan hart schedule before after told blank full answer text reported same lacks puts = (
+  [],
+  text,
+  inr (subst (λ (s : Status). LacksProcessor before after s text) (sym same) lacks),
+  shows-none blank full text reported.put puts,
+)

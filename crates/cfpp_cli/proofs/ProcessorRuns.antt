@@ -1,14 +1,11 @@
 -- A run of the processor, its closing lines, and what the report then has.
-use Rattle.std.proofs.Common.{◌≡◌, ◌≤◌, ◌-◌, ℕ, List, ◌++◌, true, false, Option, Some, Result, Ok, Err, refl, sym, ap, subst, ◌∙◌, inl, inr, append-nil}
-use Rattle.cf_io.specs.Causes.{HasCause}
+use Rattle.std.proofs.Common.{◌≡◌, ◌≤◌, ◌-◌, ℕ, List, Bool, true, false, Option, Some, Result, Ok, Err, refl, sym, ap, subst, ◌∙◌}
+use Rattle.cf_io.specs.Causes.{Rose, HasCause}
 use Rattle.cf_io.specs.Puts.{Writes}
 use Rattle.cf_io.specs.declared.failed.Failed.{Failed}
-use Rattle.rv_machine.specs.Hart.{Hart}
 use Rattle.rv_machine.specs.Streams.{Streams}
-use Rattle.cf_layout.specs.Layout.{Plan}
 use Rattle.cf_bind.specs.declared.moves.Move.{Move}
-use Rattle.cf_core.specs.Processors.{Processor, opened}
-use Rattle.cf_semantics.specs.Runs.{opened as opened_on}
+use Rattle.cf_core.specs.Processors.{Processor}
 use Rattle.cf_run.specs.declared.answer.Ran.{Ran as RunAnswer}
 use Rattle.cf_run.specs.declared.answer.Ran.TheVariants as ran
 use Rattle.cf_run.specs.declared.answer.Scripted.{Scripted}
@@ -20,16 +17,17 @@ use Rattle.cf_run.specs.Ending.{EndsSequentially}
 use Rattle.cf_run.specs.Headline.{RunsSequentially}
 use Rattle.cf_run.specs.Made.{Made, all_shown}
 use Rattle.cf_run.specs.Moving.{Place, place_of, Does}
-use Rattle.cf_run.specs.Policies.{input_stopped, output_stopped, report_stopped, IsOpened, RunsPolicy, RunsRight, most_moves}
-use Rattle.cf_run.specs.Scripts.{Stand, stand_of, first_moves, RunsScript, DoesLine, Stops, input_scripted, output_scripted}
+use Rattle.cf_run.specs.Policies.{input_stopped, output_stopped, report_stopped, RunsPolicy, RunsRight, most_moves}
+use Rattle.cf_run.specs.Scripts.{Stand, stand_of, first_moves, RunsScript, DoesLine, Stops, input_scripted, output_scripted, report_scripted}
 use Rattle.cf_closing.specs.Closing.{closing, is_report_fault}
-use Rattle.cli_files.specs.Causes.{input_answered, output_answered}
-use Rattle.cli_files.specs.Deciding.{Counts, Decides}
-use Rattle.cfpp_cli.specs.Deciding.{Closes, ClosesWith}
-use Rattle.cfpp_cli.specs.Run.{start_of, status_of, Chooses, ByScript, ByPolicy, ProcessorRun, RunsCore, BreaksCore}
-use Rattle.cli_files.specs.declared.answer.Answer.{Answer}
-use Rattle.cli_files.specs.declared.status.Status.{Status}
-use Rattle.cfpp_cli.proofs.Reports.{writes-again}
+use Rattle.cli_files.specs.Causes.{files_answered, input_answered, output_answered}
+use Rattle.cli_files.specs.Outside.{Report, report_of}
+use Rattle.cfpp_cli.specs.Finishing.{Closes, ClosesCore}
+use Rattle.cfpp_cli.specs.Reporting.{Puts, Comes, Tells, files_reported}
+use Rattle.cfpp_cli.specs.Run.{start_of, Chooses, ByScript, ByPolicy, ProcessorRun, RunsCore, BreaksCore}
+use Rattle.cfpp_cli.specs.Statuses.{status_of}
+use Rattle.cfpp_cli.specs.declared.reporting.Reported.{Reported}
+use Rattle.cfpp_cli.proofs.PutReports.{closed-tells}
 
 -- what the report has where the run stops at the stand that it reached
 stays : (blank : Option (List ℕ)) (now new : Stand) (lines : List ℕ) →
@@ -101,50 +99,78 @@ run_of limit show core last by before after blank told tally finish trace moves 
   ends = ends;
 }
 
--- its closing lines were put or not, and this is decided
-run-closed : (limit : ℕ) (show : Show) (core last : Processor) (by : Chooses) (before after : Streams)
-    (blank told full : Option (List ℕ)) (tally : Tally) (finish : Scripted) (trace : List Made) (moves : List Move)
-    (result : Result Answer Failed) →
-    by (start_of core before blank) (place_of last after told tally) finish trace moves →
-    RunsSequentially show moves (start_of core before blank) (place_of last after told tally) finish →
-    EndsSequentially limit (start_of core before blank) (place_of last after told tally) finish →
-    Writes blank told (all_shown show core.plan 1 trace) → is_report_fault finish ≡ false →
-    Closes limit finish last tally told full result →
-    Decides (RunsCore limit show core last by before after blank) (BreaksCore limit show core by before after blank full)
-    blank full result
-unfolding run_of
-run-closed limit show core last by before after blank told full tally finish trace moves (Ok answer) runs sequential ends put sound (said, empty, closed) =
-    let shown : List ℕ = all_shown show core.plan 1 trace in
-    let lines : List ℕ = closing limit finish last.plan last.state tally in (
-      shown ++ lines,
-      writes-again blank told full shown lines put closed,
-      record {
-        run = run_of limit show core last by before after blank told tally finish trace moves runs sequential ends;
-        reported = sound;
-        status_is = said;
-        reports = rw empty (append-nil (shown ++ lines));
-      },
-    )
-run-closed limit show core last by before after blank told full tally finish trace moves (Err failed) runs sequential ends put sound front =
-    record {
-      last = last;
-      run = run_of limit show core last by before after blank told tally finish trace moves runs sequential ends;
-      fails = inr (sound, front);
-    }
+-- the count of the report's faults stays where it did not fail in the run, and rises where it did
+pub report-stays : (before now : ℕ) (finish : Scripted) → is_report_fault finish ≡ false →
+    HasCause before now (report_scripted (Some finish)) → now ≡ before
+report-stays before now (Ran (ran.Exit code)) sound h = h.still
+report-stays before now (Ran (ran.Trap cause pc detail)) sound h = h.still
+report-stays before now (Ran ran.Limit) sound h = h.still
+report-stays before now (Ran ran.ReadFault) sound h = h.still
+report-stays before now (Ran ran.WriteFault) sound h = h.still
+report-stays before now (Ran ran.ReportFault) sound h = absurd (cc)
+report-stays before now ScriptEnd sound h = h.still
+report-stays before now (BadScript refusal) sound h = h.still
+report-stays before now (BarredAt line bar) sound h = h.still
 
--- a run whose report failed at a move
-run-cut : (limit : ℕ) (show : Show) (core last : Processor) (by : Chooses) (before after : Streams)
-    (blank told : Option (List ℕ)) (tally : Tally) (finish : Scripted) (trace : List Made) (moves : List Move) →
-    by (start_of core before blank) (place_of last after told tally) finish trace moves →
-    RunsSequentially show moves (start_of core before blank) (place_of last after told tally) finish →
-    EndsSequentially limit (start_of core before blank) (place_of last after told tally) finish →
-    is_report_fault finish ≡ true → BreaksCore limit show core by before after blank told
+pub report-rose : (before now : ℕ) (finish : Scripted) → is_report_fault finish ≡ true →
+    HasCause before now (report_scripted (Some finish)) → Rose before now
+report-rose before now (Ran ran.ReportFault) cut h = h.rose
+report-rose before now (Ran (ran.Exit code)) cut h = absurd (cc)
+report-rose before now (Ran (ran.Trap cause pc detail)) cut h = absurd (cc)
+report-rose before now (Ran ran.Limit) cut h = absurd (cc)
+report-rose before now (Ran ran.ReadFault) cut h = absurd (cc)
+report-rose before now (Ran ran.WriteFault) cut h = absurd (cc)
+report-rose before now ScriptEnd cut h = absurd (cc)
+report-rose before now (BadScript refusal) cut h = absurd (cc)
+report-rose before now (BarredAt line bar) cut h = absurd (cc)
+
+pub stopped-report : (answer : RunAnswer) → report_stopped (Some answer) ≡ report_scripted (Some (Ran answer))
+stopped-report (ran.Exit code) = refl
+stopped-report (ran.Trap cause pc detail) = refl
+stopped-report ran.Limit = refl
+stopped-report ran.ReadFault = refl
+stopped-report ran.WriteFault = refl
+stopped-report ran.ReportFault = refl
+
+-- its closing lines were put, or failed, or its report had failed at a move
+run-closed : (limit : ℕ) (show : Show) (core last : Processor) (by : Chooses) (before after : Streams)
+    (blank half full : Report) (tally : Tally) (finish : Scripted) (trace : List Made) (moves : List Move)
+    (result : Result Reported Failed) →
+    by (start_of core before blank.written) (place_of last after half.written tally) finish trace moves →
+    RunsSequentially show moves (start_of core before blank.written) (place_of last after half.written tally) finish →
+    EndsSequentially limit (start_of core before blank.written) (place_of last after half.written tally) finish →
+    (is_report_fault finish ≡ false → Writes blank.written half.written (all_shown show core.plan 1 trace)) →
+    HasCause blank.faults half.faults (report_scripted (Some finish)) →
+    ClosesCore limit finish last tally half full result →
+    Comes (RunsCore limit show core last by before after blank.written)
+    (BreaksCore limit show core by before after blank.written full.written) blank full result
 unfolding run_of
-run-cut limit show core last by before after blank told tally finish trace moves runs sequential ends cut = record {
-  last = last;
-  run = run_of limit show core last by before after blank told tally finish trace moves runs sequential ends;
-  fails = inl (cut, refl);
-}
+run-closed limit show core last by before after blank half full tally finish trace moves (Ok reported) runs sequential ends put cause (sound, closes) = (
+  all_shown show core.plan 1 trace,
+  closing limit finish last.plan last.state tally,
+  record {
+    run = run_of limit show core last by before after blank.written half.written tally finish trace moves runs sequential ends;
+    reported = sound;
+    status_is = closes.status_is;
+    shows = refl;
+    closes = refl;
+  },
+  record {
+    told = half.written;
+    shows = put sound;
+    closes = subst (λ (n : ℕ). Puts (report_of half.written n) full (closing limit finish last.plan last.state tally) reported.put)
+        (report-stays blank.faults half.faults finish sound cause) closes.puts;
+  },
+)
+run-closed limit show core last by before after blank half full tally finish trace moves (Err failed) runs sequential ends put cause (cut, same) = (
+  record {
+    last = last;
+    run = run_of limit show core last by before after blank.written half.written tally finish trace moves runs sequential ends;
+    cut = cut;
+    told = ap (λ (r : Report). r.written) same;
+  },
+  subst (λ (r : Report). Rose blank.faults r.faults) (sym same) (report-rose blank.faults half.faults finish cut cause),
+)
 
 -- by a script
 by_script : (limit : ℕ) (show : Show) (text : List ℕ) (start new : Place) (left : Told) (finish : Scripted) →
@@ -153,26 +179,16 @@ by_script : (limit : ℕ) (show : Show) (text : List ℕ) (start new : Place) (l
 by_script limit show text start new left finish r = record { left = left; runs = r; trace_is = refl; moves_are = refl }
 
 pub script-closed : (limit : ℕ) (show : Show) (core last : Processor) (text : List ℕ) (before after : Streams)
-    (blank told full : Option (List ℕ)) (tally : Tally) (left : Told) (finish : Scripted) (result : Result Answer Failed) →
-    RunsScript limit show (stand_of (start_of core before blank) (script_of text)) (stand_of (place_of last after told tally) left) finish →
-    RunsSequentially show (first_moves (script_of text) tally) (start_of core before blank) (place_of last after told tally) finish →
-    EndsSequentially limit (start_of core before blank) (place_of last after told tally) finish →
-    is_report_fault finish ≡ false → Closes limit finish last tally told full result →
-    Decides (RunsCore limit show core last (ByScript limit show text) before after blank)
-    (BreaksCore limit show core (ByScript limit show text) before after blank full) blank full result
-script-closed limit show core last text before after blank told full tally left finish result r sequential ends sound closes =
-    run-closed limit show core last (ByScript limit show text) before after blank told full tally finish _ _ result
-    (by_script limit show text _ _ left finish r) sequential ends (script-shown limit show _ _ finish r sound) sound closes
-
-pub script-cut : (limit : ℕ) (show : Show) (core last : Processor) (text : List ℕ) (before after : Streams)
-    (blank told : Option (List ℕ)) (tally : Tally) (left : Told) (finish : Scripted) →
-    RunsScript limit show (stand_of (start_of core before blank) (script_of text)) (stand_of (place_of last after told tally) left) finish →
-    RunsSequentially show (first_moves (script_of text) tally) (start_of core before blank) (place_of last after told tally) finish →
-    EndsSequentially limit (start_of core before blank) (place_of last after told tally) finish →
-    is_report_fault finish ≡ true → BreaksCore limit show core (ByScript limit show text) before after blank told
-script-cut limit show core last text before after blank told tally left finish r sequential ends cut =
-    run-cut limit show core last (ByScript limit show text) before after blank told tally finish _ _
-    (by_script limit show text _ _ left finish r) sequential ends cut
+    (blank half full : Report) (tally : Tally) (left : Told) (finish : Scripted) (result : Result Reported Failed) →
+    RunsScript limit show (stand_of (start_of core before blank.written) (script_of text)) (stand_of (place_of last after half.written tally) left) finish →
+    RunsSequentially show (first_moves (script_of text) tally) (start_of core before blank.written) (place_of last after half.written tally) finish →
+    EndsSequentially limit (start_of core before blank.written) (place_of last after half.written tally) finish →
+    HasCause blank.faults half.faults (report_scripted (Some finish)) → ClosesCore limit finish last tally half full result →
+    Comes (RunsCore limit show core last (ByScript limit show text) before after blank.written)
+    (BreaksCore limit show core (ByScript limit show text) before after blank.written full.written) blank full result
+script-closed limit show core last text before after blank half full tally left finish result r sequential ends cause closes =
+    run-closed limit show core last (ByScript limit show text) before after blank half full tally finish _ _ result
+    (by_script limit show text _ _ left finish r) sequential ends (λ sound. script-shown limit show _ _ finish r sound) cause closes
 
 -- by a policy
 by_policy : {P : Type 0} (picked : P → List Move → ℕ) (onward : P → List Move → P) (limit : ℕ) (show : Show)
@@ -184,33 +200,22 @@ by_policy picked onward limit show start new policy later moves answer r bounded
     record { answer = answer; finish_is = refl; later = later; runs = r; trace_is = refl; bounded = bounded }
 
 pub policy-closed : {P : Type 0} (picked : P → List Move → ℕ) (onward : P → List Move → P) (limit : ℕ) (show : Show)
-    (core last : Processor) (policy later : P) (before after : Streams) (blank told full : Option (List ℕ))
-    (tally : Tally) (answer : RunAnswer) (result : Result Answer Failed) →
-    RunsRight picked onward limit show (start_of core before blank) (place_of last after told tally) policy later answer →
-    EndsSequentially limit (start_of core before blank) (place_of last after told tally) (Ran answer) →
+    (core last : Processor) (policy later : P) (before after : Streams) (blank half full : Report)
+    (tally : Tally) (answer : RunAnswer) (result : Result Reported Failed) →
+    RunsRight picked onward limit show (start_of core before blank.written) (place_of last after half.written tally) policy later answer →
+    EndsSequentially limit (start_of core before blank.written) (place_of last after half.written tally) (Ran answer) →
     tally.moves ≤ most_moves core.plan (last.state.retired - core.state.retired) →
-    is_report_fault (Ran answer) ≡ false → Closes limit (Ran answer) last tally told full result →
-    Decides (RunsCore limit show core last (ByPolicy picked onward limit show policy) before after blank)
-    (BreaksCore limit show core (ByPolicy picked onward limit show policy) before after blank full) blank full result
-policy-closed picked onward limit show core last policy later before after blank told full tally answer result r ends bounded sound closes =
-    run-closed limit show core last (ByPolicy picked onward limit show policy) before after blank told full tally (Ran answer) _ _ result
+    HasCause blank.faults half.faults (report_stopped (Some answer)) → ClosesCore limit (Ran answer) last tally half full result →
+    Comes (RunsCore limit show core last (ByPolicy picked onward limit show policy) before after blank.written)
+    (BreaksCore limit show core (ByPolicy picked onward limit show policy) before after blank.written full.written) blank full result
+policy-closed picked onward limit show core last policy later before after blank half full tally answer result r ends bounded cause closes =
+    run-closed limit show core last (ByPolicy picked onward limit show policy) before after blank half full tally (Ran answer) _ _ result
     (by_policy picked onward limit show _ _ policy later r.moves answer r.runs bounded) r.sequential ends
-    (policy-shown picked onward limit show _ _ policy later r.moves answer r.runs sound) sound closes
-
-pub policy-cut : {P : Type 0} (picked : P → List Move → ℕ) (onward : P → List Move → P) (limit : ℕ) (show : Show)
-    (core last : Processor) (policy later : P) (before after : Streams) (blank told : Option (List ℕ))
-    (tally : Tally) (answer : RunAnswer) →
-    RunsRight picked onward limit show (start_of core before blank) (place_of last after told tally) policy later answer →
-    EndsSequentially limit (start_of core before blank) (place_of last after told tally) (Ran answer) →
-    tally.moves ≤ most_moves core.plan (last.state.retired - core.state.retired) →
-    is_report_fault (Ran answer) ≡ true →
-    BreaksCore limit show core (ByPolicy picked onward limit show policy) before after blank told
-policy-cut picked onward limit show core last policy later before after blank told tally answer r ends bounded cut =
-    run-cut limit show core last (ByPolicy picked onward limit show policy) before after blank told tally (Ran answer) _ _
-    (by_policy picked onward limit show _ _ policy later r.moves answer r.runs bounded) r.sequential ends cut
+    (λ sound. policy-shown picked onward limit show _ _ policy later r.moves answer r.runs sound)
+    (rw (stopped-report answer) at cause) closes
 
 -- the status says of the input and the output what the run says of them
-input-said : (limit moves : ℕ) (finish : Scripted) →
+pub input-said : (limit moves : ℕ) (finish : Scripted) →
     input_answered (status_of limit moves finish) ≡ input_scripted (Some finish)
 input-said limit moves (Ran (ran.Exit code)) = refl
 input-said limit moves (Ran (ran.Trap cause pc detail)) = refl
@@ -222,7 +227,7 @@ input-said limit moves ScriptEnd = refl
 input-said limit moves (BadScript refusal) = refl
 input-said limit moves (BarredAt line bar) = refl
 
-output-said : (limit moves : ℕ) (finish : Scripted) → is_report_fault finish ≡ false →
+pub output-said : (limit moves : ℕ) (finish : Scripted) → is_report_fault finish ≡ false →
     output_answered (status_of limit moves finish) ≡ output_scripted (Some finish)
 output-said limit moves (Ran (ran.Exit code)) sound = refl
 output-said limit moves (Ran (ran.Trap cause pc detail)) sound = refl
@@ -235,28 +240,38 @@ output-said limit moves (BadScript refusal) sound = refl
 output-said limit moves (BarredAt line bar) sound = refl
 
 -- so beside a run that was closed a count rose just where the answer says so
--- what the status says of a count where the closing lines were put; where the report failed at them it has not fallen
-pub closed-count : (answered : Status → Result (Unit {0}) (Unit {0})) (said : Status) (cause : Result (Unit {0}) (Unit {0}))
-    (lines : List ℕ) (told full : Option (List ℕ)) (result : Result Answer Failed) (before now : ℕ) →
-    answered said ≡ cause → ClosesWith said lines told full result → HasCause before now cause →
-    Counts answered before now result
-closed-count answered said cause lines told full (Ok answer) before now same closes h = rw (closes.0, same) h
-closed-count answered said cause lines told full (Err failed) before now same closes h = h.never_falls
+pub closed-input : (limit : ℕ) (finish : Scripted) (last : Processor) (tally : Tally) (half full : Report)
+    (result : Result Reported Failed) (before now : ℕ) → ClosesCore limit finish last tally half full result →
+    HasCause before now (input_scripted (Some finish)) → Tells input_answered before now result
+closed-input limit finish last tally half full result before now closes h =
+    closed-tells input_answered (is_report_fault finish) (status_of limit tally.moves finish) (input_scripted (Some finish))
+    (closing limit finish last.plan last.state tally) half full result before now (λ sound. input-said limit tally.moves finish) closes h
 
-pub closed-input : (limit : ℕ) (finish : Scripted) (last : Processor) (tally : Tally) (told full : Option (List ℕ))
-    (result : Result Answer Failed) (before now : ℕ) → Closes limit finish last tally told full result →
-    HasCause before now (input_scripted (Some finish)) → Counts input_answered before now result
-closed-input limit finish last tally told full result before now closes h =
-    closed-count input_answered (status_of limit tally.moves finish) (input_scripted (Some finish))
-    (closing limit finish last.plan last.state tally) told full result before now (input-said limit tally.moves finish) closes h
+pub closed-output : (limit : ℕ) (finish : Scripted) (last : Processor) (tally : Tally) (half full : Report)
+    (result : Result Reported Failed) (before now : ℕ) → ClosesCore limit finish last tally half full result →
+    HasCause before now (output_scripted (Some finish)) → Tells output_answered before now result
+closed-output limit finish last tally half full result before now closes h =
+    closed-tells output_answered (is_report_fault finish) (status_of limit tally.moves finish) (output_scripted (Some finish))
+    (closing limit finish last.plan last.state tally) half full result before now (λ sound. output-said limit tally.moves finish sound) closes h
 
-pub closed-output : (limit : ℕ) (finish : Scripted) (last : Processor) (tally : Tally) (told full : Option (List ℕ))
-    (result : Result Answer Failed) (before now : ℕ) → is_report_fault finish ≡ false →
-    Closes limit finish last tally told full result → HasCause before now (output_scripted (Some finish)) →
-    Counts output_answered before now result
-closed-output limit finish last tally told full result before now sound closes h =
-    closed-count output_answered (status_of limit tally.moves finish) (output_scripted (Some finish))
-    (closing limit finish last.plan last.state tally) told full result before now (output-said limit tally.moves finish sound) closes h
+-- it says nothing of files
+files-said : (limit moves : ℕ) (finish : Scripted) → files_answered (status_of limit moves finish) ≡ Ok tt
+files-said limit moves (Ran (ran.Exit code)) = refl
+files-said limit moves (Ran (ran.Trap cause pc detail)) = refl
+files-said limit moves (Ran ran.Limit) = refl
+files-said limit moves (Ran ran.ReadFault) = refl
+files-said limit moves (Ran ran.WriteFault) = refl
+files-said limit moves (Ran ran.ReportFault) = refl
+files-said limit moves ScriptEnd = refl
+files-said limit moves (BadScript refusal) = refl
+files-said limit moves (BarredAt line bar) = refl
+
+pub closed-files : (cut : Bool) (limit moves : ℕ) (finish : Scripted) (lines : List ℕ) (half full : Report)
+    (result : Result Reported Failed) → Closes cut (status_of limit moves finish) lines half full result →
+    files_reported result ≡ Ok tt
+closed-files cut limit moves finish lines half full (Ok reported) (sound, closes) =
+    ap files_answered closes.status_is ∙ files-said limit moves finish
+closed-files cut limit moves finish lines half full (Err failed) closes = refl
 
 -- of a run under a policy
 stopped-input : (answer : RunAnswer) → input_stopped (Some answer) ≡ input_scripted (Some (Ran answer))
@@ -282,17 +297,3 @@ policy-input before now answer h = rw (stopped-input answer) at h
 pub policy-output : (before now : ℕ) (answer : RunAnswer) → HasCause before now (output_stopped (Some answer)) →
     HasCause before now (output_scripted (Some (Ran answer)))
 policy-output before now answer h = rw (stopped-output answer) at h
-
--- the count of the report's faults rises where it failed in the run, and stays where it did not
-pub policy-report : (before now : ℕ) (answer : RunAnswer) → is_report_fault (Ran answer) ≡ false →
-    HasCause before now (report_stopped (Some answer)) → now ≡ before
-policy-report before now (ran.Exit code) sound h = h.still
-policy-report before now (ran.Trap cause pc detail) sound h = h.still
-policy-report before now ran.Limit sound h = h.still
-policy-report before now ran.ReadFault sound h = h.still
-policy-report before now ran.WriteFault sound h = h.still
-policy-report before now ran.ReportFault sound h = absurd (cc)
-
-pub closed-report : (before half now : ℕ) (result : Result Answer Failed) → half ≡ before →
-    HasCause half now result → HasCause before now result
-closed-report before half now result same h = subst (λ (n : ℕ). HasCause n now result) same h

@@ -1,23 +1,130 @@
 -- What comes of a program that is run on the sequential machine.
-use Rattle.std.proofs.Common.{ℕ, List, Option, Result, Ok, Err, inl}
+use Rattle.std.proofs.Common.{◌≡◌, ℕ, List, [], Option, true, false, Some, Result, Ok, Err, refl, sym, ap, subst, inl, inr}
+use Rattle.cf_io.specs.Causes.{Rose, HasCause}
+use Rattle.cf_io.specs.Puts.{Writes}
 use Rattle.cf_io.specs.declared.failed.Failed.{Failed}
 use Rattle.rv_machine.specs.Hart.{Hart}
-use Rattle.cli_files.specs.Deciding.{Decides}
-use Rattle.cfpp_cli.specs.Machine.{RunsHart, BreaksHart, AnswersMachine, BreaksProgram}
-use Rattle.cfpp_cli.specs.Options.{Chosen}
-use Rattle.cli_files.specs.Outside.{Outside}
+use Rattle.rv_machine.specs.Streams.{Streams}
+use Rattle.cf_closing.specs.Closing.{machine_closing, is_report_fault}
+use Rattle.cf_run.specs.declared.answer.Ran.{Ran as Answer}
+use Rattle.cf_run.specs.declared.answer.Ran.TheVariants as ran
+use Rattle.cf_run.specs.declared.answer.Scripted.TheVariants.{Ran}
+use Rattle.cf_run.specs.Policies.{input_stopped, output_stopped, report_stopped}
+use Rattle.cli_files.specs.Causes.{input_answered, output_answered}
+use Rattle.cli_files.specs.Outside.{Outside, Report, report_of}
 use Rattle.cli_files.specs.Programs.{IsProgramAt}
-use Rattle.cli_files.specs.declared.answer.Answer.{Answer}
+use Rattle.cli_files.specs.declared.status.Status.{Status}
+use Rattle.cfpp_cli.specs.Finish.{Runs, BreaksOff, RunsTo}
+use Rattle.cfpp_cli.specs.Finishing.{ClosesMachine}
+use Rattle.cfpp_cli.specs.Machine.{RunsHart, BreaksHart, RefusesMachine, AnswersMachine, BreaksProgram}
+use Rattle.cfpp_cli.specs.Options.{Chosen}
+use Rattle.cfpp_cli.specs.Reporting.{Puts, Carries, Comes, Tells, files_reported}
+use Rattle.cfpp_cli.specs.Statuses.{status_of_run}
+use Rattle.cfpp_cli.specs.declared.reporting.Reported.{Reported}
+use Rattle.cfpp_cli.proofs.ProcessorRuns.{report-stays, report-rose, stopped-report, input-said, output-said, closed-files, policy-input, policy-output}
+use Rattle.cfpp_cli.proofs.PutReports.{closed-tells, shows-none}
 
--- what comes of a program that was run is what `machine` decides
-pub decides-program : (chosen : Chosen) (before after : Outside) (name : List ℕ) (hart : Hart)
-    (blank full : Option (List ℕ)) (result : Result Answer Failed) →
+-- a run whose report did not fail: its lines were written
+record Ended (c : Chosen) (start last : Hart) (before after : Streams) (blank half : Option (List ℕ)) (finish : Answer) :
+    Type 0 where
+  lines : List ℕ
+  runs : Runs c start last before after finish lines
+  shows : Writes blank half lines
+
+ended : (c : Chosen) (start last : Hart) (before after : Streams) (blank half : Option (List ℕ)) (finish : Answer) →
+    is_report_fault (Ran finish) ≡ false → RunsTo c start last before after blank half finish →
+    Ended c start last before after blank half finish
+ended c start last before after blank half (ran.Exit status) sound runs = record { lines = runs.0; runs = runs.1; shows = runs.2 }
+ended c start last before after blank half (ran.Trap cause pc detail) sound runs = record { lines = runs.0; runs = runs.1; shows = runs.2 }
+ended c start last before after blank half ran.Limit sound runs = record { lines = runs.0; runs = runs.1; shows = runs.2 }
+ended c start last before after blank half ran.ReadFault sound runs = record { lines = runs.0; runs = runs.1; shows = runs.2 }
+ended c start last before after blank half ran.WriteFault sound runs = record { lines = runs.0; runs = runs.1; shows = runs.2 }
+ended c start last before after blank half ran.ReportFault sound runs = absurd (cc)
+
+-- one whose report failed
+broken : (c : Chosen) (start last : Hart) (before after : Streams) (blank half : Option (List ℕ)) (finish : Answer) →
+    is_report_fault (Ran finish) ≡ true → RunsTo c start last before after blank half finish →
+    BreaksOff c start last before after blank half
+broken c start last before after blank half ran.ReportFault cut runs = runs
+broken c start last before after blank half (ran.Exit status) cut runs = absurd (cc)
+broken c start last before after blank half (ran.Trap cause pc detail) cut runs = absurd (cc)
+broken c start last before after blank half ran.Limit cut runs = absurd (cc)
+broken c start last before after blank half ran.ReadFault cut runs = absurd (cc)
+broken c start last before after blank half ran.WriteFault cut runs = absurd (cc)
+
+-- the lines that close its report were put, or failed, or its report had failed before
+pub machine-closed : (c : Chosen) (start last : Hart) (before after : Streams) (blank half full : Report) (finish : Answer)
+    (result : Result Reported Failed) → RunsTo c start last before after blank.written half.written finish →
+    HasCause blank.faults half.faults (report_stopped (Some finish)) → ClosesMachine c.limit finish last half full result →
+    Comes (RunsHart c start before after) (BreaksHart c start before after blank.written full.written) blank full result
+machine-closed c start last before after blank half full finish (Ok reported) runs cause (sound, closes) =
+    let text : List ℕ = machine_closing c.limit finish last.retired last.regs in
+    let end : Ended c start last before after blank.written half.written finish =
+    ended c start last before after blank.written half.written finish sound runs in (
+      end.lines,
+      text,
+      record { finish = finish; status_is = closes.status_is; last = last; runs = end.runs; closes = refl },
+      record {
+        told = half.written;
+        shows = end.shows;
+        closes = subst (λ (n : ℕ). Puts (report_of half.written n) full text reported.put)
+            (report-stays blank.faults half.faults (Ran finish) sound (rw (stopped-report finish) at cause)) closes.puts;
+      },
+    )
+machine-closed c start last before after blank half full finish (Err failed) runs cause (cut, same) = (
+  record {
+    last = last;
+    breaks = broken c start last before after blank.written full.written finish cut
+        (subst (λ (told : Option (List ℕ)). RunsTo c start last before after blank.written told finish)
+        (sym (ap (λ (r : Report). r.written) same)) runs);
+  },
+  subst (λ (r : Report). Rose blank.faults r.faults) (sym same)
+      (report-rose blank.faults half.faults (Ran finish) cut (rw (stopped-report finish) at cause)),
+)
+
+-- a count rose just where the answer says so
+pub machine-input : (limit : ℕ) (finish : Answer) (last : Hart) (half full : Report) (result : Result Reported Failed)
+    (before now : ℕ) → ClosesMachine limit finish last half full result →
+    HasCause before now (input_stopped (Some finish)) → Tells input_answered before now result
+machine-input limit finish last half full result before now closes h =
+    closed-tells input_answered (is_report_fault (Ran finish)) (status_of_run limit finish) _
+    (machine_closing limit finish last.retired last.regs) half full result before now
+    (λ sound. input-said limit 0 (Ran finish)) closes (policy-input before now finish h)
+
+pub machine-output : (limit : ℕ) (finish : Answer) (last : Hart) (half full : Report) (result : Result Reported Failed)
+    (before now : ℕ) → ClosesMachine limit finish last half full result →
+    HasCause before now (output_stopped (Some finish)) → Tells output_answered before now result
+machine-output limit finish last half full result before now closes h =
+    closed-tells output_answered (is_report_fault (Ran finish)) (status_of_run limit finish) _
+    (machine_closing limit finish last.retired last.regs) half full result before now
+    (λ sound. output-said limit 0 (Ran finish) sound) closes (policy-output before now finish h)
+
+pub machine-files : (limit : ℕ) (finish : Answer) (last : Hart) (half full : Report) (result : Result Reported Failed) →
+    ClosesMachine limit finish last half full result → files_reported result ≡ Ok tt
+machine-files limit finish last half full result closes =
+    closed-files (is_report_fault (Ran finish)) limit 0 (Ran finish) (machine_closing limit finish last.retired last.regs)
+    half full result closes
+
+-- what comes of a program that was run is what `machine` comes to
+pub program-comes : (chosen : Chosen) (before after : Outside) (name : List ℕ) (hart : Hart)
+    (blank full : Report) (result : Result Reported Failed) →
     IsProgramAt name before.files after.files hart →
-    Decides (RunsHart chosen hart before.streams after.streams)
-    (BreaksHart chosen hart before.streams after.streams blank full) blank full result →
-    Decides (AnswersMachine name chosen before after)
-    (BreaksProgram name chosen before after blank full) blank full result
-decides-program chosen before after name hart blank full (Ok answer) program (lines, put, runs) =
-    (lines, put, inl (record { start = hart; program = program; runs = runs }))
-decides-program chosen before after name hart blank full (Err failed) program breaks =
-    record { start = hart; program = program; breaks = breaks }
+    Comes (RunsHart chosen hart before.streams after.streams)
+    (BreaksHart chosen hart before.streams after.streams blank.written full.written) blank full result →
+    Comes (AnswersMachine name chosen before after)
+    (BreaksProgram name chosen before after blank.written full.written) blank full result
+program-comes chosen before after name hart blank full (Ok reported) program (shown, closing, runs, puts) =
+    (shown, closing, inl (record { start = hart; program = program; runs = runs }), puts)
+program-comes chosen before after name hart blank full (Err failed) program (breaks, rose) =
+    (record { start = hart; program = program; breaks = breaks }, rose)
+
+-- or there was none
+pub program-refused : (chosen : Chosen) (before after : Outside) (name : List ℕ) (blank full : Report) (answer : Status)
+    (text : List ℕ) (reported : Reported) → reported.status ≡ answer → RefusesMachine name before after answer text →
+    Puts blank full text reported.put → Carries (AnswersMachine name chosen before after) blank full reported
+program-refused chosen before after name blank full answer text reported same refused puts = (
+  [],
+  text,
+  inr (subst (λ (s : Status). RefusesMachine name before after s text) (sym same) refused),
+  shows-none blank full text reported.put puts,
+)

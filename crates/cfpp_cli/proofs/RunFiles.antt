@@ -1,82 +1,84 @@
 -- What comes of the files of a run.
-use Rattle.std.proofs.Common.{◌≡◌, ℕ, List, Option, Ok, Result, Err, IfOk, inl, arith}
+use Rattle.std.proofs.Common.{◌≡◌, ℕ, List, [], Option, Ok, Result, Err, IfOk, sym, subst, inl, inr, arith}
 use Rattle.cf_io.specs.declared.failed.Failed.{Failed}
 use Rattle.rv_machine.specs.Hart.{Hart}
 use Rattle.rv_machine.specs.Streams.{Streams}
 use Rattle.cf_core.specs.Processors.{opened}
 use Rattle.cf_layout.specs.Layout.{Plan}
 use Rattle.cf_layout.specs.Plain.{plain}
-use Rattle.cf_run.specs.declared.show.Show.TheVariants.{Report}
+use Rattle.cf_run.specs.declared.show.Show.TheVariants.{Report as Closing}
 use Rattle.cf_words.specs.Options.{default_limit}
-use Rattle.cli_files.specs.Deciding.{Counts, Decides}
+use Rattle.cli_files.specs.Deciding.{Counts}
 use Rattle.cli_files.proofs.NoStreams.{no-cause}
-use Rattle.cfpp_cli.specs.Drawn.{StartsDrawn, AnswersDrawn, BreaksDrawn}
-use Rattle.cli_files.specs.Outside.{Outside}
-use Rattle.cfpp_cli.specs.Run.{chosen_by, ComesOf, BreaksCore, AnswersRun, BreaksRun}
-use Rattle.cli_files.specs.RunFiles.{RunAsked, IsReady, ReadsFiles, AnswersFiles}
+use Rattle.cli_files.specs.Outside.{Outside, Report}
+use Rattle.cli_files.specs.RunFiles.{RunAsked, IsReady, RefusesRun}
 use Rattle.cli_files.specs.Schedules.{ReadySchedule, drawn_from}
-use Rattle.cfpp_cli.specs.Standing.{ShowsOf, BreaksShowing, AnswersMoves, BreaksMoves}
 use Rattle.cli_files.specs.declared.answer.Answer.{Answer}
 use Rattle.cli_files.specs.declared.status.Status.{Status}
+use Rattle.cfpp_cli.specs.Drawn.{StartsDrawn, RefusesDrawn, AnswersDrawn, BreaksDrawn}
+use Rattle.cfpp_cli.specs.Reporting.{Puts, Carries, Comes}
+use Rattle.cfpp_cli.specs.Run.{chosen_by, ComesOf, BreaksCore, AnswersRun, BreaksRun}
+use Rattle.cfpp_cli.specs.declared.reporting.Reported.{Reported}
+use Rattle.cfpp_cli.specs.declared.tail.Tail.{Tail}
+use Rattle.cfpp_cli.specs.declared.tail.Tail.TheVariants.{Nothing}
+use Rattle.cfpp_cli.proofs.PutReports.{shows-none}
 
--- what is decided of the files is what the command decides that reads them
-decides-files : (Comes : Plan → Hart → ReadySchedule → Status → List ℕ → Type 0) (Breaks : Plan → Hart → ReadySchedule → Type 0)
-    (asked : RunAsked) (before after : Outside) (plan : Plan) (hart : Hart) (schedule : ReadySchedule)
-    (blank full : Option (List ℕ)) (result : Result Answer Failed) →
+-- what comes of the files is what the command comes to that reads them
+pub run-comes : (tail : Tail) (asked : RunAsked) (before after : Outside) (plan : Plan) (hart : Hart)
+    (schedule : ReadySchedule) (blank full : Report) (result : Result Reported Failed) →
     IsReady asked before.files after.files plan hart schedule →
-    Decides (Comes plan hart schedule) (Breaks plan hart schedule) blank full result →
-    Decides (λ answer report. AnswersFiles (λ p h s. Comes p h s answer report) asked before after answer report)
-    (ReadsFiles Breaks asked before after) blank full result
-decides-files Comes Breaks asked before after plan hart schedule blank full (Ok answer) ready (lines, put, comes) =
-    (lines, put, inl (record { plan = plan; hart = hart; schedule = schedule; ready = ready; comes = comes }))
-decides-files Comes Breaks asked before after plan hart schedule blank full (Err failed) ready breaks =
-    record { plan = plan; hart = hart; schedule = schedule; ready = ready; comes = breaks }
-
--- of `run`
-pub decides-run : (asked : RunAsked) (before after : Outside) (plan : Plan) (hart : Hart)
-    (schedule : ReadySchedule) (blank full : Option (List ℕ)) (result : Result Answer Failed) →
-    IsReady asked before.files after.files plan hart schedule →
-    Decides (ComesOf asked.limit asked.show plan hart schedule before.streams after.streams blank)
-    (BreaksCore asked.limit asked.show (opened plan hart) (chosen_by asked.limit asked.show schedule) before.streams after.streams blank full)
+    Comes (ComesOf asked.limit asked.show tail plan hart schedule before.streams after.streams blank.written)
+    (BreaksCore asked.limit asked.show (opened plan hart) (chosen_by asked.limit asked.show schedule) before.streams after.streams blank.written full.written)
     blank full result →
-    Decides (AnswersRun asked before after blank) (BreaksRun asked before after blank full) blank full result
-decides-run asked before after plan hart schedule blank full result ready decides =
-    decides-files (λ p h s answer report. ComesOf asked.limit asked.show p h s before.streams after.streams blank answer report)
-    (λ p h s. BreaksCore asked.limit asked.show (opened p h) (chosen_by asked.limit asked.show s) before.streams after.streams blank full)
-    asked before after plan hart schedule blank full result ready decides
+    Comes (AnswersRun tail asked before after blank.written) (BreaksRun asked before after blank.written full.written) blank full result
+run-comes tail asked before after plan hart schedule blank full (Ok reported) ready (shown, closing, comes, puts) =
+    (shown, closing, inl (record { plan = plan; hart = hart; schedule = schedule; ready = ready; comes = comes }), puts)
+run-comes tail asked before after plan hart schedule blank full (Err failed) ready (breaks, rose) =
+    (record { plan = plan; hart = hart; schedule = schedule; ready = ready; comes = breaks }, rose)
 
--- of `moves`
-pub decides-moves : (asked : RunAsked) (before after : Outside) (plan : Plan) (hart : Hart)
-    (schedule : ReadySchedule) (blank full : Option (List ℕ)) (result : Result Answer Failed) →
-    IsReady asked before.files after.files plan hart schedule →
-    Decides (ShowsOf asked.limit asked.show plan hart schedule before.streams after.streams blank)
-    (BreaksShowing asked.limit asked.show plan hart schedule before.streams after.streams blank full)
-    blank full result →
-    Decides (AnswersMoves asked before after blank) (BreaksMoves asked before after blank full) blank full result
-decides-moves asked before after plan hart schedule blank full result ready decides =
-    decides-files (λ p h s answer report. ShowsOf asked.limit asked.show p h s before.streams after.streams blank answer report)
-    (λ p h s. BreaksShowing asked.limit asked.show p h s before.streams after.streams blank full)
-    asked before after plan hart schedule blank full result ready decides
+-- or one of them is not there
+pub run-refused : (tail : Tail) (asked : RunAsked) (before after : Outside) (told : Option (List ℕ)) (blank full : Report)
+    (answer : Status) (text : List ℕ) (reported : Reported) → reported.status ≡ answer →
+    RefusesRun asked before after answer text → Puts blank full text reported.put →
+    Carries (AnswersRun tail asked before after told) blank full reported
+run-refused tail asked before after told blank full answer text reported same refused puts = (
+  [],
+  text,
+  inr (subst (λ (s : Status). RefusesRun asked before after s text) (sym same) refused),
+  shows-none blank full text reported.put puts,
+)
 
 -- and of `gen` with `--run`, which reads none
-pub decides-drawn : (number : ℕ) (plan : Plan) (hart : Hart) (before after : Streams) (blank full : Option (List ℕ))
-    (result : Result Answer Failed) → plan ≡ plain → StartsDrawn number hart →
-    Decides (ComesOf default_limit Report plan hart (drawn_from number) before after blank)
-    (BreaksCore default_limit Report (opened plan hart) (chosen_by default_limit Report (drawn_from number)) before after blank full)
+pub drawn-comes : (number : ℕ) (plan : Plan) (hart : Hart) (before after : Streams) (blank full : Report)
+    (result : Result Reported Failed) → plan ≡ plain → StartsDrawn number hart →
+    Comes (ComesOf default_limit Closing Nothing plan hart (drawn_from number) before after blank.written)
+    (BreaksCore default_limit Closing (opened plan hart) (chosen_by default_limit Closing (drawn_from number)) before after blank.written full.written)
     blank full result →
-    Decides (AnswersDrawn number before after blank) (BreaksDrawn number before after blank full) blank full result
-decides-drawn number plan hart before after blank full (Ok answer) same starts (lines, put, comes) =
-    (lines, put, inl (record { hart = hart; starts = starts; comes = rw same at comes }))
-decides-drawn number plan hart before after blank full (Err failed) same starts breaks =
-    record { hart = hart; starts = starts; breaks = rw same at breaks }
+    Comes (AnswersDrawn number before after blank.written) (BreaksDrawn number before after blank.written full.written) blank full result
+drawn-comes number plan hart before after blank full (Ok reported) same starts (shown, closing, comes, puts) =
+    (shown, closing, inl (record { hart = hart; starts = starts; comes = rw same at comes }), puts)
+drawn-comes number plan hart before after blank full (Err failed) same starts (breaks, rose) =
+    (record { hart = hart; starts = starts; breaks = rw same at breaks }, rose)
+
+-- or its text was no program
+pub drawn-refused : (number : ℕ) (before after : Streams) (told : Option (List ℕ)) (blank full : Report)
+    (answer : Status) (text : List ℕ) (reported : Reported) → reported.status ≡ answer →
+    RefusesDrawn number before after answer text → Puts blank full text reported.put →
+    Carries (AnswersDrawn number before after told) blank full reported
+drawn-refused number before after told blank full answer text reported same refused puts = (
+  [],
+  text,
+  inr (subst (λ (s : Status). RefusesDrawn number before after s text) (sym same) refused),
+  shows-none blank full text reported.put puts,
+)
 
 -- beside which something else holds
-pub decides-beside : (Answers : Status → List ℕ → Type 0) (Breaks Beside : Type 0) (blank full : Option (List ℕ))
-    (result : Result Answer Failed) → Beside → Decides Answers Breaks blank full result →
-    Decides (λ answer report. Answers answer report × Beside) (Breaks × Beside) blank full result
-decides-beside Answers Breaks Beside blank full (Ok answer) beside (lines, put, answers) =
-    (lines, put, (answers, beside))
-decides-beside Answers Breaks Beside blank full (Err failed) beside breaks = (breaks, beside)
+pub comes-beside : (Answers : Status → List ℕ → List ℕ → Type 0) (Breaks Beside : Type 0) (blank full : Report)
+    (result : Result Reported Failed) → Beside → Comes Answers Breaks blank full result →
+    Comes (λ answer shown closing. Answers answer shown closing × Beside) (Breaks × Beside) blank full result
+comes-beside Answers Breaks Beside blank full (Ok reported) beside (shown, closing, answers, puts) =
+    (shown, closing, (answers, beside), puts)
+comes-beside Answers Breaks Beside blank full (Err failed) beside (breaks, rose) = ((breaks, beside), rose)
 
 -- a count stays where the command has nothing to do with what it counts, and no answer says otherwise
 pub untouched : (answered : Status → Result (Unit {0}) (Unit {0})) (count : ℕ) (result : Result Answer Failed) →

@@ -1,7 +1,6 @@
 -- What a step adds to a run: one more instruction, or its end.
-use Rattle.std.proofs.Common.{◌≡◌, ℕ, zero, suc, ◌+◌, ◌<◌, List, [], ◌++◌, Bool, true, false, Option, Some, None, Result, Err, refl, ap, sym, ◌∙◌, subst, add-one}
+use Rattle.std.proofs.Common.{◌≡◌, ℕ, zero, suc, ◌+◌, ◌<◌, List, [], ◌++◌, Bool, true, false, Option, Some, None, refl, ap, sym, ◌∙◌, subst, add-one}
 use Rattle.std.specs.Prelude.{unwrap_or}
-use Rattle.cf_io.specs.declared.failed.Failed.{Failed}
 use Rattle.cf_io.specs.Puts.{Writes, WritesFront}
 use Rattle.rv_inst.specs.declared.isa.Isa.{Isa}
 use Rattle.rv_machine.specs.declared.outcome.Retired.{Retired}
@@ -15,11 +14,13 @@ use Rattle.rv_machine.specs.After.{after}
 use Rattle.rv_machine.specs.Acts.{Acts, Stops, Steps}
 use Rattle.rv_machine.proofs.Told.{rest-told, stays, leaves-again}
 use Rattle.cfpp_cli.specs.Options.{Chosen, shown}
-use Rattle.cfpp_cli.specs.Lines.{line_text, lines_of, LeadsBy, ReachesBy}
-use Rattle.cfpp_cli.specs.Finish.{opening, Finishes, Closes, Runs, BreaksOff, Ran}
-use Rattle.cfpp_cli.specs.declared.running.Finish.{Finish}
-use Rattle.cfpp_cli.specs.declared.running.Finish.TheVariants as finish
-use Rattle.cfpp_cli.proofs.Reports.{writes-nothing, writes-again, shown-again}
+use Rattle.cf_report.specs.Lines.{retired_line}
+use Rattle.cf_run.specs.declared.answer.Ran.{Ran}
+use Rattle.cf_run.specs.declared.answer.Ran.TheVariants as ran
+use Rattle.cf_report.proofs.Puttings.{writes-nothing, writes-again}
+use Rattle.cfpp_cli.specs.Lines.{lines_of, LeadsBy, ReachesBy}
+use Rattle.cfpp_cli.specs.Finish.{opening, Finishes, Closes, Runs, BreaksOff}
+use Rattle.cfpp_cli.proofs.Reports.{shown-again}
 
 -- what a run has told so far: the streams before it and now, and the report before it and now
 pub record Told : Type 0 where
@@ -130,13 +131,13 @@ step-is isa m now rest o h r e =
 reaches-next : (isa : Isa) (left : Option (List ℕ)) (start m next : Machine) (n : ℕ)
     (line : Retired) (lines : List ℕ) → ReachesBy isa left start n m lines →
     step isa m ≡ Next next line →
-    ReachesBy isa left start (n + 1) next (lines ++ line_text next.hart.retired line)
+    ReachesBy isa left start (n + 1) next (lines ++ retired_line next.hart.retired line)
 unfolding after LeadsBy lines_of
 reaches-next isa None start m next n line lines h e =
     rw add-one (m, lines, line, next, h, e, record { hart = refl; output = refl }, refl)
 reaches-next isa (Some told) start m next n line lines h e = (
   rw (add-one, h.0, e) refl,
-  rw (add-one, h.0, e) (ap (λ (z : List ℕ). z ++ line_text next.hart.retired line) h.1),
+  rw (add-one, h.0, e) (ap (λ (z : List ℕ). z ++ retired_line next.hart.retired line) h.1),
 )
 
 -- what a step adds that retires an instruction
@@ -172,31 +173,31 @@ adds c start now new t later n line run steps =
 
 -- the line that is put is that of the step
 line-is : (count : ℕ) (new : Hart) (next : Machine) (line : Retired) → count ≡ new.retired →
-    new ≡ next.hart → line_text count line ≡ line_text next.hart.retired line
+    new ≡ next.hart → retired_line count line ≡ retired_line next.hart.retired line
 line-is count new next line e h =
-    ap (λ (k : ℕ). line_text k line) (e ∙ ap (λ (x : Hart). x.retired) h)
+    ap (λ (k : ℕ). retired_line k line) (e ∙ ap (λ (x : Hart). x.retired) h)
 
 -- a step goes on
 pub reached-next : (c : Chosen) (start now new : Hart) (before between after : Streams)
     (blank half full : Option (List ℕ)) (n count : ℕ) (line : Retired) →
     Reached c start now (told_of before between blank half) n →
     Steps c.isa now new between after (stepped.Next line) → count ≡ new.retired →
-    Writes half full (shown c.shows (line_text count line)) →
+    Writes half full (shown c.shows (retired_line count line)) →
     Reached c start new (told_of before after blank full) (n + 1)
 reached-next c start now new before between after blank half full n count line run steps e put =
     let a : Adds c start now new (told_of before between blank half) after n line =
     adds c start now new (told_of before between blank half) after n line run steps in
-    let text : line_text count line ≡ line_text a.next.hart.retired line =
+    let text : retired_line count line ≡ retired_line a.next.hart.retired line =
     line-is count new a.next line e a.hart in
     let P : List ℕ → Type 0 = λ z. Writes half full (shown c.shows z) in
     let Q : List ℕ → Type 0 = λ z. Writes blank full z in
     record {
       last = a.next;
-      lines = a.lines ++ line_text a.next.hart.retired line;
+      lines = a.lines ++ retired_line a.next.hart.retired line;
       reaches = reaches-next c.isa before.input _ a.last a.next n line a.lines a.reaches a.is;
       hart = a.hart;
       streams = a.streams;
-      report = subst Q (shown-again c.shows a.lines (line_text a.next.hart.retired line))
+      report = subst Q (shown-again c.shows a.lines (retired_line a.next.hart.retired line))
           (writes-again blank half full _ _ a.report (subst P text put));
     }
 
@@ -211,13 +212,13 @@ pub breaks-off : (c : Chosen) (start now new : Hart) (before between after : Str
     (blank half full : Option (List ℕ)) (n count : ℕ) (line : Retired) → n < c.limit →
     Reached c start now (told_of before between blank half) n →
     Steps c.isa now new between after (stepped.Next line) → count ≡ new.retired →
-    c.shows ≡ true → WritesFront half full (line_text count line) →
+    c.shows ≡ true → WritesFront half full (retired_line count line) →
     BreaksOff c start new before after blank full
 breaks-off c start now new before between after blank half full n count line below run steps e shows front =
     let a : Adds c start now new (told_of before between blank half) after n line =
     adds c start now new (told_of before between blank half) after n line run steps in
     let P : List ℕ → Type 0 = λ z. WritesFront half full z in
-    let part : WritesFront half full (line_text a.next.hart.retired line) =
+    let part : WritesFront half full (retired_line a.next.hart.retired line) =
     subst P (line-is count new a.next line e a.hart) front in
     record {
       shows = shows;
@@ -237,22 +238,14 @@ breaks-off c start now new before between after blank half full n count line bel
           part.2;
     }
 
--- the answer is then an error
-pub ran-failed : (c : Chosen) (start new : Hart) (before after : Streams)
-    (blank full : Option (List ℕ)) {failed : Failed} (result : Result Finish Failed) →
-    result ≡ Err failed → BreaksOff c start new before after blank full →
-    Ran c start new before after blank full result
-ran-failed c start new before after blank full result e h =
-    subst (Ran c start new before after blank full) (sym e) h
-
 -- a run that has ended, and its lines were written
-abbrev pub Ended : Chosen → Hart → Hart → Told → Finish → Type 0
+abbrev pub Ended : Chosen → Hart → Hart → Told → Ran → Type 0
 Ended c start new t end =
     (text : List ℕ) × Runs c start new t.before t.after end text × Writes t.blank t.full text
 
 -- a step that leaves all as it was ends the run, as its outcome says
 ends : (c : Chosen) (start now new : Hart) (before between after : Streams)
-    (blank full : Option (List ℕ)) (n : ℕ) (o : Outcome Machine) (end : Finish) →
+    (blank full : Option (List ℕ)) (n : ℕ) (o : Outcome Machine) (end : Ran) →
     Reached c start now (told_of before between blank full) n →
     now.retired ≡ start.retired + n → Stops (step_on c.isa now) o now new between after →
     ((m : Machine) (lines : List ℕ) →
@@ -285,10 +278,10 @@ pub runs-exit : (c : Chosen) (start now new : Hart) (before between after : Stre
     (blank full : Option (List ℕ)) (n status : ℕ) →
     Reached c start now (told_of before between blank full) n → n < c.limit →
     now.retired ≡ start.retired + n → Steps c.isa now new between after (stepped.Exit status) →
-    Ended c start new (told_of before after blank full) (finish.Exit status)
+    Ended c start new (told_of before after blank full) (ran.Exit status)
 unfolding Acts
 runs-exit c start now new before between after blank full n status run below count steps =
-    ends c start now new before between after blank full n (Exit status) (finish.Exit status)
+    ends c start now new before between after blank full n (Exit status) (ran.Exit status)
     run count steps (λ m lines reaches is. (below, reaches, is)) (λ last same. (same, steps.streams))
 
 -- the instruction traps
@@ -297,16 +290,16 @@ pub runs-trap : (c : Chosen) (start now new : Hart) (before between after : Stre
     Reached c start now (told_of before between blank full) n → n < c.limit →
     now.retired ≡ start.retired + n →
     Steps c.isa now new between after (stepped.Trap cause pc detail) →
-    Ended c start new (told_of before after blank full) (finish.Trap cause pc detail)
+    Ended c start new (told_of before after blank full) (ran.Trap cause pc detail)
 unfolding Acts
 runs-trap c start now new before between after blank full n cause pc detail run below count steps =
     ends c start now new before between after blank full n (Trap cause pc detail)
-    (finish.Trap cause pc detail) run count steps (λ m lines reaches is. (below, reaches, is))
+    (ran.Trap cause pc detail) run count steps (λ m lines reaches is. (below, reaches, is))
     (λ last same. (same, steps.streams))
 
 -- a stream fails the instruction
 fails : (c : Chosen) (start now new : Hart) (before between after : Streams)
-    (blank full : Option (List ℕ)) (n : ℕ) (end : Finish) →
+    (blank full : Option (List ℕ)) (n : ℕ) (end : Ran) →
     Reached c start now (told_of before between blank full) n →
     now.retired ≡ start.retired + n → new.retired ≡ now.retired →
     ((m : Machine) (lines : List ℕ) →
@@ -336,10 +329,10 @@ pub runs-read-fault : (c : Chosen) (start now new : Hart) (before between after 
     (blank full : Option (List ℕ)) (n : ℕ) →
     Reached c start now (told_of before between blank full) n → n < c.limit →
     now.retired ≡ start.retired + n → Steps c.isa now new between after stepped.ReadFault →
-    Ended c start new (told_of before after blank full) finish.ReadFault
+    Ended c start new (told_of before after blank full) ran.ReadFault
 unfolding Acts
 runs-read-fault c start now new before between after blank full n run below count steps =
-    fails c start now new before between after blank full n finish.ReadFault run count
+    fails c start now new before between after blank full n ran.ReadFault run count
     (ap (λ (h : Hart). h.retired) steps.2) (λ m lines reaches. (below, reaches)) steps
 
 -- the output fails it
@@ -347,10 +340,10 @@ pub runs-write-fault : (c : Chosen) (start now new : Hart) (before between after
     (blank full : Option (List ℕ)) (n : ℕ) →
     Reached c start now (told_of before between blank full) n → n < c.limit →
     now.retired ≡ start.retired + n → Steps c.isa now new between after stepped.WriteFault →
-    Ended c start new (told_of before after blank full) finish.WriteFault
+    Ended c start new (told_of before after blank full) ran.WriteFault
 unfolding Acts
 runs-write-fault c start now new before between after blank full n run below count steps =
-    fails c start now new before between after blank full n finish.WriteFault run count
+    fails c start now new before between after blank full n ran.WriteFault run count
     (ap (λ (h : Hart). h.retired) steps.2) (λ m lines reaches. (below, reaches)) steps
 
 -- the limit is reached
@@ -358,7 +351,7 @@ pub runs-limit : (c : Chosen) (start now : Hart) (before after : Streams)
     (blank full : Option (List ℕ)) (n : ℕ) →
     Reached c start now (told_of before after blank full) n → n ≡ c.limit →
     now.retired ≡ start.retired + n →
-    Ended c start now (told_of before after blank full) finish.Limit
+    Ended c start now (told_of before after blank full) ran.Limit
 runs-limit c start now before after blank full n run e count = (
   shown c.shows run.lines,
   record {

@@ -1,18 +1,17 @@
--- What was decided and the put of the closing lines are what the top call does.
-use Rattle.std.proofs.Common.{◌≡◌, ◌≤◌, ℕ, List, ◌++◌, false, Option, Result, Ok, Err, refl, ◌∙◌, inl, inr, arith}
-use Rattle.cf_io.specs.Causes.{Rose, HasCause}
-use Rattle.cf_io.specs.Puts.{Writes, WritesFront}
+-- What the words came to is what the top call does.
+use Rattle.std.proofs.Common.{◌≡◌, ◌≤◌, ℕ, List, false, Result, Ok, Err, refl, inl, inr}
+use Rattle.cf_io.specs.Causes.{HasCause}
 use Rattle.cf_io.specs.declared.failed.Failed.{Failed}
 use Rattle.cf_words.specs.Words.{Asked}
 use Rattle.cli_files.specs.Causes.{files_answered, input_answered, output_answered}
 use Rattle.cfpp_cli.specs.Deciding.{Decided}
-use Rattle.cli_files.specs.Outside.{Outside, Report, report_of}
+use Rattle.cli_files.specs.Outside.{Outside, Report}
+use Rattle.cfpp_cli.specs.Reporting.{Puts}
 use Rattle.cfpp_cli.specs.Top.{Completes, IsTop, NoneRose, Reports, says_fault}
-use Rattle.cli_files.specs.declared.answer.Answer.{Answer}
+use Rattle.cfpp_cli.specs.declared.reporting.Reported.{Reported}
+use Rattle.cfpp_cli.proofs.FilesRead.{answers-read, breaks-read}
 use Rattle.cli_files.specs.declared.status.Status.{Status}
 use Rattle.cli_files.specs.declared.status.Status.TheVariants as status
-use Rattle.cfpp_cli.proofs.FilesRead.{answers-read, breaks-read}
-use Rattle.cfpp_cli.proofs.Reports.{writes-again, front-again}
 
 -- counts of faults rose just where the status says so
 pub record HasCauses (before after : Outside) (answer : Status) : Type 0 where
@@ -20,74 +19,74 @@ pub record HasCauses (before after : Outside) (answer : Status) : Type 0 where
   pub input : HasCause before.input_faults after.input_faults (input_answered answer)
   pub output : HasCause before.output_faults after.output_faults (output_answered answer)
 
--- a count that had not risen and then rose
-rose-again : (before between now : ℕ) → between ≡ before → Rose between now → Rose before now
-rose-again before between now h k = grind arith
+-- the command was carried out, and its report was put
+pub top-put : (words : List (List ℕ)) (before after : Outside) (blank full : Report) (reported : Reported) →
+    Decided words before after blank full (Ok reported) → HasCauses before after reported.status → reported.put ≡ Ok tt →
+    IsTop words before after blank full reported.status
+top-put words before after blank full reported d causes put =
+    let carried = d.comes in
+    let closes : Puts (record blank { written = carried.3.told }) full carried.1 (Ok tt) = rw put at carried.3.closes in
+    record {
+      reading = d.reading;
+      reads = d.reads;
+      read = answers-read d.reading before after blank.written reported.status carried.0 carried.1 carried.2;
+      ends = inl (record {
+        answer = reported.status;
+        shown = carried.0;
+        closing = carried.1;
+        answers = carried.2;
+        files = causes.files;
+        input = causes.input;
+        output = causes.output;
+        reports = record {
+          told = carried.3.told;
+          shows = carried.3.shows;
+          closes = inl (refl, closes.all, closes.cause.still);
+        };
+      });
+    }
 
--- the closing lines were put
-pub top-put : (words : List (List ℕ)) (before after : Outside) (blank half full : Option (List ℕ))
-    (clear between faults : ℕ) (answer : Answer) → Decided words before after blank half (Ok answer) →
-    HasCauses before after answer.status → Writes half full answer.closing →
-    between ≡ clear → faults ≡ between →
-    IsTop words before after (report_of blank clear) (report_of full faults) answer.status
-top-put words before after blank half full clear between faults answer d causes put sooner later = record {
-  reading = d.reading;
-  reads = d.reads;
-  read = answers-read d.reading before after blank answer.status (d.decides.0 ++ answer.closing) d.decides.2;
-  ends = inl (record {
-    answer = answer.status;
-    text = d.decides.0 ++ answer.closing;
-    answers = d.decides.2;
-    files = causes.files;
-    input = causes.input;
-    output = causes.output;
-    reports = inl (
-      refl,
-      writes-again blank half full d.decides.0 answer.closing d.decides.1 put,
-      later ∙ sooner,
-    );
-  });
-}
-
--- the report failed at them
-pub top-failed : (words : List (List ℕ)) (before after : Outside)
-    (blank half full : Option (List ℕ)) (clear between faults : ℕ) (answer : Answer) →
-    Decided words before after blank half (Ok answer) → HasCauses before after answer.status →
-    WritesFront half full answer.closing → between ≡ clear → Rose between faults →
-    IsTop words before after (report_of blank clear) (report_of full faults) status.WriteFault
-top-failed words before after blank half full clear between faults answer d causes put sooner rose = record {
-  reading = d.reading;
-  reads = d.reads;
-  read = answers-read d.reading before after blank answer.status (d.decides.0 ++ answer.closing) d.decides.2;
-  ends = inl (record {
-    answer = answer.status;
-    text = d.decides.0 ++ answer.closing;
-    answers = d.decides.2;
-    files = causes.files;
-    input = causes.input;
-    output = causes.output;
-    reports = inr (
-      refl,
-      front-again blank half full d.decides.0 answer.closing d.decides.1 put,
-      rose-again clear between faults sooner rose,
-    );
-  });
-}
+-- it failed at the lines that close it
+pub top-failed : {failed : Failed} (words : List (List ℕ)) (before after : Outside) (blank full : Report)
+    (reported : Reported) → Decided words before after blank full (Ok reported) →
+    HasCauses before after reported.status → reported.put ≡ Err failed →
+    IsTop words before after blank full status.WriteFault
+top-failed {failed = failed} words before after blank full reported d causes put =
+    let carried = d.comes in
+    let closes : Puts (record blank { written = carried.3.told }) full carried.1 (Err failed) = rw put at carried.3.closes in
+    record {
+      reading = d.reading;
+      reads = d.reads;
+      read = answers-read d.reading before after blank.written reported.status carried.0 carried.1 carried.2;
+      ends = inl (record {
+        answer = reported.status;
+        shown = carried.0;
+        closing = carried.1;
+        answers = carried.2;
+        files = causes.files;
+        input = causes.input;
+        output = causes.output;
+        reports = record {
+          told = carried.3.told;
+          shows = carried.3.shows;
+          closes = inr (refl, closes.front, closes.cause.rose);
+        };
+      });
+    }
 
 -- it failed before
-pub top-cut : (words : List (List ℕ)) (before after : Outside) (blank full : Option (List ℕ))
-    (clear faults : ℕ) {failed : Failed} → Decided words before after blank full (Err failed) →
-    after.file_faults ≡ before.file_faults → before.input_faults ≤ after.input_faults →
-    before.output_faults ≤ after.output_faults → Rose clear faults →
-    IsTop words before after (report_of blank clear) (report_of full faults) status.WriteFault
-top-cut words before after blank full clear faults d files input output rose = record {
+pub top-cut : {failed : Failed} (words : List (List ℕ)) (before after : Outside) (blank full : Report) →
+    Decided words before after blank full (Err failed) → after.file_faults ≡ before.file_faults →
+    before.input_faults ≤ after.input_faults → before.output_faults ≤ after.output_faults →
+    IsTop words before after blank full status.WriteFault
+top-cut words before after blank full d files input output = record {
   reading = d.reading;
   reads = d.reads;
-  read = breaks-read d.reading before after blank full d.decides;
+  read = breaks-read d.reading before after blank.written full.written d.comes.0;
   ends = inr (record {
     status_is = refl;
-    breaks = d.decides;
-    rose = rose;
+    breaks = d.comes.0;
+    rose = d.comes.1;
     files = files;
     input = input;
     output = output;
@@ -146,18 +145,18 @@ write-says : (result : Status) → result ≡ status.WriteFault → says_fault r
 write-says result is h = cc (is, h)
 
 ended-rose : (before after : Outside) (blank full : Report) (result answer : Status)
-    (text : List ℕ) → HasCauses before after answer → Reports blank full text answer result →
+    (shown closing : List ℕ) → HasCauses before after answer → Reports blank full shown closing answer result →
     says_fault result ≡ false → NoneRose before after blank full
-ended-rose before after blank full result answer text causes (inl (same, put, faults)) h =
-    completed-rose before after blank full answer causes (rw same at h) faults
-ended-rose before after blank full result answer text causes (inr (is, front, rose)) h =
-    absurd (write-says result is h)
+ended-rose before after blank full result answer shown closing causes reports h = elim reports.closes [
+  | inl (same, put, faults) ↦ completed-rose before after blank full answer causes (rw same at h) faults
+  | inr (is, front, rose) ↦ absurd (write-says result is h)
+]
 
 pub none-rose : (words : List (List ℕ)) (before after : Outside) (blank full : Report) (result : Status) →
     IsTop words before after blank full result → says_fault result ≡ false →
     NoneRose before after blank full
 none-rose words before after blank full result top h = elim top.ends [
-  | inl c ↦ ended-rose before after blank full result c.answer c.text
+  | inl c ↦ ended-rose before after blank full result c.answer c.shown c.closing
       (causes-of top.reading before after blank full result c) c.reports h
   | inr cut ↦ absurd (write-says result cut.status_is h)
 ]

@@ -1,5 +1,5 @@
 -- What the command `gen` with `--run` answers, and what it leaves of the streams.
-use Rattle.std.specs.Prelude.{◌≡◌, ◌⊎◌, ℕ, List, Option}
+use Rattle.std.specs.Prelude.{◌≡◌, ◌⊎◌, ℕ, List, ◌++◌, Option}
 use Rattle.rv_machine.specs.Hart.{Hart}
 use Rattle.rv_machine.specs.Streams.{Streams}
 use Rattle.cf_core.specs.Processors.{opened as opened_on}
@@ -13,6 +13,7 @@ use Rattle.cfpp_cli.specs.Run.{chosen_by, BreaksCore, ComesOf}
 use Rattle.cli_files.specs.Schedules.{drawn_from}
 use Rattle.cfpp_cli.specs.Sources.{IsAssembly, IsUnassembled}
 use Rattle.cli_files.specs.declared.status.Status.{Status}
+use Rattle.cfpp_cli.specs.declared.tail.Tail.TheVariants.{Nothing}
 
 -- the hart on which the program begins, whose text is assembled to a file
 pub record StartsDrawn (number : ℕ) (hart : Hart) : Type 0 where
@@ -29,10 +30,10 @@ IsUndrawn number answer report =
 
 -- the program was run on the built-in layout, by moves that are drawn from its number
 pub record RunsDrawn (number : ℕ) (before after : Streams) (blank : Option (List ℕ)) (answer : Status)
-    (report : List ℕ) : Type 0 where
+    (shown closing : List ℕ) : Type 0 where
   pub hart : Hart
   pub starts : StartsDrawn number hart
-  pub comes : ComesOf default_limit Report plain hart (drawn_from number) before after blank answer report
+  pub comes : ComesOf default_limit Report Nothing plain hart (drawn_from number) before after blank answer shown closing
 
 -- it was not, and the streams were left alone
 pub record RefusesDrawn (number : ℕ) (before after : Streams) (answer : Status) (report : List ℕ) :
@@ -41,12 +42,12 @@ pub record RefusesDrawn (number : ℕ) (before after : Streams) (answer : Status
   pub streams : after ≡ before
 
 -- the answer of `gen` with `--run` and its report, behind what the report told before
-abbrev pub AnswersDrawn : ℕ → Streams → Streams → Option (List ℕ) → Status → List ℕ → Type 0
-AnswersDrawn number before after blank answer report =
-    RunsDrawn number before after blank answer report
-    ⊎ RefusesDrawn number before after answer report
+abbrev pub AnswersDrawn : ℕ → Streams → Streams → Option (List ℕ) → Status → (shown closing : List ℕ) → Type 0
+AnswersDrawn number before after blank answer shown closing =
+    RunsDrawn number before after blank answer shown closing
+    ⊎ RefusesDrawn number before after answer (shown ++ closing)
 
--- the report of the run failed
+-- the report failed in the run
 pub record BreaksDrawn (number : ℕ) (before after : Streams) (blank full : Option (List ℕ)) : Type 0 where
   pub hart : Hart
   pub starts : StartsDrawn number hart

@@ -6,15 +6,11 @@ use Rattle.rv_machine.specs.Machine.{Machine}
 use Rattle.rv_machine.specs.Outcome.{Outcome, Next, Trap, Exit}
 use Rattle.rv_machine.specs.Step.{step}
 use Rattle.rv_machine.specs.After.{after, SameButInput}
-use Rattle.cf_texts.specs.Retirement.{retirement_text}
-
--- the line of an instruction that retired, where so many have with it
-abbrev pub line_text : ℕ → Retired → List ℕ
-line_text count line = retirement_text count line.pc line.word line.reg line.value
+use Rattle.cf_report.specs.Lines.{retired_line}
 
 -- the line of an outcome: none where nothing retired
 abbrev pub text_of : Outcome Machine → List ℕ
-text_of (Next m line) = line_text m.hart.retired line
+text_of (Next m line) = retired_line m.hart.retired line
 text_of (Trap cause pc detail) = []
 text_of (Exit status) = []
 

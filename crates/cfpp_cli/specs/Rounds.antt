@@ -1,6 +1,5 @@
 -- What the command `rounds` answers, and what it leaves of the outside.
-use Rattle.std.specs.Prelude.{◌≡◌, ◌≤◌, ◌⊎◌, ℕ, List, Option, None}
-use Rattle.cf_io.specs.Puts.{WritesFront}
+use Rattle.std.specs.Prelude.{◌≡◌, ◌≤◌, ◌⊎◌, ℕ, List, None}
 use Rattle.rv_machine.specs.Hart.{Hart}
 use Rattle.rv_machine.specs.Streams.{Streams}
 use Rattle.cf_layout.specs.Layout.{Plan}
@@ -19,7 +18,8 @@ use Rattle.cli_files.specs.Loading.{IsLoaded, LacksLoaded}
 use Rattle.cli_files.specs.Memory.{LacksProcessor}
 use Rattle.cli_files.specs.Outside.{Outside}
 use Rattle.cli_files.specs.declared.status.Status.{Status}
-use Rattle.cfpp_cli.specs.Run.{start_of, status_of, AgreesWithMachine}
+use Rattle.cfpp_cli.specs.Run.{start_of, AgreesWithMachine}
+use Rattle.cfpp_cli.specs.Statuses.{status_of_run}
 
 -- what the words ask of `rounds`: where the layout is, the file with the program, and the retired instructions at which the run stops
 pub record RoundsAsked : Type 0 where
@@ -53,15 +53,8 @@ lines_of limit last run = closing_in_rounds limit (finish_of run) run.rounds las
 pub record RunsCoreInRounds (limit : ℕ) (core last : Processor) (before after : Streams) (answer : Status)
     (report : List ℕ) : Type 0 where
   pub run : RunInRounds limit core last before after
-  pub status_is : answer ≡ status_of limit run.tally.moves (finish_of run)
+  pub status_is : answer ≡ status_of_run limit (ran_of run.clocked)
   pub reports : report ≡ lines_of limit last run
-
--- it was, and the report failed in the closing lines, behind a front of them
-pub record BreaksCoreInRounds (limit : ℕ) (core : Processor) (before after : Streams)
-    (blank full : Option (List ℕ)) : Type 0 where
-  pub last : Processor
-  pub run : RunInRounds limit core last before after
-  pub fails : WritesFront blank full (lines_of limit last run)
 
 -- the processor of the layout, opened on the hart, was run in rounds. Where the run ends with Exit, Trap or Limit, its status, its output, its first line, its `retired` line and its registers are those of `machine`
 pub record RunsInRounds (limit : ℕ) (plan : Plan) (hart : Hart) (last : Processor) (before after : Streams)
@@ -94,9 +87,3 @@ AnswersRounds asked before after answer report =
     RunsLoaded (λ plan hart. ComesInRounds asked.limit plan hart before.streams after.streams answer report)
     asked before after
     ⊎ RefusesRounds asked before after answer report
-
--- both are there, and the report of the run failed
-abbrev pub BreaksRounds : RoundsAsked → Outside → Outside → Option (List ℕ) → Option (List ℕ) → Type 0
-BreaksRounds asked before after blank full =
-    RunsLoaded (λ plan hart. BreaksCoreInRounds asked.limit (opened plan hart) before.streams after.streams blank full)
-    asked before after

@@ -1,9 +1,7 @@
--- What the command `run` answers, and what it leaves of the outside.
-use Rattle.std.specs.Prelude.{◌≡◌, ◌≤◌, ◌-◌, ◌⊎◌, ℕ, List, ◌++◌, true, false, codes, Option, Some, None}
-use Rattle.cf_io.specs.Puts.{WritesFront}
+-- What the commands `run` and `moves` answer, and what they leave of the outside.
+use Rattle.std.specs.Prelude.{◌≡◌, ◌≤◌, ◌-◌, ◌⊎◌, ℕ, List, [], ◌++◌, true, false, codes, Option, None}
 use Rattle.rv_machine.specs.Hart.{Hart}
 use Rattle.rv_machine.specs.Streams.{Streams}
-use Rattle.cf_texts.specs.Texts.{counted_line}
 use Rattle.cf_layout.specs.Layout.{Plan, has_mul}
 use Rattle.cf_bind.specs.declared.moves.Move.{Move}
 use Rattle.cf_core.specs.Processors.{Processor, opened}
@@ -14,7 +12,7 @@ use Rattle.cf_scripts.specs.Scripts.{Told, script_of}
 use Rattle.cf_run.specs.declared.answer.Ran.{Ran as Answer}
 use Rattle.cf_run.specs.declared.answer.Ran.TheVariants as ran
 use Rattle.cf_run.specs.declared.answer.Scripted.{Scripted}
-use Rattle.cf_run.specs.declared.answer.Scripted.TheVariants.{Ran, ScriptEnd, BadScript, BarredAt}
+use Rattle.cf_run.specs.declared.answer.Scripted.TheVariants.{Ran}
 use Rattle.cf_run.specs.declared.show.Show.{Show}
 use Rattle.cf_run.specs.Ending.{EndsSequentially}
 use Rattle.cf_run.specs.Headline.{RunsSequentially}
@@ -23,30 +21,19 @@ use Rattle.cf_run.specs.Moving.{Place, place_of}
 use Rattle.cf_run.specs.Policies.{RunsPolicy, most_moves}
 use Rattle.cf_run.specs.Reaching.{no_tally}
 use Rattle.cf_run.specs.Scripts.{stand_of, first_moves, RunsScript}
-use Rattle.cf_closing.specs.Closing.{closing, is_report_fault}
-use Rattle.cf_closing.specs.Lines.{first_line}
+use Rattle.cf_closing.specs.Closing.{closing, head_text, is_report_fault}
 use Rattle.cfpp_cli.specs.Machine.{RunsHart}
 use Rattle.cfpp_cli.specs.Options.{chosen_of}
 use Rattle.cli_files.specs.Memory.{LacksProcessor}
+use Rattle.cfpp_cli.specs.Statuses.{status_of}
+use Rattle.cfpp_cli.specs.Tail.{lines_behind}
+use Rattle.cfpp_cli.specs.declared.tail.Tail.{Tail}
 use Rattle.cli_files.specs.Outside.{Outside}
 use Rattle.cli_files.specs.RunFiles.{RunAsked, ReadsFiles, AnswersFiles}
 use Rattle.cli_files.specs.Schedules.{ReadySchedule, in_script, drawn_from, in_turn}
-use Rattle.cli_files.specs.declared.status.ScriptFault.TheVariants as fault
 use Rattle.cli_files.specs.declared.status.Status.{Status}
 use Rattle.cli_files.specs.declared.status.Status.TheVariants as status
 use Rattle.cli_files.specs.declared.status.Which.TheVariants as which
-
--- the status of a run that finished so under this limit, with so many moves made
-abbrev pub status_of : (limit moves : ℕ) → Scripted → Status
-status_of limit moves (Ran (ran.Exit code)) = status.Exit code
-status_of limit moves (Ran (ran.Trap cause pc detail)) = status.Trap cause pc detail
-status_of limit moves (Ran ran.Limit) = status.Limit (Some limit)
-status_of limit moves (Ran ran.ReadFault) = status.ReadFault which.Input
-status_of limit moves (Ran ran.WriteFault) = status.WriteFault
-status_of limit moves (Ran ran.ReportFault) = status.WriteFault
-status_of limit moves ScriptEnd = status.ScriptEnd moves
-status_of limit moves (BadScript refusal) = status.BadScript (fault.Line refusal)
-status_of limit moves (BarredAt number bar) = status.BarredAt number bar
 
 -- where the run begins: before its first move
 abbrev pub start_of : Processor → Streams → Option (List ℕ) → Place
@@ -93,29 +80,23 @@ pub record ProcessorRun (limit : ℕ) (show : Show) (core last : Processor) (by 
   pub sequential : RunsSequentially show moves (start_of core before blank) (place_of last after told tally) finish
   pub ends : EndsSequentially limit (start_of core before blank) (place_of last after told tally) finish
 
--- the lines that close its report
-abbrev pub closing_of : {show : Show} {core : Processor} {by : Chooses} {before after : Streams}
-    {blank : Option (List ℕ)} (limit : ℕ) (last : Processor) →
-    ProcessorRun limit show core last by before after blank → List ℕ
-closing_of limit last run = closing limit run.finish last.plan last.state run.tally
-
--- the processor was run so; the status says how the run finished, and this is the whole report: what was shown of the moves, then the closing lines
+-- the processor was run so; the status says how the run finished, this was shown of its moves, and these lines close the report
 pub record RunsCore (limit : ℕ) (show : Show) (core last : Processor) (by : Chooses)
-    (before after : Streams) (blank : Option (List ℕ)) (answer : Status) (report : List ℕ) : Type 0 where
+    (before after : Streams) (blank : Option (List ℕ)) (answer : Status) (shown text : List ℕ) : Type 0 where
   pub run : ProcessorRun limit show core last by before after blank
   pub reported : is_report_fault run.finish ≡ false
   pub status_is : answer ≡ status_of limit run.tally.moves run.finish
-  pub reports : report ≡ all_shown show core.plan 1 run.trace ++ closing_of limit last run
+  pub shows : shown ≡ all_shown show core.plan 1 run.trace
+  pub closes : text ≡ closing limit run.finish last.plan last.state run.tally
 
 -- the answer is that of `machine` on the hart, under the same limit and with multiplication where the layout has it; it takes the same of the input and writes the same to the output, and this text closes its report
 pub record IsMachines (limit : ℕ) (plan : Plan) (hart : Hart) (before after : Streams) (answer : Status)
     (text : List ℕ) : Type 0 where
-  pub runs : RunsHart (chosen_of limit false (has_mul plan)) hart before after answer text
+  pub runs : RunsHart (chosen_of limit false (has_mul plan)) hart before after answer [] text
 
 -- the first line of the report, the line of the retired count and the registers
 abbrev pub head_of : (limit : ℕ) → Scripted → Processor → Tally → List ℕ
-head_of limit finish last tally =
-    first_line limit tally.moves finish ++ counted_line (codes "retired ") last.state.retired ++ registers_text last.state.regs
+head_of limit finish last tally = head_text limit tally.moves finish last.state.retired ++ registers_text last.state.regs
 
 -- where a run ends with Exit, Trap or Limit, its status, its output, its first line, its `retired` line and its registers are those of `machine`
 abbrev pub AgreesWithMachine : (limit : ℕ) → Plan → Hart → (before after : Streams) → Scripted → Processor → Tally → Status → Type 0
@@ -137,41 +118,39 @@ IsComplete schedule (status.ReadFault which.Input) = Unit {0}
 IsComplete schedule status.WriteFault = Unit {0}
 IsComplete schedule answer = ⊥
 
--- the processor of the layout, opened on the hart, was run to this one
-pub record RunsOpened (limit : ℕ) (show : Show) (plan : Plan) (hart : Hart) (last : Processor)
-    (schedule : ReadySchedule) (before after : Streams) (blank : Option (List ℕ)) (answer : Status) (report : List ℕ) : Type 0 where
-  pub runs : RunsCore limit show (opened plan hart) last (chosen_by limit show schedule) before after blank answer report
+-- the processor of the layout, opened on the hart, was run to this one, and the tail stands behind the lines that close the report
+pub record RunsOpened (limit : ℕ) (show : Show) (tail : Tail) (plan : Plan) (hart : Hart) (last : Processor)
+    (schedule : ReadySchedule) (before after : Streams) (blank : Option (List ℕ)) (answer : Status)
+    (shown closing : List ℕ) : Type 0 where
+  pub text : List ℕ
+  pub runs : RunsCore limit show (opened plan hart) last (chosen_by limit show schedule) before after blank answer shown text
   pub agrees : AgreesWithMachine limit plan hart before after runs.run.finish last runs.run.tally answer
   pub complete : IsComplete schedule answer
+  pub closes : closing ≡ text ++ lines_behind tail answer last
 
 -- what comes of a layout, a hart and a schedule: the processor of that layout, opened on the hart, was run
-abbrev pub ComesOf : ℕ → Show → Plan → Hart → ReadySchedule → Streams → Streams → Option (List ℕ) → Status →
-    List ℕ → Type 0
-ComesOf limit show plan hart schedule before after blank answer report =
-    ((last : Processor) × RunsOpened limit show plan hart last schedule before after blank answer report)
-    ⊎ LacksProcessor before after answer report
+abbrev pub ComesOf : ℕ → Show → Tail → Plan → Hart → ReadySchedule → Streams → Streams → Option (List ℕ) → Status →
+    (shown closing : List ℕ) → Type 0
+ComesOf limit show tail plan hart schedule before after blank answer shown closing =
+    ((last : Processor) × RunsOpened limit show tail plan hart last schedule before after blank answer shown closing)
+    ⊎ LacksProcessor before after answer (shown ++ closing)
 
--- the report failed, as the run showed a move, and was put nothing more; or else in the closing lines, behind a front of them
-abbrev pub FailsReport : Scripted → List ℕ → (told full : Option (List ℕ)) → Type 0
-FailsReport finish lines told full =
-    ((is_report_fault finish ≡ true) × (full ≡ told))
-    ⊎ ((is_report_fault finish ≡ false) × WritesFront told full lines)
-
--- the processor was run so, and the report failed
+-- the processor was run so, and the report failed as the run showed a move: it was put nothing more
 pub record BreaksCore (limit : ℕ) (show : Show) (core : Processor) (by : Chooses)
     (before after : Streams) (blank full : Option (List ℕ)) : Type 0 where
   pub last : Processor
   pub run : ProcessorRun limit show core last by before after blank
-  pub fails : FailsReport run.finish (closing_of limit last run) run.told full
+  pub cut : is_report_fault run.finish ≡ true
+  pub told : full ≡ run.told
 
--- the answer of `run` and its report, behind what the report told before
-abbrev pub AnswersRun : RunAsked → Outside → Outside → Option (List ℕ) → Status → List ℕ → Type 0
-AnswersRun asked before after blank answer report =
+-- the answer of `run`, or of `moves` with its tail, what it shows, and the lines that close its report, behind what the report told before
+abbrev pub AnswersRun : Tail → RunAsked → Outside → Outside → Option (List ℕ) → Status → (shown closing : List ℕ) → Type 0
+AnswersRun tail asked before after blank answer shown closing =
     AnswersFiles (λ plan hart schedule.
-    ComesOf asked.limit asked.show plan hart schedule before.streams after.streams blank answer report)
-    asked before after answer report
+    ComesOf asked.limit asked.show tail plan hart schedule before.streams after.streams blank answer shown closing)
+    asked before after answer (shown ++ closing)
 
--- all files are there, and the report of the run failed
+-- all files are there, and the report failed in the run
 abbrev pub BreaksRun : RunAsked → Outside → Outside → Option (List ℕ) → Option (List ℕ) → Type 0
 BreaksRun asked before after blank full =
     ReadsFiles (λ plan hart schedule.

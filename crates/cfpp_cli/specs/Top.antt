@@ -1,5 +1,5 @@
 -- What the top call answers, and what it leaves of the outside.
-use Rattle.std.specs.Prelude.{◌≡◌, ◌≤◌, ◌⊎◌, ℕ, List, codes, Bool, true, false, Option, Result, Ok, Err}
+use Rattle.std.specs.Prelude.{◌≡◌, ◌≤◌, ◌⊎◌, ℕ, List, ◌++◌, codes, Bool, true, false, Option, Result, Ok, Err}
 use Rattle.cf_io.specs.Causes.{Rose, HasCause}
 use Rattle.cf_io.specs.Puts.{Writes, WritesFront}
 use Rattle.cf_gen.specs.Program.{program_text}
@@ -22,10 +22,10 @@ use Rattle.cfpp_cli.specs.Listings.{AnswersList}
 use Rattle.cfpp_cli.specs.NamedFiles.{files_named}
 use Rattle.cfpp_cli.specs.Sources.{AnswersAsm}
 use Rattle.cli_files.specs.RunFiles.{run_asked}
-use Rattle.cfpp_cli.specs.Rounds.{rounds_asked, AnswersRounds, BreaksRounds}
+use Rattle.cfpp_cli.specs.Rounds.{rounds_asked, AnswersRounds}
 use Rattle.cfpp_cli.specs.Run.{AnswersRun, BreaksRun}
-use Rattle.cfpp_cli.specs.Standing.{AnswersMoves, BreaksMoves}
 use Rattle.cfpp_cli.specs.declared.help.TheConstants.{HELP, VERSION}
+use Rattle.cfpp_cli.specs.declared.tail.Tail.TheVariants.{Nothing, Moves}
 use Rattle.cli_files.specs.declared.status.Status.{Status}
 use Rattle.cli_files.specs.declared.status.Status.TheVariants as status
 
@@ -48,50 +48,48 @@ pub record PutsAlone (text : List ℕ) (before after : Outside) (answer : Status
   pub files : after.files ≡ before.files
   pub input : after.streams.input ≡ before.streams.input
 
--- the answer and the whole report, behind what it told before, by what the words ask
-abbrev pub Answers : Result Asked ℕ → Outside → Outside → Option (List ℕ) → Status → List ℕ → Type 0
-Answers (Ok (machine program limit retired mul)) before after blank answer report =
-    AnswersMachine program (chosen_of limit retired mul) before after answer report
-Answers (Ok (run layout program schedule limit lines)) before after blank answer report =
-    AnswersRun (run_asked layout program schedule limit lines) before after blank answer report
-Answers (Ok (moves layout program schedule limit)) before after blank answer report =
-    AnswersMoves (run_asked layout program schedule limit shows.Report) before after blank answer report
-Answers (Ok (rounds layout program limit)) before after blank answer report =
-    AnswersRounds (rounds_asked layout program limit) before after answer report
-Answers (Ok (debug layout program)) before after blank answer report = AnswersDebug layout program before after answer report
-Answers (Ok (time delays program layouts limit sites)) before after blank answer report =
-    AnswersTime (time_asked delays program layouts limit) before.files after.files answer report
+-- the answer, what is shown of a run, and the lines that close the report, behind what it told before, by what the words ask; both together are the whole report
+abbrev pub Answers : Result Asked ℕ → Outside → Outside → Option (List ℕ) → Status → (shown closing : List ℕ) → Type 0
+Answers (Ok (machine program limit retired mul)) before after blank answer shown closing =
+    AnswersMachine program (chosen_of limit retired mul) before after answer shown closing
+Answers (Ok (run layout program schedule limit lines)) before after blank answer shown closing =
+    AnswersRun Nothing (run_asked layout program schedule limit lines) before after blank answer shown closing
+Answers (Ok (moves layout program schedule limit)) before after blank answer shown closing =
+    AnswersRun Moves (run_asked layout program schedule limit shows.Report) before after blank answer shown closing
+Answers (Ok (rounds layout program limit)) before after blank answer shown closing =
+    AnswersRounds (rounds_asked layout program limit) before after answer (shown ++ closing)
+Answers (Ok (debug layout program)) before after blank answer shown closing = AnswersDebug layout program before after answer (shown ++ closing)
+Answers (Ok (time delays program layouts limit sites)) before after blank answer shown closing =
+    AnswersTime (time_asked delays program layouts limit) before.files after.files answer (shown ++ closing)
     × (after.streams ≡ before.streams)
-Answers (Ok (audit layout program trace)) before after blank answer report =
-    AnswersAudit (audit_asked layout program trace) (audit_side before) (audit_side after) answer report
+Answers (Ok (audit layout program trace)) before after blank answer shown closing =
+    AnswersAudit (audit_asked layout program trace) (audit_side before) (audit_side after) answer (shown ++ closing)
     × (after.streams.output ≡ before.streams.output)
-Answers (Ok (check layout)) before after blank answer report =
-    AnswersCheck layout (side_of before) (side_of after) answer report
+Answers (Ok (check layout)) before after blank answer shown closing =
+    AnswersCheck layout (side_of before) (side_of after) answer (shown ++ closing)
     × (after.streams.input ≡ before.streams.input)
-Answers (Ok (asm source)) before after blank answer report =
-    AnswersAsm source (side_of before) (side_of after) answer report
+Answers (Ok (asm source)) before after blank answer shown closing =
+    AnswersAsm source (side_of before) (side_of after) answer (shown ++ closing)
     × (after.streams.input ≡ before.streams.input)
-Answers (Ok (listing program)) before after blank answer report =
-    AnswersList program (side_of before) (side_of after) answer report
+Answers (Ok (listing program)) before after blank answer shown closing =
+    AnswersList program (side_of before) (side_of after) answer (shown ++ closing)
     × (after.streams.input ≡ before.streams.input)
-Answers (Ok (gen number true)) before after blank answer report =
-    AnswersDrawn number before.streams after.streams blank answer report × (after.files ≡ before.files)
-Answers (Ok (gen number false)) before after blank answer report =
-    PutsAlone (program_text number) before after answer report
-Answers (Ok help) before after blank answer report = PutsAlone HELP.now before after answer report
-Answers (Ok version) before after blank answer report = PutsAlone VERSION.now before after answer report
-Answers (Err index) before after blank answer report = RefusesWords index before after answer report
+Answers (Ok (gen number true)) before after blank answer shown closing =
+    AnswersDrawn number before.streams after.streams blank answer shown closing × (after.files ≡ before.files)
+Answers (Ok (gen number false)) before after blank answer shown closing =
+    PutsAlone (program_text number) before after answer (shown ++ closing)
+Answers (Ok help) before after blank answer shown closing = PutsAlone HELP.now before after answer (shown ++ closing)
+Answers (Ok version) before after blank answer shown closing = PutsAlone VERSION.now before after answer (shown ++ closing)
+Answers (Err index) before after blank answer shown closing = RefusesWords index before after answer (shown ++ closing)
 
--- the report failed at what the command itself put to it
+-- the report failed while the command was carried out
 abbrev pub Breaks : Result Asked ℕ → Outside → Outside → Option (List ℕ) → Option (List ℕ) → Type 0
 Breaks (Ok (machine program limit retired mul)) before after blank full =
     BreaksProgram program (chosen_of limit retired mul) before after blank full
 Breaks (Ok (run layout program schedule limit lines)) before after blank full =
     BreaksRun (run_asked layout program schedule limit lines) before after blank full
 Breaks (Ok (moves layout program schedule limit)) before after blank full =
-    BreaksMoves (run_asked layout program schedule limit shows.Report) before after blank full
-Breaks (Ok (rounds layout program limit)) before after blank full =
-    BreaksRounds (rounds_asked layout program limit) before after blank full
+    BreaksRun (run_asked layout program schedule limit shows.Report) before after blank full
 Breaks (Ok (debug layout program)) before after blank full = BreaksDebug layout program before after blank full
 Breaks (Ok (gen number true)) before after blank full =
     BreaksDrawn number before.streams after.streams blank full × (after.files ≡ before.files)
@@ -101,24 +99,25 @@ Breaks (Ok (time delays program layouts limit sites)) before after blank full =
 Breaks (Ok asked) before after blank full = ⊥
 Breaks (Err index) before after blank full = ⊥
 
--- the whole report was put, and the status is the answer; or the report failed behind a front of it, its count of faults
--- rose, and the status is WriteFault
-abbrev pub Reports : Report → Report → List ℕ → Status → Status → Type 0
-Reports before after text answer result =
-    ((result ≡ answer) × Writes before.written after.written text × (after.faults ≡ before.faults))
-    ⊎ ((result ≡ status.WriteFault) × WritesFront before.written after.written text
-    × Rose before.faults after.faults)
+-- what was shown was put, and behind it the closing lines, and the status is the answer; or the report failed behind a
+-- front of these, its count of faults rose, and the status is WriteFault
+pub record Reports (before after : Report) (shown closing : List ℕ) (answer result : Status) : Type 0 where
+  pub told : Option (List ℕ)
+  pub shows : Writes before.written told shown
+  pub closes : ((result ≡ answer) × Writes told after.written closing × (after.faults ≡ before.faults))
+      ⊎ ((result ≡ status.WriteFault) × WritesFront told after.written closing × Rose before.faults after.faults)
 
 -- the command was carried out, with this answer and this report; a count of faults rose just where the answer says so
 pub record Completes (reading : Result Asked ℕ) (before after : Outside) (blank full : Report)
     (result : Status) : Type 0 where
   pub answer : Status
-  pub text : List ℕ
-  pub answers : Answers reading before after blank.written answer text
+  pub shown : List ℕ
+  pub closing : List ℕ
+  pub answers : Answers reading before after blank.written answer shown closing
   pub files : HasCause before.file_faults after.file_faults (files_answered answer)
   pub input : HasCause before.input_faults after.input_faults (input_answered answer)
   pub output : HasCause before.output_faults after.output_faults (output_answered answer)
-  pub reports : Reports blank full text answer result
+  pub reports : Reports blank full shown closing answer result
 
 -- the report failed before that, and no file did; the status is WriteFault
 pub record IsCut (reading : Result Asked ℕ) (before after : Outside) (blank full : Report)

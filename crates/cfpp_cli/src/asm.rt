@@ -9,7 +9,7 @@ ghost use Rattle.cfpp_cli.specs.Sources.{AssemblesSource, AnswersAsm};
 use crate::assembling::file_of;
 use crate::putting::put_text;
 use cf_io::{Files, FilesErr, Sink};
-use cli_files::{Answer, Status, Which, line, no_memory};
+use cli_files::{Answer, Which, no_memory, unread};
 use std::alloc::Global;
 
 /// How much is read of a source: one byte more than it may have.
@@ -44,10 +44,7 @@ pub fn assemble_program<F: Files, K: Sink>(
 {
     match files.read(alloc, source, MOST_SOURCE) {
         Ok(bytes) => assemble_source(alloc, bytes.as_slice(), output),
-        Err(FilesErr::Failed) => Answer {
-            status: Status::ReadFault(Which::Source),
-            closing: line(b"read fault source"),
-        },
+        Err(FilesErr::Failed) => unread(Which::Source),
         Err(FilesErr::NoMemory) => no_memory(),
     }
 }

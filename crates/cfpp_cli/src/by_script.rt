@@ -1,18 +1,20 @@
 //! A run of the processor by a script.
 
-ghost use Rattle.std.specs.Prelude.{◌≡◌, ◌≤◌, [], false, length, IfOk, Ok};
-ghost use Rattle.cf_io.specs.Causes.{HasCause};
+ghost use Rattle.std.specs.Prelude.{◌≡◌, ◌≤◌, false, length, Ok};
 ghost use Rattle.rv_machine.specs.Streams.{streams_of};
+ghost use Rattle.cf_words.specs.Options.{most_limit};
 ghost use Rattle.cli_files.specs.Causes.{input_answered, output_answered};
-ghost use Rattle.cli_files.specs.Deciding.{Counts, Decides, files_decided};
+ghost use Rattle.cli_files.specs.Outside.{report_of};
+ghost use Rattle.cli_files.specs.Scripts.{most_script};
+ghost use Rattle.cfpp_cli.specs.Reporting.{Comes, Tells, files_reported};
 ghost use Rattle.cfpp_cli.specs.Run.{ByScript, RunsCore, BreaksCore};
 
-use crate::finishing::{close, is_cut, no_moves};
+use crate::finishing::{close, no_moves};
+use crate::reporting::Reported;
 use cf_core::Core;
 use cf_io::{Failed, Sink, Source};
 use cf_run::{Show, run_script};
 use cf_scripts::Script;
-use cli_files::Answer;
 
 /// Runs the processor by the moves of a text, and puts what is shown and the closing lines.
 pub fn run_by_script<S: Source, K: Sink, R: Sink>(
@@ -23,24 +25,22 @@ pub fn run_by_script<S: Source, K: Sink, R: Sink>(
     input: &mut S,
     output: &mut K,
     report: &mut R,
-) -> Result<Answer, Failed>
-    requires limit { limit ≤ 1000000000 }
+) -> Result<Reported, Failed>
+    requires limit { limit ≤ most_limit }
     requires retired { core.old.state.retired ≤ limit }
     requires works { core.old.state.failed ≡ false }
-    requires fits { length text.now ≤ 16777216 }
-    ensures runs { Decides
+    requires fits { length text.now ≤ most_script }
+    ensures runs { Comes
         (RunsCore limit show core.old core.new (ByScript limit show text.now)
         (streams_of (S.left input.old) (K.written output.old))
         (streams_of (S.left input.new) (K.written output.new)) (R.written report.old))
         (BreaksCore limit show core.old (ByScript limit show text.now)
         (streams_of (S.left input.old) (K.written output.old))
         (streams_of (S.left input.new) (K.written output.new)) (R.written report.old) (R.written report.new))
-        (R.written report.old) (R.written report.new) result }
-    ensures closed { IfOk result (λ answer. answer.closing ≡ []) }
-    ensures files { files_decided result ≡ Ok tt }
-    ensures input { Counts input_answered (S.faults input.old) (S.faults input.new) result }
-    ensures output { Counts output_answered (K.faults output.old) (K.faults output.new) result }
-    ensures report { HasCause (R.faults report.old) (R.faults report.new) result }
+        (report_of (R.written report.old) (R.faults report.old)) (report_of (R.written report.new) (R.faults report.new)) result }
+    ensures files { files_reported result ≡ Ok tt }
+    ensures input { Tells input_answered (S.faults input.old) (S.faults input.new) result }
+    ensures output { Tells output_answered (K.faults output.old) (K.faults output.new) result }
 {
     let mut script = Script::view(text);
     let mut tally = no_moves();
@@ -54,8 +54,5 @@ pub fn run_by_script<S: Source, K: Sink, R: Sink>(
         report,
         &mut tally,
     );
-    if is_cut(finish) {
-        return Err(Failed);
-    }
     close(core, limit, finish, &tally, report)
 }

@@ -9,9 +9,8 @@ ghost use Rattle.cfpp_cli.specs.FileCommands.{file_side};
 
 use cf_io::{Files, Sink, put_all};
 use cf_layout::Layout;
-use cf_texts::Page;
 use cf_words::LayoutWord;
-use cli_files::{Answer, Status, layout_at, line, no_memory};
+use cli_files::{Answer, done, layout_at, no_memory, write_fault};
 use layout_file::write_layout;
 use std::alloc::Global;
 
@@ -27,14 +26,8 @@ fn write_text<K: Sink>(alloc: Global, layout: &Layout, output: &mut K) -> Answer
         Err(_) => return no_memory(),
     };
     match put_all(output, text.as_slice()) {
-        Ok(()) => Answer {
-            status: Status::Done,
-            closing: Page::new(),
-        },
-        Err(_) => Answer {
-            status: Status::WriteFault,
-            closing: line(b"write fault output"),
-        },
+        Ok(()) => done(),
+        Err(_) => write_fault(),
     }
 }
 

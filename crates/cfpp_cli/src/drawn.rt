@@ -5,18 +5,20 @@ ghost use Rattle.cf_io.specs.Causes.{HasCause};
 ghost use Rattle.cf_gen.specs.Program.{program_text};
 ghost use Rattle.rv_machine.specs.Streams.{streams_of};
 ghost use Rattle.cli_files.specs.Causes.{files_answered, input_answered, output_answered};
-ghost use Rattle.cli_files.specs.Deciding.{Counts, Decides, files_decided};
+ghost use Rattle.cli_files.specs.Outside.{report_of};
 ghost use Rattle.cfpp_cli.specs.Drawn.{AnswersDrawn, BreaksDrawn, IsUndrawn, StartsDrawn};
 ghost use Rattle.cfpp_cli.specs.FileCommands.{PutsOrFails};
+ghost use Rattle.cfpp_cli.specs.Reporting.{Comes, Tells, files_reported};
 
 use crate::assembling::file_of;
+use crate::reporting::{Reported, put_answer};
 use crate::run::run_ready;
+use crate::tail::Tail;
 use cf_gen::generate;
 use cf_io::{Failed, MemSink, Sink, Source};
 use cf_layout::plain;
-use cf_texts::Page;
 use cf_words::{DEFAULT_LIMIT, RunOptions, Schedule, Show};
-use cli_files::{Answer, Ready, ReadySchedule, Status, line, no_memory, open_image};
+use cli_files::{Answer, Ready, ReadySchedule, done, no_memory, open_image, write_fault};
 use rv_machine::Machine;
 use std::alloc::Global;
 
@@ -33,14 +35,8 @@ pub fn put_drawn<K: Sink>(number: u32, output: &mut K) -> Answer
     ensures output { HasCause (K.faults output.old) (K.faults output.new) (output_answered result.status) }
 {
     match generate(number, output) {
-        Ok(()) => Answer {
-            status: Status::Done,
-            closing: Page::new(),
-        },
-        Err(_) => Answer {
-            status: Status::WriteFault,
-            closing: line(b"write fault output"),
-        },
+        Ok(()) => done(),
+        Err(_) => write_fault(),
     }
 }
 
@@ -83,30 +79,29 @@ fn drawn_machine(alloc: Global, number: u32) -> Result<Machine, Answer>
 }
 
 /// Carries out `gen` with `--run`: assembles the text, runs it on the built-in layout by moves that are drawn from the same
-/// number, and puts what `run` puts. It fails where the report does, which is then put nothing more.
+/// number, and puts what `run` puts. It fails where the report does in the run, which is then put nothing more.
 pub fn run_drawn<S: Source, K: Sink, R: Sink>(
     alloc: Global,
     number: u32,
     input: &mut S,
     output: &mut K,
     report: &mut R,
-) -> Result<Answer, Failed>
+) -> Result<Reported, Failed>
     requires some { 1 ≤ number }
     requires limit { number ≤ 30000 }
-    ensures answers { Decides
+    ensures answers { Comes
         (AnswersDrawn number (streams_of (S.left input.old) (K.written output.old))
         (streams_of (S.left input.new) (K.written output.new)) (R.written report.old))
         (BreaksDrawn number (streams_of (S.left input.old) (K.written output.old))
         (streams_of (S.left input.new) (K.written output.new)) (R.written report.old) (R.written report.new))
-        (R.written report.old) (R.written report.new) result }
-    ensures files { files_decided result ≡ Ok tt }
-    ensures input { Counts input_answered (S.faults input.old) (S.faults input.new) result }
-    ensures output { Counts output_answered (K.faults output.old) (K.faults output.new) result }
-    ensures report { HasCause (R.faults report.old) (R.faults report.new) result }
+        (report_of (R.written report.old) (R.faults report.old)) (report_of (R.written report.new) (R.faults report.new)) result }
+    ensures files { files_reported result ≡ Ok tt }
+    ensures input { Tells input_answered (S.faults input.old) (S.faults input.new) result }
+    ensures output { Tells output_answered (K.faults output.old) (K.faults output.new) result }
 {
     let machine = match drawn_machine(alloc, number) {
         Ok(machine) => machine,
-        Err(answer) => return Ok(answer),
+        Err(answer) => return Ok(put_answer(answer, report)),
     };
     let ready = Ready {
         layout: plain(),
@@ -118,5 +113,5 @@ pub fn run_drawn<S: Source, K: Sink, R: Sink>(
         limit: DEFAULT_LIMIT,
         show: Show::Report,
     };
-    run_ready(alloc, ready, options, input, output, report)
+    run_ready(alloc, ready, options, Tail::Nothing, input, output, report)
 }

@@ -1,71 +1,94 @@
-//! How a run of the processor finishes: its status and its closing lines.
+//! How a run finishes: its status and its closing lines.
 
-ghost use Rattle.std.specs.Prelude.{◌≡◌, [], false, IfOk, Ok};
-ghost use Rattle.cf_io.specs.Causes.{HasCause};
+ghost use Rattle.std.specs.Prelude.{◌≡◌};
 ghost use Rattle.cf_closing.specs.Closing.{is_report_fault};
 ghost use Rattle.cf_run.specs.Reaching.{no_tally};
-ghost use Rattle.cf_run.specs.declared.answer.Scripted.TheVariants as scripted;
-ghost use Rattle.cli_files.specs.Causes.{files_answered};
-ghost use Rattle.cli_files.specs.Deciding.{files_decided};
-ghost use Rattle.cfpp_cli.specs.Deciding.{Closes, ClosesInRounds};
-ghost use Rattle.cfpp_cli.specs.Run.{status_of as status_for};
+ghost use Rattle.cli_files.specs.Outside.{report_of};
+ghost use Rattle.cfpp_cli.specs.Finishing.{ClosesCore, ClosesMachine, ClosesRounds};
+ghost use Rattle.cfpp_cli.specs.Statuses.{status_of as status_for, status_of_run as status_for_run};
 
-use cf_closing::{put_closing, put_closing_in_rounds};
+use crate::reporting::Reported;
+use cf_closing::{put_closing, put_closing_in_rounds, put_machine_closing};
 use cf_core::Core;
 use cf_io::{Failed, Sink};
 use cf_report::Tally;
 use cf_run::{Ran, Scripted};
-use cf_texts::Page;
-use cli_files::{Answer, ScriptFault, Status, Which};
+use cli_files::{ScriptFault, Status, Which};
+use rv_machine::Machine;
 
-/// Whether the report failed.
-pub fn is_cut(finish: Scripted) -> bool
+/// Whether the report failed in the run.
+fn is_cut(finish: Scripted) -> bool
     ensures { result ≡ is_report_fault finish }
 {
     matches!(finish, Scripted::Ran(Ran::ReportFault))
 }
 
-/// The status of a run under this limit that finished so after that many moves.
-fn status_of(limit: u64, moves: u64, finish: Scripted) -> Status
-    ensures status { result ≡ status_for limit moves finish }
-    ensures files { files_answered result ≡ Ok tt }
+/// The status of a run under this limit that finished so.
+fn status_of_run(limit: u64, finish: Ran) -> Status
+    ensures { result ≡ status_for_run limit finish }
 {
     match finish {
-        Scripted::Ran(Ran::Exit(code)) => Status::Exit(code),
-        Scripted::Ran(Ran::Trap { cause, pc, detail }) => Status::Trap { cause, pc, detail },
-        Scripted::Ran(Ran::Limit) => Status::Limit(Some(limit)),
-        Scripted::Ran(Ran::ReadFault) => Status::ReadFault(Which::Input),
-        Scripted::Ran(Ran::WriteFault | Ran::ReportFault) => Status::WriteFault,
+        Ran::Exit(code) => Status::Exit(code),
+        Ran::Trap { cause, pc, detail } => Status::Trap { cause, pc, detail },
+        Ran::Limit => Status::Limit(Some(limit)),
+        Ran::ReadFault => Status::ReadFault(Which::Input),
+        Ran::WriteFault | Ran::ReportFault => Status::WriteFault,
+    }
+}
+
+/// The status of a run of the processor under this limit that finished so after that many moves.
+fn status_of(limit: u64, moves: u64, finish: Scripted) -> Status
+    ensures { result ≡ status_for limit moves finish }
+{
+    match finish {
+        Scripted::Ran(finish) => status_of_run(limit, finish),
         Scripted::ScriptEnd => Status::ScriptEnd(moves),
         Scripted::BadScript(refusal) => Status::BadScript(ScriptFault::Line(refusal)),
         Scripted::BarredAt { line, bar } => Status::BarredAt { line, bar },
     }
 }
 
-/// Puts the closing lines behind a run whose report did not fail.
+/// Puts the closing lines behind a run of the sequential machine. It fails where the report did in the run, which is then put
+/// nothing more.
+pub fn close_machine<R: Sink>(
+    machine: &Machine,
+    limit: u64,
+    finish: Ran,
+    report: &mut R,
+) -> Result<Reported, Failed>
+    ensures { ClosesMachine limit finish machine.now (report_of (R.written report.old) (R.faults report.old))
+        (report_of (R.written report.new) (R.faults report.new)) result }
+{
+    if is_cut(Scripted::Ran(finish)) {
+        return Err(Failed);
+    }
+    Ok(Reported {
+        status: status_of_run(limit, finish),
+        put: put_machine_closing(limit, finish, machine.retired(), machine.regs(), report),
+    })
+}
+
+/// Puts those behind a run of the processor, likewise.
 pub fn close<R: Sink>(
     core: &Core,
     limit: u64,
     finish: Scripted,
     tally: &Tally,
     report: &mut R,
-) -> Result<Answer, Failed>
-    requires { is_report_fault finish ≡ false }
-    ensures closes { Closes limit finish core.now tally.now (R.written report.old) (R.written report.new) result }
-    ensures closed { IfOk result (λ answer. answer.closing ≡ []) }
-    ensures files { files_decided result ≡ Ok tt }
-    ensures report { HasCause (R.faults report.old) (R.faults report.new) result }
+) -> Result<Reported, Failed>
+    ensures { ClosesCore limit finish core.now tally.now (report_of (R.written report.old) (R.faults report.old))
+        (report_of (R.written report.new) (R.faults report.new)) result }
 {
-    match put_closing(core, limit, finish, tally, report) {
-        Ok(()) => Ok(Answer {
-            status: status_of(limit, tally.moves, finish),
-            closing: Page::new(),
-        }),
-        Err(_) => Err(Failed),
+    if is_cut(finish) {
+        return Err(Failed);
     }
+    Ok(Reported {
+        status: status_of(limit, tally.moves, finish),
+        put: put_closing(core, limit, finish, tally, report),
+    })
 }
 
-/// Puts the closing lines behind a run in so many rounds.
+/// Puts those behind a run in so many rounds.
 pub fn close_in_rounds<R: Sink>(
     core: &Core,
     limit: u64,
@@ -73,18 +96,13 @@ pub fn close_in_rounds<R: Sink>(
     rounds: u64,
     tally: &Tally,
     report: &mut R,
-) -> Result<Answer, Failed>
-    ensures closes { ClosesInRounds limit (scripted.Ran finish) rounds core.now tally.now (R.written report.old) (R.written report.new) result }
-    ensures files { files_decided result ≡ Ok tt }
-    ensures report { HasCause (R.faults report.old) (R.faults report.new) result }
+) -> Reported
+    ensures { ClosesRounds limit finish rounds core.now tally.now (report_of (R.written report.old) (R.faults report.old))
+        (report_of (R.written report.new) (R.faults report.new)) result }
 {
-    let finish = Scripted::Ran(finish);
-    match put_closing_in_rounds(core, limit, finish, rounds, tally, report) {
-        Ok(()) => Ok(Answer {
-            status: status_of(limit, tally.moves, finish),
-            closing: Page::new(),
-        }),
-        Err(_) => Err(Failed),
+    Reported {
+        status: status_of_run(limit, finish),
+        put: put_closing_in_rounds(core, limit, Scripted::Ran(finish), rounds, tally, report),
     }
 }
 

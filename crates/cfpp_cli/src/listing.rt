@@ -10,8 +10,9 @@ ghost use Rattle.cfpp_cli.specs.Listings.{listing_of, IsListable, IsNotListed, L
 
 use cf_io::{Files, FilesErr, Sink};
 use cf_listing::{put_elf_listing, put_flat_listing};
-use cf_texts::Page;
-use cli_files::{Answer, MOST_BYTES, ProgramErr, Status, Which, bad_program, is_elf, line};
+use cli_files::{
+    Answer, MOST_BYTES, ProgramErr, Which, done, is_elf, no_memory, no_program, unread, write_fault,
+};
 use elf_view::Elf;
 use std::alloc::Global;
 
@@ -59,18 +60,9 @@ fn list_image<K: Sink>(image: &[u8], output: &mut K) -> Answer
     ensures output { HasCause (K.faults output.old) (K.faults output.new) (output_answered result.status) }
 {
     match put_listing(image, output) {
-        Ok(()) => Answer {
-            status: Status::Done,
-            closing: Page::new(),
-        },
-        Err(ListErr::Refused(error)) => Answer {
-            status: Status::BadProgram(error),
-            closing: bad_program(error),
-        },
-        Err(ListErr::Failed) => Answer {
-            status: Status::WriteFault,
-            closing: line(b"write fault output"),
-        },
+        Ok(()) => done(),
+        Err(ListErr::Refused(error)) => no_program(error),
+        Err(ListErr::Failed) => write_fault(),
     }
 }
 
@@ -91,13 +83,7 @@ pub fn list_program<F: Files, K: Sink>(
 {
     match files.read(alloc, program, MOST_BYTES + 1) {
         Ok(image) => list_image(image.as_slice(), output),
-        Err(FilesErr::Failed) => Answer {
-            status: Status::ReadFault(Which::Program),
-            closing: line(b"read fault program"),
-        },
-        Err(FilesErr::NoMemory) => Answer {
-            status: Status::NoMemory,
-            closing: line(b"no memory"),
-        },
+        Err(FilesErr::Failed) => unread(Which::Program),
+        Err(FilesErr::NoMemory) => no_memory(),
     }
 }

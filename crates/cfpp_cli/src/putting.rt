@@ -6,8 +6,7 @@ ghost use Rattle.cli_files.specs.Causes.{files_answered, input_answered, output_
 ghost use Rattle.cfpp_cli.specs.FileCommands.{PutsOrFails};
 
 use cf_io::{Sink, put_all};
-use cf_texts::Page;
-use cli_files::{Answer, Status, line};
+use cli_files::{Answer, done, write_fault};
 
 /// Puts a text to the output.
 pub fn put_text<K: Sink>(text: &[u8], output: &mut K) -> Answer
@@ -17,13 +16,7 @@ pub fn put_text<K: Sink>(text: &[u8], output: &mut K) -> Answer
     ensures output { HasCause (K.faults output.old) (K.faults output.new) (output_answered result.status) }
 {
     match put_all(output, text) {
-        Ok(()) => Answer {
-            status: Status::Done,
-            closing: Page::new(),
-        },
-        Err(_) => Answer {
-            status: Status::WriteFault,
-            closing: line(b"write fault output"),
-        },
+        Ok(()) => done(),
+        Err(_) => write_fault(),
     }
 }

@@ -1,25 +1,26 @@
 //! The command `rounds`.
 
-ghost use Rattle.std.specs.Prelude.{◌≡◌, ◌≤◌, [], IfOk, Ok};
+ghost use Rattle.std.specs.Prelude.{◌≡◌, ◌≤◌, Ok};
 ghost use Rattle.cf_io.specs.Causes.{HasCause};
 ghost use Rattle.rv_machine.specs.Streams.{streams_of};
+ghost use Rattle.cf_words.specs.Options.{most_limit};
 ghost use Rattle.cf_words.specs.Views.{layout_of};
-ghost use Rattle.cf_core.specs.Processors.{opened};
 ghost use Rattle.cf_rounds.specs.Running.{ran_of as ran_for};
 ghost use Rattle.cf_run.specs.Policies.{IsOpened};
-ghost use Rattle.cli_files.specs.Causes.{input_answered, output_answered};
-ghost use Rattle.cli_files.specs.Deciding.{Counts, Decides, files_decided};
-ghost use Rattle.cli_files.specs.Outside.{outside_of};
-ghost use Rattle.cfpp_cli.specs.Rounds.{rounds_asked, RunsCoreInRounds, BreaksCoreInRounds, ComesInRounds, AnswersRounds, BreaksRounds};
+ghost use Rattle.cli_files.specs.Causes.{files_answered, input_answered, output_answered};
+ghost use Rattle.cli_files.specs.Outside.{outside_of, report_of};
+ghost use Rattle.cfpp_cli.specs.Reporting.{ReportsAlone};
+ghost use Rattle.cfpp_cli.specs.Rounds.{rounds_asked, RunsCoreInRounds, ComesInRounds, AnswersRounds};
 
 use crate::finishing::{close_in_rounds, no_moves};
+use crate::reporting::{Reported, put_answer};
 use cf_core::Core;
 use cf_index::Candidates;
-use cf_io::{Failed, Files, Sink, Source};
+use cf_io::{Files, Sink, Source};
 use cf_rounds::{Clocked, run_rounds};
 use cf_run::Ran;
 use cf_words::LayoutWord;
-use cli_files::{Answer, Loaded, load, no_memory};
+use cli_files::{Loaded, load, no_memory};
 use std::alloc::Global;
 
 /// How a run under a policy finishes that finishes so.
@@ -44,22 +45,18 @@ fn run_core<S: Source, K: Sink, R: Sink>(
     input: &mut S,
     output: &mut K,
     report: &mut R,
-) -> Result<Answer, Failed>
-    requires limit { limit ≤ 1000000000 }
+) -> Reported
+    requires limit { limit ≤ most_limit }
     requires retired { core.old.state.retired ≤ limit }
     requires opened { IsOpened core.old }
-    ensures runs { Decides
+    ensures runs { ReportsAlone
         (RunsCoreInRounds limit core.old core.new
         (streams_of (S.left input.old) (K.written output.old))
         (streams_of (S.left input.new) (K.written output.new)))
-        (BreaksCoreInRounds limit core.old
-        (streams_of (S.left input.old) (K.written output.old))
-        (streams_of (S.left input.new) (K.written output.new)) (R.written report.old) (R.written report.new))
-        (R.written report.old) (R.written report.new) result }
-    ensures files { files_decided result ≡ Ok tt }
-    ensures input { Counts input_answered (S.faults input.old) (S.faults input.new) result }
-    ensures output { Counts output_answered (K.faults output.old) (K.faults output.new) result }
-    ensures report { HasCause (R.faults report.old) (R.faults report.new) result }
+        (report_of (R.written report.old) (R.faults report.old)) (report_of (R.written report.new) (R.faults report.new)) result }
+    ensures files { files_answered result.status ≡ Ok tt }
+    ensures input { HasCause (S.faults input.old) (S.faults input.new) (input_answered result.status) }
+    ensures output { HasCause (K.faults output.old) (K.faults output.new) (output_answered result.status) }
 {
     let mut tally = no_moves();
     let mut rounds = 0;
@@ -84,35 +81,30 @@ fn run_loaded<S: Source, K: Sink, R: Sink>(
     input: &mut S,
     output: &mut K,
     report: &mut R,
-) -> Result<Answer, Failed>
-    requires limit { limit ≤ 1000000000 }
+) -> Reported
+    requires limit { limit ≤ most_limit }
     requires count { loaded.machine.retired ≡ 0 }
-    ensures comes { Decides
+    ensures comes { ReportsAlone
         (ComesInRounds limit loaded.layout loaded.machine
         (streams_of (S.left input.old) (K.written output.old))
         (streams_of (S.left input.new) (K.written output.new)))
-        (BreaksCoreInRounds limit (opened loaded.layout loaded.machine)
-        (streams_of (S.left input.old) (K.written output.old))
-        (streams_of (S.left input.new) (K.written output.new)) (R.written report.old) (R.written report.new))
-        (R.written report.old) (R.written report.new) result }
-    ensures files { files_decided result ≡ Ok tt }
-    ensures input { Counts input_answered (S.faults input.old) (S.faults input.new) result }
-    ensures output { Counts output_answered (K.faults output.old) (K.faults output.new) result }
-    ensures report { HasCause (R.faults report.old) (R.faults report.new) result }
+        (report_of (R.written report.old) (R.faults report.old)) (report_of (R.written report.new) (R.faults report.new)) result }
+    ensures files { files_answered result.status ≡ Ok tt }
+    ensures input { HasCause (S.faults input.old) (S.faults input.new) (input_answered result.status) }
+    ensures output { HasCause (K.faults output.old) (K.faults output.new) (output_answered result.status) }
 {
     let Ok(mut candidates) = Candidates::new(alloc) else {
-        return Ok(no_memory());
+        return put_answer(no_memory(), report);
     };
     match Core::new(alloc, loaded.layout, loaded.machine) {
         Ok(mut core) => run_core(&mut core, &mut candidates, limit, input, output, report),
-        Err(_) => Ok(no_memory()),
+        Err(_) => put_answer(no_memory(), report),
     }
 }
 
 /// Carries out `rounds`: reads the layout and the program, in this order, runs the processor round after round, and puts how
 /// the run finished, how many instructions retired, how many rounds were made, the tally of their moves, the registers and the
-/// picture. A round whose call of the environment failed is not counted, nor its move. It fails where the report does, which
-/// is then put nothing more.
+/// picture. A round whose call of the environment failed is not counted, nor its move.
 pub fn run_in_rounds<F: Files, S: Source, K: Sink, R: Sink>(
     alloc: Global,
     layout: LayoutWord<'_>,
@@ -122,27 +114,21 @@ pub fn run_in_rounds<F: Files, S: Source, K: Sink, R: Sink>(
     input: &mut S,
     output: &mut K,
     report: &mut R,
-) -> Result<Answer, Failed>
-    requires { limit ≤ 1000000000 }
-    ensures answers { Decides
+) -> Reported
+    requires { limit ≤ most_limit }
+    ensures answers { ReportsAlone
         (AnswersRounds (rounds_asked (layout_of layout.entry) program.now limit)
         (outside_of (F.told files.old) (F.faults files.old) (S.left input.old) (S.faults input.old)
         (K.written output.old) (K.faults output.old))
         (outside_of (F.told files.new) (F.faults files.new) (S.left input.new) (S.faults input.new)
         (K.written output.new) (K.faults output.new)))
-        (BreaksRounds (rounds_asked (layout_of layout.entry) program.now limit)
-        (outside_of (F.told files.old) (F.faults files.old) (S.left input.old) (S.faults input.old)
-        (K.written output.old) (K.faults output.old))
-        (outside_of (F.told files.new) (F.faults files.new) (S.left input.new) (S.faults input.new)
-        (K.written output.new) (K.faults output.new)) (R.written report.old) (R.written report.new))
-        (R.written report.old) (R.written report.new) result }
-    ensures files { HasCause (F.faults files.old) (F.faults files.new) (files_decided result) }
-    ensures input { Counts input_answered (S.faults input.old) (S.faults input.new) result }
-    ensures output { Counts output_answered (K.faults output.old) (K.faults output.new) result }
-    ensures report { HasCause (R.faults report.old) (R.faults report.new) result }
+        (report_of (R.written report.old) (R.faults report.old)) (report_of (R.written report.new) (R.faults report.new)) result }
+    ensures files { HasCause (F.faults files.old) (F.faults files.new) (files_answered result.status) }
+    ensures input { HasCause (S.faults input.old) (S.faults input.new) (input_answered result.status) }
+    ensures output { HasCause (K.faults output.old) (K.faults output.new) (output_answered result.status) }
 {
     match load(alloc, layout, program, files) {
         Ok(loaded) => run_loaded(alloc, loaded, limit, input, output, report),
-        Err(answer) => Ok(answer),
+        Err(answer) => put_answer(answer, report),
     }
 }

@@ -1,31 +1,34 @@
-//! The command `run`.
+//! The commands `run` and `moves`.
 
-ghost use Rattle.std.specs.Prelude.{◌≡◌, ◌≤◌, [], IfOk, Ok};
+ghost use Rattle.std.specs.Prelude.{◌≡◌, ◌≤◌, Ok};
 ghost use Rattle.cf_io.specs.Causes.{HasCause};
 ghost use Rattle.rv_machine.specs.Streams.{streams_of};
+ghost use Rattle.cf_words.specs.Options.{most_limit};
 ghost use Rattle.cf_words.specs.Views.{layout_of, schedule_view as asked_schedule};
 ghost use Rattle.cf_core.specs.Processors.{opened};
 ghost use Rattle.cf_run.specs.Policies.{IsOpened};
 ghost use Rattle.cli_files.specs.Causes.{input_answered, output_answered};
-ghost use Rattle.cli_files.specs.Deciding.{Counts, Decides, files_decided};
-ghost use Rattle.cli_files.specs.Outside.{outside_of};
+ghost use Rattle.cli_files.specs.Outside.{outside_of, report_of};
 ghost use Rattle.cli_files.specs.RunFiles.{run_asked, show_of};
+ghost use Rattle.cfpp_cli.specs.Reporting.{Comes, Tells, files_reported};
 ghost use Rattle.cfpp_cli.specs.Run.{chosen_by, RunsCore, BreaksCore, ComesOf, AnswersRun, BreaksRun};
 ghost use Rattle.cli_files.specs.Schedules.{schedule_view, FitsScript};
 
 use crate::by_policy::run_by_policy;
 use crate::by_script::run_by_script;
+use crate::reporting::{Reported, put_answer};
+use crate::tail::{Tail, add_tail};
 use cf_core::Core;
 use cf_index::Candidates;
 use cf_io::{Failed, Files, Sink, Source};
 use cf_run::Show;
 use cf_sched::{Drawn, Round};
 use cf_words::{LayoutWord, RunOptions, Show as ShowWord};
-use cli_files::{Answer, Ready, ReadySchedule, no_memory, read_files};
+use cli_files::{Ready, ReadySchedule, no_memory, read_files};
 use std::alloc::Global;
 
 /// What is shown, by the word for it.
-pub fn shown(word: ShowWord) -> Show
+fn shown(word: ShowWord) -> Show
     ensures { result ≡ show_of word }
 {
     match word {
@@ -37,7 +40,7 @@ pub fn shown(word: ShowWord) -> Show
 
 /// Runs the opened processor by what was read.
 #[tactic(auto, using(cli_files::proofs::Opened::opened_cores))]
-pub fn run_scheduled<S: Source, K: Sink, R: Sink>(
+fn run_scheduled<S: Source, K: Sink, R: Sink>(
     core: &mut Core,
     candidates: &mut Candidates,
     schedule: &ReadySchedule,
@@ -46,24 +49,22 @@ pub fn run_scheduled<S: Source, K: Sink, R: Sink>(
     input: &mut S,
     output: &mut K,
     report: &mut R,
-) -> Result<Answer, Failed>
-    requires limit { limit ≤ 1000000000 }
+) -> Result<Reported, Failed>
+    requires limit { limit ≤ most_limit }
     requires retired { core.old.state.retired ≤ limit }
     requires opened { IsOpened core.old }
     requires fits { FitsScript (schedule_view schedule.now) }
-    ensures runs { Decides
+    ensures runs { Comes
         (RunsCore limit show core.old core.new (chosen_by limit show (schedule_view schedule.now))
         (streams_of (S.left input.old) (K.written output.old))
         (streams_of (S.left input.new) (K.written output.new)) (R.written report.old))
         (BreaksCore limit show core.old (chosen_by limit show (schedule_view schedule.now))
         (streams_of (S.left input.old) (K.written output.old))
         (streams_of (S.left input.new) (K.written output.new)) (R.written report.old) (R.written report.new))
-        (R.written report.old) (R.written report.new) result }
-    ensures closed { IfOk result (λ answer. answer.closing ≡ []) }
-    ensures files { files_decided result ≡ Ok tt }
-    ensures input { Counts input_answered (S.faults input.old) (S.faults input.new) result }
-    ensures output { Counts output_answered (K.faults output.old) (K.faults output.new) result }
-    ensures report { HasCause (R.faults report.old) (R.faults report.new) result }
+        (report_of (R.written report.old) (R.faults report.old)) (report_of (R.written report.new) (R.faults report.new)) result }
+    ensures files { files_reported result ≡ Ok tt }
+    ensures input { Tells input_answered (S.faults input.old) (S.faults input.new) result }
+    ensures output { Tells output_answered (K.faults output.old) (K.faults output.new) result }
 {
     match schedule {
         ReadySchedule::Script(text) => {
@@ -98,66 +99,70 @@ pub fn run_scheduled<S: Source, K: Sink, R: Sink>(
     }
 }
 
-/// Opens the processor of the layout on the machine, and runs it by what was read.
+/// Opens the processor of the layout on the machine, runs it by what was read, and puts what is to stand behind its report.
 #[tactic(auto, using(cli_files::proofs::Opened::opened_cores))]
 pub fn run_ready<S: Source, K: Sink, R: Sink>(
     alloc: Global,
     ready: Ready,
     options: RunOptions<'_>,
+    tail: Tail,
     input: &mut S,
     output: &mut K,
     report: &mut R,
-) -> Result<Answer, Failed>
-    requires limit { options.limit ≤ 1000000000 }
+) -> Result<Reported, Failed>
+    requires limit { options.limit ≤ most_limit }
     requires count { ready.machine.retired ≡ 0 }
     requires fits { FitsScript (schedule_view ready.schedule) }
-    ensures comes { Decides
-        (ComesOf options.entry.limit (show_of options.entry.show) ready.layout ready.machine
+    ensures comes { Comes
+        (ComesOf options.entry.limit (show_of options.entry.show) tail ready.layout ready.machine
         (schedule_view ready.schedule) (streams_of (S.left input.old) (K.written output.old))
         (streams_of (S.left input.new) (K.written output.new)) (R.written report.old))
         (BreaksCore options.entry.limit (show_of options.entry.show) (opened ready.layout ready.machine)
         (chosen_by options.entry.limit (show_of options.entry.show) (schedule_view ready.schedule)) (streams_of (S.left input.old) (K.written output.old))
         (streams_of (S.left input.new) (K.written output.new)) (R.written report.old) (R.written report.new))
-        (R.written report.old) (R.written report.new) result }
-    ensures files { files_decided result ≡ Ok tt }
-    ensures input { Counts input_answered (S.faults input.old) (S.faults input.new) result }
-    ensures output { Counts output_answered (K.faults output.old) (K.faults output.new) result }
-    ensures report { HasCause (R.faults report.old) (R.faults report.new) result }
+        (report_of (R.written report.old) (R.faults report.old)) (report_of (R.written report.new) (R.faults report.new)) result }
+    ensures files { files_reported result ≡ Ok tt }
+    ensures input { Tells input_answered (S.faults input.old) (S.faults input.new) result }
+    ensures output { Tells output_answered (K.faults output.old) (K.faults output.new) result }
 {
     let Ok(mut candidates) = Candidates::new(alloc) else {
-        return Ok(no_memory());
+        return Ok(put_answer(no_memory(), report));
     };
-    match Core::new(alloc, ready.layout, ready.machine) {
-        Ok(mut core) => run_scheduled(
-            &mut core,
-            &mut candidates,
-            &ready.schedule,
-            options.limit,
-            shown(options.show),
-            input,
-            output,
-            report,
-        ),
-        Err(_) => Ok(no_memory()),
-    }
+    let mut core = match Core::new(alloc, ready.layout, ready.machine) {
+        Ok(core) => core,
+        Err(_) => return Ok(put_answer(no_memory(), report)),
+    };
+    let reported = run_scheduled(
+        &mut core,
+        &mut candidates,
+        &ready.schedule,
+        options.limit,
+        shown(options.show),
+        input,
+        output,
+        report,
+    )?;
+    Ok(add_tail(tail, &core, reported, report))
 }
 
-/// Carries out `run`: reads the layout, the program and the script, where the words name one, in this order, runs the
-/// processor by the script, by moves drawn from the seed, or by the fixed rule, and puts what the words ask to be shown, then how the run finished, how many instructions retired, the tally of its
-/// moves, the registers and the picture. It fails where the report does, which is then put nothing more.
+/// Carries out `run` and `moves`: reads the layout, the program and the script, where the words name one, in this order, runs
+/// the processor by the script, by moves drawn from the seed, or by the fixed rule, and puts what the words ask to be shown,
+/// then how the run finished, how many instructions retired, the tally of its moves, the registers and the picture, and
+/// behind that the tail. It fails where the report does in the run, which is then put nothing more.
 pub fn run_processor<F: Files, S: Source, K: Sink, R: Sink>(
     alloc: Global,
     layout: LayoutWord<'_>,
     program: &str,
     options: RunOptions<'_>,
+    tail: Tail,
     files: &mut F,
     input: &mut S,
     output: &mut K,
     report: &mut R,
-) -> Result<Answer, Failed>
-    requires { options.limit ≤ 1000000000 }
-    ensures answers { Decides
-        (AnswersRun (run_asked (layout_of layout.entry) program.now (asked_schedule options.entry.schedule) options.entry.limit options.entry.show)
+) -> Result<Reported, Failed>
+    requires { options.limit ≤ most_limit }
+    ensures answers { Comes
+        (AnswersRun tail (run_asked (layout_of layout.entry) program.now (asked_schedule options.entry.schedule) options.entry.limit options.entry.show)
         (outside_of (F.told files.old) (F.faults files.old) (S.left input.old) (S.faults input.old)
         (K.written output.old) (K.faults output.old))
         (outside_of (F.told files.new) (F.faults files.new) (S.left input.new) (S.faults input.new)
@@ -167,14 +172,13 @@ pub fn run_processor<F: Files, S: Source, K: Sink, R: Sink>(
         (K.written output.old) (K.faults output.old))
         (outside_of (F.told files.new) (F.faults files.new) (S.left input.new) (S.faults input.new)
         (K.written output.new) (K.faults output.new)) (R.written report.old) (R.written report.new))
-        (R.written report.old) (R.written report.new) result }
-    ensures files { HasCause (F.faults files.old) (F.faults files.new) (files_decided result) }
-    ensures input { Counts input_answered (S.faults input.old) (S.faults input.new) result }
-    ensures output { Counts output_answered (K.faults output.old) (K.faults output.new) result }
-    ensures report { HasCause (R.faults report.old) (R.faults report.new) result }
+        (report_of (R.written report.old) (R.faults report.old)) (report_of (R.written report.new) (R.faults report.new)) result }
+    ensures files { HasCause (F.faults files.old) (F.faults files.new) (files_reported result) }
+    ensures input { Tells input_answered (S.faults input.old) (S.faults input.new) result }
+    ensures output { Tells output_answered (K.faults output.old) (K.faults output.new) result }
 {
     match read_files(alloc, layout, program, options, files) {
-        Ok(ready) => run_ready(alloc, ready, options, input, output, report),
-        Err(answer) => Ok(answer),
+        Ok(ready) => run_ready(alloc, ready, options, tail, input, output, report),
+        Err(answer) => Ok(put_answer(answer, report)),
     }
 }

@@ -3,9 +3,9 @@
 ghost use Rattle.std.specs.Prelude.{◌≡◌, false, map, string_bytes};
 ghost use Rattle.cf_io.specs.Causes.{HasCause};
 ghost use Rattle.cli_files.specs.Causes.{input_answered, output_answered};
-ghost use Rattle.cli_files.specs.Deciding.{Counts, files_decided};
-ghost use Rattle.cfpp_cli.specs.Deciding.{Decided};
 ghost use Rattle.cli_files.specs.Outside.{outside_of, report_of};
+ghost use Rattle.cfpp_cli.specs.Deciding.{Decided};
+ghost use Rattle.cfpp_cli.specs.Reporting.{Tells, files_reported};
 ghost use Rattle.cfpp_cli.specs.Top.{IsTop, NoneRose, says_fault};
 
 use crate::asm::assemble_program;
@@ -15,10 +15,11 @@ use crate::help::{HELP, VERSION};
 use crate::listing::list_program;
 use crate::machine::run_program;
 use crate::putting::put_text;
+use crate::reporting::{Reported, put_answer, put_decided};
 use crate::rounds::run_in_rounds;
 use crate::run::run_processor;
-use crate::standing::show_moves;
-use cf_io::{Failed, Files, Sink, Source, put_all};
+use crate::tail::Tail;
+use cf_io::{Failed, Files, Sink, Source};
 use cf_words::{Command, RunOptions, Show, read_words};
 use cli_audit::audit_trace;
 use cli_debug::debug_program;
@@ -26,7 +27,7 @@ use cli_files::{Answer, Status, bad_words};
 use cli_time::compare_layouts;
 use std::alloc::Global;
 
-/// Carries out what the words ask, but for the closing lines of the report.
+/// Carries out what the words ask, and puts its report. It fails where the report does before the lines that close it.
 fn decide<F: Files, S: Source, K: Sink, R: Sink>(
     alloc: Global,
     words: &[String],
@@ -34,17 +35,16 @@ fn decide<F: Files, S: Source, K: Sink, R: Sink>(
     input: &mut S,
     output: &mut K,
     report: &mut R,
-) -> Result<Answer, Failed>
+) -> Result<Reported, Failed>
     ensures decided { Decided (map string_bytes words.now)
         (outside_of (F.told files.old) (F.faults files.old) (S.left input.old) (S.faults input.old)
         (K.written output.old) (K.faults output.old))
         (outside_of (F.told files.new) (F.faults files.new) (S.left input.new) (S.faults input.new)
         (K.written output.new) (K.faults output.new))
-        (R.written report.old) (R.written report.new) result }
-    ensures files { HasCause (F.faults files.old) (F.faults files.new) (files_decided result) }
-    ensures input { Counts input_answered (S.faults input.old) (S.faults input.new) result }
-    ensures output { Counts output_answered (K.faults output.old) (K.faults output.new) result }
-    ensures report { HasCause (R.faults report.old) (R.faults report.new) result }
+        (report_of (R.written report.old) (R.faults report.old)) (report_of (R.written report.new) (R.faults report.new)) result }
+    ensures files { HasCause (F.faults files.old) (F.faults files.new) (files_reported result) }
+    ensures input { Tells input_answered (S.faults input.old) (S.faults input.new) result }
+    ensures output { Tells output_answered (K.faults output.old) (K.faults output.new) result }
 {
     match read_words(words) {
         Ok(Command::Machine { program, options }) => {
@@ -57,7 +57,15 @@ fn decide<F: Files, S: Source, K: Sink, R: Sink>(
                 options,
             },
         ) => run_processor(
-            alloc, layout, program, options, files, input, output, report,
+            alloc,
+            layout,
+            program,
+            options,
+            Tail::Nothing,
+            files,
+            input,
+            output,
+            report,
         ),
         Ok(
             Command::Moves {
@@ -72,33 +80,57 @@ fn decide<F: Files, S: Source, K: Sink, R: Sink>(
                 limit,
                 show: Show::Report,
             };
-            show_moves(
-                alloc, layout, program, options, files, input, output, report,
+            run_processor(
+                alloc,
+                layout,
+                program,
+                options,
+                Tail::Moves,
+                files,
+                input,
+                output,
+                report,
             )
         }
-        Ok(Command::Check { layout }) => Ok(check_layout(alloc, layout, files, output)),
-        Ok(Command::Asm { source }) => Ok(assemble_program(alloc, source, files, output)),
-        Ok(Command::List { program }) => Ok(list_program(alloc, program, files, output)),
+        Ok(Command::Check { layout }) => Ok(put_answer(
+            check_layout(alloc, layout, files, output),
+            report,
+        )),
+        Ok(Command::Asm { source }) => Ok(put_answer(
+            assemble_program(alloc, source, files, output),
+            report,
+        )),
+        Ok(Command::List { program }) => Ok(put_answer(
+            list_program(alloc, program, files, output),
+            report,
+        )),
         Ok(Command::Gen { number, run: true }) => run_drawn(alloc, number, input, output, report),
-        Ok(Command::Gen { number, run: false }) => Ok(put_drawn(number, output)),
-        Ok(Command::Help) => Ok(put_text(HELP, output)),
-        Ok(Command::Version) => Ok(put_text(VERSION, output)),
+        Ok(Command::Gen { number, run: false }) => Ok(put_answer(
+            put_drawn(number, output),
+            report,
+        )),
+        Ok(Command::Help) => Ok(put_answer(put_text(HELP, output), report)),
+        Ok(Command::Version) => Ok(put_answer(put_text(VERSION, output), report)),
         Ok(
             Command::Rounds {
                 layout,
                 program,
                 limit,
             },
-        ) => run_in_rounds(alloc, layout, program, limit, files, input, output, report),
+        ) => Ok(run_in_rounds(alloc, layout, program, limit, files, input, output, report)),
         Ok(
             Command::Audit {
                 layout,
                 program,
                 trace,
             },
-        ) => Ok(audit_trace(alloc, layout, program, trace, files, input)),
+        ) => Ok(put_answer(
+            audit_trace(alloc, layout, program, trace, files, input),
+            report,
+        )),
         Ok(Command::Debug { layout, program }) => {
-            debug_program(alloc, layout, program, files, input, output, report)
+            let decided = debug_program(alloc, layout, program, files, input, output, report);
+            put_decided(decided, report)
         }
         Ok(
             Command::Time {
@@ -107,19 +139,25 @@ fn decide<F: Files, S: Source, K: Sink, R: Sink>(
                 layouts,
                 options,
             },
-        ) => compare_layouts(
-            alloc,
-            delays,
-            program,
-            layouts,
-            options.limit,
-            files,
-            report,
-        ),
-        Err(index) => Ok(Answer {
-            status: Status::BadWords(index),
-            closing: bad_words(index),
-        }),
+        ) => {
+            let decided = compare_layouts(
+                alloc,
+                delays,
+                program,
+                layouts,
+                options.limit,
+                files,
+                report,
+            );
+            put_decided(decided, report)
+        }
+        Err(index) => {
+            let answer = Answer {
+                status: Status::BadWords(index),
+                closing: bad_words(index),
+            };
+            Ok(put_answer(answer, report))
+        }
     }
 }
 
@@ -170,8 +208,8 @@ pub fn cfpp<F: Files, S: Source, K: Sink, R: Sink>(
         (report_of (R.written report.new) (R.faults report.new)) }
 {
     match decide(alloc, words, files, input, output, report) {
-        Ok(answer) => match put_all(report, answer.closing.bytes()) {
-            Ok(()) => answer.status,
+        Ok(reported) => match reported.put {
+            Ok(()) => reported.status,
             Err(_) => Status::WriteFault,
         },
         Err(_) => Status::WriteFault,

@@ -5,6 +5,7 @@ ghost use Rattle.std.specs.Prelude.{◌≡◌, ◌≤◌, length, Ok};
 ghost use Rattle.cf_io.specs.Causes.{HasCause};
 ghost use Rattle.cf_words.specs.Views.{layout_of};
 ghost use Rattle.cli_files.specs.Causes.{files_answered, input_answered, output_answered};
+ghost use Rattle.cli_audit.specs.Traces.{most_trace};
 ghost use Rattle.cli_audit.specs.Audit.{audit_asked, side, AnswersAudit, ComesOfTrace, status_of as status_for, text_of};
 
 use crate::reports::{bad_trace, trace_of};
@@ -13,7 +14,7 @@ use cf_audit::{Audit, audit};
 use cf_core::Core;
 use cf_io::{Files, Source};
 use cf_words::LayoutWord;
-use cli_files::{Answer, Loaded, Status, TraceFault, Which, line, load, no_memory};
+use cli_files::{Answer, Loaded, Status, TraceFault, Which, load, no_memory, unread};
 use std::alloc::Global;
 
 /// The answer that tells what an audit found.
@@ -33,17 +34,14 @@ fn answer_of(found: Audit) -> Answer
                 closing: bad_trace(fault),
             }
         }
-        Audit::ReadFault => Answer {
-            status: Status::ReadFault(Which::Input),
-            closing: line(b"read fault input"),
-        },
+        Audit::ReadFault => unread(Which::Input),
     }
 }
 
 /// Opens the processor of the layout on the machine, and audits a text as a trace of it.
 fn audit_loaded<S: Source>(alloc: Global, loaded: Loaded, text: &[u8], input: &mut S) -> Answer
     requires count { loaded.machine.retired ≡ 0 }
-    requires size { length text.now ≤ 16777216 }
+    requires size { length text.now ≤ most_trace }
     ensures comes { ComesOfTrace loaded.layout loaded.machine text.now (S.left input.old) (S.left input.new)
         result.status result.closing }
     ensures files { files_answered result.status ≡ Ok tt }

@@ -7,7 +7,7 @@ ghost use Rattle.cli_audit.specs.Traces.{IsTraceAt, LacksTrace};
 
 use crate::reports::bad_trace;
 use cf_io::{Files, FilesErr};
-use cli_files::{Answer, Status, TraceFault, Which, line, no_memory};
+use cli_files::{Answer, Status, TraceFault, Which, no_memory, unread};
 use std::alloc::Global;
 
 /// The greatest length of a trace, in bytes.
@@ -26,10 +26,7 @@ pub fn trace_at<F: Files>(alloc: Global, name: &str, files: &mut F) -> Result<Ve
             closing: bad_trace(TraceFault::TooLong),
         }),
         Ok(text) => Ok(text),
-        Err(FilesErr::Failed) => Err(Answer {
-            status: Status::ReadFault(Which::Trace),
-            closing: line(b"read fault trace"),
-        }),
+        Err(FilesErr::Failed) => Err(unread(Which::Trace)),
         Err(FilesErr::NoMemory) => Err(no_memory()),
     }
 }

@@ -6,7 +6,7 @@ ghost use Rattle.cf_io.specs.Causes.{HasCause};
 ghost use Rattle.rv_machine.specs.Streams.{streams_of};
 ghost use Rattle.cf_words.specs.Views.{layout_of};
 ghost use Rattle.cf_debug.specs.declared.answer.Debugged.TheVariants.{ReportFault};
-ghost use Rattle.cli_files.specs.Causes.{files_answered, input_answered, output_answered};
+ghost use Rattle.cli_files.specs.Causes.{input_answered, output_answered};
 ghost use Rattle.cli_files.specs.Deciding.{Counts, Decides, files_decided};
 ghost use Rattle.cli_files.specs.Outside.{outside_of};
 ghost use Rattle.cli_debug.specs.Debug.{AnswersDebug, BreaksDebug, BreaksSession, ComesOfCommands, status_of as status_for, closing_of as closing_for};
@@ -15,35 +15,9 @@ use cf_core::Core;
 use cf_debug::{Debugged, Ring, debug};
 use cf_index::Candidates;
 use cf_io::{Failed, Files, Sink, Source};
-use cf_texts::Page;
 use cf_words::LayoutWord;
-use cli_files::{Answer, Loaded, Status, Which, line, load, no_memory};
+use cli_files::{Answer, Loaded, Status, Which, done, line, load, no_memory, unread, write_fault};
 use std::alloc::Global;
-
-/// The status of a session that ended so.
-fn status_of(ended: Debugged) -> Status
-    ensures status { result ≡ status_for ended }
-    ensures files { files_answered result ≡ Ok tt }
-{
-    match ended {
-        Debugged::Done => Status::Done,
-        Debugged::Limit => Status::Limit(None),
-        Debugged::ReadFault => Status::ReadFault(Which::Input),
-        Debugged::WriteFault | Debugged::ReportFault => Status::WriteFault,
-    }
-}
-
-/// The line that closes its report, where it did not end as the commands wanted.
-fn closing_of(ended: Debugged) -> Page
-    ensures { result ≡ closing_for ended }
-{
-    match ended {
-        Debugged::Done | Debugged::ReportFault => Page::new(),
-        Debugged::Limit => line(b"limit"),
-        Debugged::ReadFault => line(b"read fault input"),
-        Debugged::WriteFault => line(b"write fault output"),
-    }
-}
 
 /// The answer of a session that ended so; it fails where the report did.
 fn answer_of(ended: Debugged) -> Result<Answer, Failed>
@@ -54,11 +28,14 @@ fn answer_of(ended: Debugged) -> Result<Answer, Failed>
     ensures files { files_decided result ≡ Ok tt }
 {
     match ended {
-        Debugged::ReportFault => Err(Failed),
-        _ => Ok(Answer {
-            status: status_of(ended),
-            closing: closing_of(ended),
+        Debugged::Done => Ok(done()),
+        Debugged::Limit => Ok(Answer {
+            status: Status::Limit(None),
+            closing: line(b"limit"),
         }),
+        Debugged::ReadFault => Ok(unread(Which::Input)),
+        Debugged::WriteFault => Ok(write_fault()),
+        Debugged::ReportFault => Err(Failed),
     }
 }
 

@@ -1,17 +1,14 @@
 //! The layouts that words of the command line name.
 
-ghost use Rattle.std.specs.Prelude.{◌≡◌, IfOk, IfErr, codes};
+ghost use Rattle.std.specs.Prelude.{IfOk, IfErr};
 ghost use Rattle.cf_io.specs.Causes.{HasCause};
-ghost use Rattle.cf_texts.specs.Texts.{line as line_of};
 ghost use Rattle.cf_words.specs.Words.{in_file};
 ghost use Rattle.cf_words.specs.Views.{layout_of};
 ghost use Rattle.layout_file.specs.Answers.{Describes};
-ghost use Rattle.cli_files.specs.declared.status.Status.TheVariants.{NoMemory as Refused};
 ghost use Rattle.cli_files.specs.Causes.{files_read};
 ghost use Rattle.cli_files.specs.Layouts.{IsNoLayout, IsLayoutAt, LacksLayout};
 
-use crate::answer::Answer;
-use crate::refusals::line;
+use crate::answer::{Answer, no_memory, unread};
 use crate::status::{Status, Which};
 use cf_io::{Files, FilesErr};
 use cf_layout::{Layout, plain};
@@ -22,17 +19,6 @@ use std::alloc::Global;
 
 /// The greatest length of a layout file, in bytes.
 const MOST_BYTES: u64 = 65_536;
-
-/// The answer where memory was refused.
-pub fn no_memory() -> Answer
-    ensures status { result.status ≡ Refused }
-    ensures closing { result.closing ≡ line_of (codes "no memory") }
-{
-    Answer {
-        status: Status::NoMemory,
-        closing: line(b"no memory"),
-    }
-}
 
 /// The layout that a file of this content describes, or the answer where it describes none.
 fn read_content(alloc: Global, file: &[u8]) -> Result<Layout, Answer>
@@ -59,10 +45,7 @@ fn read_file<F: Files>(alloc: Global, name: &str, files: &mut F) -> Result<Layou
 {
     match files.read(alloc, name, MOST_BYTES + 1) {
         Ok(file) => read_content(alloc, file.as_slice()),
-        Err(FilesErr::Failed) => Err(Answer {
-            status: Status::ReadFault(Which::Layout),
-            closing: line(b"read fault layout"),
-        }),
+        Err(FilesErr::Failed) => Err(unread(Which::Layout)),
         Err(FilesErr::NoMemory) => Err(no_memory()),
     }
 }

@@ -14,12 +14,12 @@ mod schedules;
 mod scripts;
 mod status;
 
-pub use answer::Answer;
-pub use layouts::{layout_at, no_memory};
+pub use answer::{Answer, done, no_memory, no_program, unread, write_fault};
+pub use layouts::layout_at;
 pub use loading::{Loaded, load};
 pub use opening::{MOST_BYTES, is_elf, open_again};
 pub use programs::{open_image, program_at};
-pub use refusals::{bad_program, bad_words, line};
+pub use refusals::{bad_words, line};
 pub use run_files::{Ready, read_files};
 pub use schedules::ReadySchedule;
 pub use status::{DelaysFault, ProgramErr, ScriptFault, Status, TraceFault, Which};

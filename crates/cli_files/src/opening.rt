@@ -6,7 +6,7 @@ ghost use Rattle.mem_regions.specs.Causes.{IsAccepted};
 ghost use Rattle.mem_regions.specs.Loading.{LiesIn, loaded};
 ghost use Rattle.mem_regions.specs.Refusal.{refusal, refusal_told};
 ghost use Rattle.rv_machine.specs.Machine.{start_hart};
-ghost use Rattle.cli_files.specs.Image.{IsProgram, opened};
+ghost use Rattle.cli_files.specs.Image.{IsProgram, most_bytes, opened};
 ghost use Rattle.cli_files.specs.Opening.{IsNotOpened};
 
 use crate::parts::{MOST_PARTS, STACK, count_parts, parts_of};
@@ -51,7 +51,7 @@ fn load(alloc: Global, image: &[u8], parts: &[Part], entry: u32) -> Result<Machi
 
 #[tactic(auto, using(crate::proofs::Flat::flat), unfolding(crate::specs::Image::opened))]
 fn open_flat(alloc: Global, image: &[u8]) -> Result<Machine, OpenErr>
-    requires fits { length image.now ≤ 33554432 }
+    requires fits { length image.now ≤ most_bytes }
     requires flat { starts_with_elf image.now ≡ false }
     ensures program { IfOk result (λ machine. IsProgram image.now) }
     ensures machine { IfOk result (λ machine. machine ≡ opened image.now) }
@@ -75,7 +75,7 @@ fn open_flat(alloc: Global, image: &[u8]) -> Result<Machine, OpenErr>
 
 #[tactic(auto, using(crate::proofs::Segments::segment_parts), unfolding(crate::specs::Image::opened))]
 fn open_elf(alloc: Global, image: &[u8]) -> Result<Machine, OpenErr>
-    requires fits { length image.now ≤ 33554432 }
+    requires fits { length image.now ≤ most_bytes }
     requires elf { starts_with_elf image.now ≡ true }
     ensures program { IfOk result (λ machine. IsProgram image.now) }
     ensures machine { IfOk result (λ machine. machine ≡ opened image.now) }

@@ -6,11 +6,9 @@ ghost use Rattle.cli_files.specs.Causes.{files_read};
 ghost use Rattle.cli_files.specs.Image.{IsProgram, opened};
 ghost use Rattle.cli_files.specs.Programs.{IsProgramAt, LacksProgram, IsNoProgram};
 
-use crate::answer::Answer;
-use crate::layouts::no_memory;
+use crate::answer::{Answer, no_memory, no_program, unread};
 use crate::opening::{MOST_BYTES, OpenErr, open};
-use crate::refusals::{bad_program, line};
-use crate::status::{Status, Which};
+use crate::status::Which;
 use cf_io::{Files, FilesErr};
 use rv_machine::Machine;
 use std::alloc::Global;
@@ -24,10 +22,7 @@ pub fn open_image(alloc: Global, image: &[u8]) -> Result<Machine, Answer>
 {
     match open(alloc, image) {
         Ok(machine) => Ok(machine),
-        Err(OpenErr::Refused(error)) => Err(Answer {
-            status: Status::BadProgram(error),
-            closing: bad_program(error),
-        }),
+        Err(OpenErr::Refused(error)) => Err(no_program(error)),
         Err(OpenErr::NoMemory) => Err(no_memory()),
     }
 }
@@ -42,10 +37,7 @@ pub fn program_at<F: Files>(alloc: Global, name: &str, files: &mut F) -> Result<
 {
     match files.read(alloc, name, MOST_BYTES + 1) {
         Ok(image) => open_image(alloc, image.as_slice()),
-        Err(FilesErr::Failed) => Err(Answer {
-            status: Status::ReadFault(Which::Program),
-            closing: line(b"read fault program"),
-        }),
+        Err(FilesErr::Failed) => Err(unread(Which::Program)),
         Err(FilesErr::NoMemory) => Err(no_memory()),
     }
 }

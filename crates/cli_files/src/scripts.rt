@@ -5,8 +5,7 @@ ghost use Rattle.cf_io.specs.Causes.{HasCause};
 ghost use Rattle.cli_files.specs.Causes.{files_read};
 ghost use Rattle.cli_files.specs.Scripts.{IsScriptAt, LacksScript};
 
-use crate::answer::Answer;
-use crate::layouts::no_memory;
+use crate::answer::{Answer, no_memory, unread};
 use crate::refusals::line;
 use crate::status::{ScriptFault, Status, Which};
 use cf_io::{Files, FilesErr};
@@ -28,10 +27,7 @@ pub fn script_at<F: Files>(alloc: Global, name: &str, files: &mut F) -> Result<V
             closing: line(b"bad script: TooLong"),
         }),
         Ok(text) => Ok(text),
-        Err(FilesErr::Failed) => Err(Answer {
-            status: Status::ReadFault(Which::Script),
-            closing: line(b"read fault script"),
-        }),
+        Err(FilesErr::Failed) => Err(unread(Which::Script)),
         Err(FilesErr::NoMemory) => Err(no_memory()),
     }
 }

@@ -17,8 +17,7 @@ use crate::measuring::measure;
 use crate::reading::{Ready, read_files};
 use arrayvec::ArrayVec;
 use cf_io::{Failed, Files, Sink};
-use cf_texts::Page;
-use cli_files::{Answer, Status, no_memory};
+use cli_files::{Answer, done, no_memory};
 use std::alloc::Global;
 
 /// Why there is no line for each layout.
@@ -98,10 +97,7 @@ fn compare_ready<R: Sink>(
     };
     let least = first_least(times.as_slice());
     put_least(word_at(words, least), report)?;
-    Ok(Answer {
-        status: Status::Done,
-        closing: Page::new(),
-    })
+    Ok(done())
 }
 
 /// Carries out `time`: reads the delays, the one to eight layouts in their order and the program, and runs the program on each

@@ -11,7 +11,7 @@ ghost use Rattle.cli_time.specs.Refusals.{bad_delays as bad_delays_text};
 use crate::refusals::bad_delays;
 use cf_io::{Files, FilesErr};
 use cf_timed::{Delays, read_delays};
-use cli_files::{Answer, DelaysFault, Status, Which, line, no_memory};
+use cli_files::{Answer, DelaysFault, Status, Which, no_memory, unread};
 use std::alloc::Global;
 
 /// The greatest length of a file of delays, in bytes.
@@ -55,10 +55,7 @@ pub(crate) fn delays_at<F: Files>(
 {
     match files.read(alloc, name, MOST_BYTES + 1) {
         Ok(text) => read_text(text.as_slice()),
-        Err(FilesErr::Failed) => Err(Answer {
-            status: Status::ReadFault(Which::Delays),
-            closing: line(b"read fault delays"),
-        }),
+        Err(FilesErr::Failed) => Err(unread(Which::Delays)),
         Err(FilesErr::NoMemory) => Err(no_memory()),
     }
 }

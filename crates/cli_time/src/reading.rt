@@ -14,7 +14,7 @@ use crate::layout_files::layouts_at;
 use cf_io::{Files, FilesErr};
 use cf_layout::Layout;
 use cf_timed::Delays;
-use cli_files::{Answer, MOST_BYTES, Status, Which, line, no_memory, open_image};
+use cli_files::{Answer, MOST_BYTES, Which, no_memory, open_image, unread};
 use std::alloc::Global;
 
 /// What the runs begin with: the delays, the layouts in their order, and the bytes of the program's file.
@@ -38,10 +38,7 @@ fn image_at<F: Files>(alloc: Global, name: &str, files: &mut F) -> Result<Vec<u8
             Ok(_) => Ok(image),
             Err(answer) => Err(answer),
         },
-        Err(FilesErr::Failed) => Err(Answer {
-            status: Status::ReadFault(Which::Program),
-            closing: line(b"read fault program"),
-        }),
+        Err(FilesErr::Failed) => Err(unread(Which::Program)),
         Err(FilesErr::NoMemory) => Err(no_memory()),
     }
 }

@@ -1,5 +1,5 @@
 -- The lines of the next siding stand behind those so far.
-use Rattle.std.proofs.Common.{◌≡◌, ◌<◌, length, arith}
+use Rattle.std.proofs.Common.{◌≡◌, length, arith}
 use Rattle.cf_report.proofs.Puttings.{has-front, has-more, has-same}
 use Rattle.cf_closing.proofs.Listed.{sidings-next, sidings-behind}
 use Rattle.cf_closing.proofs.moves.put_slides.Goals as goal

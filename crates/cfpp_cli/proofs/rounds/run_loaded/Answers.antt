@@ -1,7 +1,5 @@
-use Rattle.std.proofs.Common.{inr, refl, []}
 use Rattle.cli_files.proofs.Opened.{newly-opened}
 use Rattle.cfpp_cli.proofs.InRounds.{rounds-come}
-use Rattle.cfpp_cli.proofs.Reports.{writes-nothing}
 use Rattle.cfpp_cli.proofs.rounds.run_loaded.Goals as goal
 
 pub run_core-requires-clause-opened : goal.run_core-requires-clause-opened
@@ -9,15 +7,4 @@ run_core-requires-clause-opened g c = newly-opened _ _ _ c.in-Ok-new.ensures
 
 pub returns-in-Ok-new-clause-comes : goal.returns-in-Ok-new-clause-comes
 returns-in-Ok-new-clause-comes g c =
-    rounds-come _ _ _ _ _ _ _ _ _ _ c.in-Ok-new.ensures c.requires.count c.run_core.ensures.runs
-
-pub returns-in-Err-clause-comes : goal.returns-in-Err-clause-comes
-returns-in-Err-clause-comes g c = (
-  [],
-  writes-nothing _,
-  inr (record {
-    status_is = c.no_memory-in-Err.ensures.status;
-    reports = c.no_memory-in-Err.ensures.closing;
-    streams = refl;
-  }),
-)
+    rounds-come _ _ _ _ _ _ _ _ _ c.run_core.result c.in-Ok-new.ensures c.requires.count c.run_core.ensures.runs

@@ -1,14 +1,16 @@
-use Rattle.std.proofs.Common.{◌≡◌, true, false, map, Ok, Err, refl, []}
+use Rattle.std.proofs.Common.{◌≡◌, ◌++◌, true, false, map, Ok, Err, refl, []}
 use Rattle.std.specs.Prelude.{string_bytes}
 use Rattle.rv_machine.specs.Streams.{streams_of}
 use Rattle.cf_words.specs.Words.{layout_in, machine, run, moves, rounds, debug, time, audit, check, asm, listing, gen, help, version}
 use Rattle.cf_words.specs.Views.{layout_of, schedule_view}
 use Rattle.cfpp_cli.specs.Drawn.{AnswersDrawn, BreaksDrawn}
+use Rattle.cli_debug.specs.Debug.{AnswersDebug, BreaksDebug}
 use Rattle.cli_files.specs.Causes.{input_answered, output_answered}
+use Rattle.cli_files.specs.Outside.{outside_of, report_of}
 use Rattle.cli_time.specs.Asked.{time_asked}
 use Rattle.cli_time.specs.Times.{AnswersTime, BreaksTime}
-use Rattle.cfpp_cli.proofs.Reports.{writes-nothing}
-use Rattle.cfpp_cli.proofs.RunFiles.{decides-beside, untouched}
+use Rattle.cfpp_cli.proofs.PutReports.{shows-none, decided-comes, decided-tells, decided-files}
+use Rattle.cfpp_cli.proofs.RunFiles.{comes-beside, untouched}
 use Rattle.cfpp_cli.proofs.top.decide.Goals as goal
 
 pub returns-in-Ok-Machine-clause-decided : goal.returns-in-Ok-Machine-clause-decided
@@ -17,29 +19,8 @@ returns-in-Ok-Machine-clause-decided g c =
     record {
       reading = Ok (machine c.in-Ok-Machine.program.now o.limit o.show_retired o.mul);
       reads = rw c.in-Ok-Machine.field-0-is at c.in-Ok-Machine.ensures.answers;
-      decides = c.run_program.ensures.answers;
+      comes = c.run_program.ensures.answers;
     }
-
-pub returns-in-Ok-Check-clause-decided : goal.returns-in-Ok-Check-clause-decided
-returns-in-Ok-Check-clause-decided g c = record {
-  reading = Ok (check (layout_of c.in-Ok-Check.layout));
-  reads = rw c.in-Ok-Check.field-0-is at c.in-Ok-Check.ensures.answers;
-  decides = ([], writes-nothing _, (c.check_layout.ensures.answers, refl));
-}
-
-pub returns-in-Ok-List-clause-decided : goal.returns-in-Ok-List-clause-decided
-returns-in-Ok-List-clause-decided g c = record {
-  reading = Ok (listing c.in-Ok-List.program.now);
-  reads = rw c.in-Ok-List.field-0-is at c.in-Ok-List.ensures.answers;
-  decides = ([], writes-nothing _, (c.list_program.ensures.answers, refl));
-}
-
-pub returns-in-Ok-Asm-clause-decided : goal.returns-in-Ok-Asm-clause-decided
-returns-in-Ok-Asm-clause-decided g c = record {
-  reading = Ok (asm c.in-Ok-Asm.source.now);
-  reads = rw c.in-Ok-Asm.field-0-is at c.in-Ok-Asm.ensures.answers;
-  decides = ([], writes-nothing _, (c.assemble_program.ensures.answers, refl));
-}
 
 pub returns-in-Ok-Run-clause-decided : goal.returns-in-Ok-Run-clause-decided
 returns-in-Ok-Run-clause-decided g c =
@@ -47,7 +28,7 @@ returns-in-Ok-Run-clause-decided g c =
     record {
       reading = Ok (run (layout_of c.in-Ok-Run.layout) c.in-Ok-Run.program.now (schedule_view o.schedule) o.limit o.show);
       reads = rw c.in-Ok-Run.field-0-is at c.in-Ok-Run.ensures.answers;
-      decides = c.run_processor.ensures.answers;
+      comes = c.run_processor.ensures.answers;
     }
 
 pub returns-in-Ok-Moves-clause-decided : goal.returns-in-Ok-Moves-clause-decided
@@ -55,112 +36,173 @@ returns-in-Ok-Moves-clause-decided g c =
     record {
       reading = Ok (moves (layout_of c.in-Ok-Moves.layout) c.in-Ok-Moves.program.now (schedule_view c.in-Ok-Moves.schedule) c.in-Ok-Moves.limit);
       reads = rw c.in-Ok-Moves.field-0-is at c.in-Ok-Moves.ensures.answers;
-      decides = c.show_moves.ensures.answers;
+      comes = c.run_processor-in-Ok-Moves.ensures.answers;
+    }
+
+pub returns-in-Ok-Check-clause-decided : goal.returns-in-Ok-Check-clause-decided
+returns-in-Ok-Check-clause-decided g c =
+    record {
+      reading = Ok (check (layout_of c.in-Ok-Check.layout));
+      reads = rw c.in-Ok-Check.field-0-is at c.in-Ok-Check.ensures.answers;
+      comes = ([], _, rw c.put_answer.ensures.status (c.check_layout.ensures.answers, refl), shows-none _ _ _ _ c.put_answer.ensures.puts);
+    }
+
+pub returns-in-Ok-Asm-clause-decided : goal.returns-in-Ok-Asm-clause-decided
+returns-in-Ok-Asm-clause-decided g c =
+    record {
+      reading = Ok (asm c.in-Ok-Asm.source.now);
+      reads = rw c.in-Ok-Asm.field-0-is at c.in-Ok-Asm.ensures.answers;
+      comes = ([], _, rw c.put_answer-in-Ok-Asm.ensures.status (c.assemble_program.ensures.answers, refl), shows-none _ _ _ _ c.put_answer-in-Ok-Asm.ensures.puts);
+    }
+
+pub returns-in-Ok-List-clause-decided : goal.returns-in-Ok-List-clause-decided
+returns-in-Ok-List-clause-decided g c =
+    record {
+      reading = Ok (listing c.in-Ok-List.program.now);
+      reads = rw c.in-Ok-List.field-0-is at c.in-Ok-List.ensures.answers;
+      comes = ([], _, rw c.put_answer-in-Ok-List.ensures.status (c.list_program.ensures.answers, refl), shows-none _ _ _ _ c.put_answer-in-Ok-List.ensures.puts);
+    }
+
+pub returns-in-Ok-Gen-default-false-clause-decided : goal.returns-in-Ok-Gen-default-false-clause-decided
+returns-in-Ok-Gen-default-false-clause-decided g c =
+    record {
+      reading = Ok (gen c.in-Ok-Gen-default-false.number false);
+      reads = rw (c.in-Ok-Gen-default-false.field-0-is, c.in-Ok-Gen-default-false.field-0-1-test) at
+          c.in-Ok-Gen-default-false.ensures.answers;
+      comes = ([], _, rw c.put_answer-in-Ok-Gen-default-false.ensures.status (record { put = c.put_drawn.ensures.comes; files = refl; input = refl }), shows-none _ _ _ _ c.put_answer-in-Ok-Gen-default-false.ensures.puts);
+    }
+
+pub returns-in-Ok-Help-clause-decided : goal.returns-in-Ok-Help-clause-decided
+returns-in-Ok-Help-clause-decided g c =
+    record {
+      reading = Ok help;
+      reads = rw c.in-Ok-Help.field-0-is at c.in-Ok-Help.ensures.answers;
+      comes = ([], _, rw c.put_answer-in-Ok-Help.ensures.status (record { put = c.put_text.ensures.comes; files = refl; input = refl }), shows-none _ _ _ _ c.put_answer-in-Ok-Help.ensures.puts);
+    }
+
+pub returns-in-Ok-Version-clause-decided : goal.returns-in-Ok-Version-clause-decided
+returns-in-Ok-Version-clause-decided g c =
+    record {
+      reading = Ok version;
+      reads = rw c.in-Ok-Version.field-0-is at c.in-Ok-Version.ensures.answers;
+      comes = ([], _, rw c.put_answer-in-Ok-Version.ensures.status (record { put = c.put_text-in-Ok-Version.ensures.comes; files = refl; input = refl }), shows-none _ _ _ _ c.put_answer-in-Ok-Version.ensures.puts);
+    }
+
+pub returns-in-Ok-Audit-clause-decided : goal.returns-in-Ok-Audit-clause-decided
+returns-in-Ok-Audit-clause-decided g c =
+    record {
+      reading = Ok (audit (layout_of c.in-Ok-Audit.layout) c.in-Ok-Audit.program.now c.in-Ok-Audit.trace.now);
+      reads = rw c.in-Ok-Audit.field-0-is at c.in-Ok-Audit.ensures.answers;
+      comes = ([], _, rw c.put_answer-in-Ok-Audit.ensures.status (c.audit_trace.ensures.answers, refl), shows-none _ _ _ _ c.put_answer-in-Ok-Audit.ensures.puts);
+    }
+
+pub returns-in-Err-clause-decided : goal.returns-in-Err-clause-decided
+returns-in-Err-clause-decided g c =
+    record {
+      reading = Err c.in-Err.index;
+      reads = c.in-Err.ensures.answers;
+      comes = ([], _, rw c.put_answer-in-Err.ensures.status (record { status_is = refl; files = refl; reports = c.bad_words.ensures; streams = refl }), shows-none _ _ _ _ c.put_answer-in-Err.ensures.puts);
     }
 
 pub returns-in-Ok-Gen-default-true-clause-decided : goal.returns-in-Ok-Gen-default-true-clause-decided
 returns-in-Ok-Gen-default-true-clause-decided g c =
     let n = c.in-Ok-Gen-default-true.number in
+    let told = g.R.Sink.written in
     let before = streams_of (g.S.Source.left c.args.input.now) (g.K.Sink.written c.args.output.now) in
     let after = streams_of (g.S.Source.left c.run_drawn.new.input) (g.K.Sink.written c.run_drawn.new.output) in
     record {
       reading = Ok (gen n true);
       reads = rw (c.in-Ok-Gen-default-true.field-0-is, c.in-Ok-Gen-default-true.field-0-1-test) at
           c.in-Ok-Gen-default-true.ensures.answers;
-      decides = decides-beside (AnswersDrawn n before after (g.R.Sink.written c.args.report.now))
-          (BreaksDrawn n before after (g.R.Sink.written c.args.report.now) (g.R.Sink.written c.run_drawn.new.report))
-          (g.F.Files.told c.args.files.now ≡ g.F.Files.told c.args.files.now) _ _ _ refl c.run_drawn.ensures.answers;
+      comes = comes-beside (AnswersDrawn n before after (told c.args.report.now))
+          (BreaksDrawn n before after (told c.args.report.now) (told c.run_drawn.new.report))
+          (g.F.Files.told c.args.files.now ≡ g.F.Files.told c.args.files.now) _ _ c.run_drawn.result refl c.run_drawn.ensures.answers;
     }
 
-pub returns-in-Ok-Gen-default-false-clause-decided : goal.returns-in-Ok-Gen-default-false-clause-decided
-returns-in-Ok-Gen-default-false-clause-decided g c = record {
-  reading = Ok (gen c.in-Ok-Gen-default-false.number false);
-  reads = rw (c.in-Ok-Gen-default-false.field-0-is, c.in-Ok-Gen-default-false.field-0-1-test) at
-      c.in-Ok-Gen-default-false.ensures.answers;
-  decides = (
-    [],
-    writes-nothing _,
-    record { put = c.put_drawn.ensures.comes; files = refl; input = refl },
-  );
-}
-
-pub returns-in-Ok-Help-clause-decided : goal.returns-in-Ok-Help-clause-decided
-returns-in-Ok-Help-clause-decided g c = record {
-  reading = Ok help;
-  reads = rw c.in-Ok-Help.field-0-is at c.in-Ok-Help.ensures.answers;
-  decides = (
-    [],
-    writes-nothing _,
-    record { put = c.put_text.ensures.comes; files = refl; input = refl },
-  );
-}
-
-pub returns-in-Ok-Version-clause-decided : goal.returns-in-Ok-Version-clause-decided
-returns-in-Ok-Version-clause-decided g c = record {
-  reading = Ok version;
-  reads = rw c.in-Ok-Version.field-0-is at c.in-Ok-Version.ensures.answers;
-  decides = (
-    [],
-    writes-nothing _,
-    record { put = c.put_text-in-Ok-Version.ensures.comes; files = refl; input = refl },
-  );
-}
-
 pub returns-in-Ok-Rounds-clause-decided : goal.returns-in-Ok-Rounds-clause-decided
-returns-in-Ok-Rounds-clause-decided g c = record {
-  reading = Ok (rounds (layout_of c.in-Ok-Rounds.layout) c.in-Ok-Rounds.program.now c.in-Ok-Rounds.limit);
-  reads = rw c.in-Ok-Rounds.field-0-is at c.in-Ok-Rounds.ensures.answers;
-  decides = c.run_in_rounds.ensures.answers;
-}
-
-pub returns-in-Ok-Audit-clause-decided : goal.returns-in-Ok-Audit-clause-decided
-returns-in-Ok-Audit-clause-decided g c = record {
-  reading = Ok (audit (layout_of c.in-Ok-Audit.layout) c.in-Ok-Audit.program.now c.in-Ok-Audit.trace.now);
-  reads = rw c.in-Ok-Audit.field-0-is at c.in-Ok-Audit.ensures.answers;
-  decides = ([], writes-nothing _, (c.audit_trace.ensures.answers, refl));
-}
+returns-in-Ok-Rounds-clause-decided g c =
+    let ran = c.run_in_rounds.ensures.answers in
+    record {
+      reading = Ok (rounds (layout_of c.in-Ok-Rounds.layout) c.in-Ok-Rounds.program.now c.in-Ok-Rounds.limit);
+      reads = rw c.in-Ok-Rounds.field-0-is at c.in-Ok-Rounds.ensures.answers;
+      comes = ([], ran.0, ran.1, shows-none _ _ _ _ ran.2);
+    }
 
 pub returns-in-Ok-Debug-clause-decided : goal.returns-in-Ok-Debug-clause-decided
-returns-in-Ok-Debug-clause-decided g c = record {
-  reading = Ok (debug (layout_of c.in-Ok-Debug.layout) c.in-Ok-Debug.program.now);
-  reads = rw c.in-Ok-Debug.field-0-is at c.in-Ok-Debug.ensures.answers;
-  decides = c.debug_program.ensures.answers;
-}
+returns-in-Ok-Debug-clause-decided g c =
+    let decided = c.debug_program-decided in
+    let layout = layout_of c.in-Ok-Debug.layout in
+    let program = c.in-Ok-Debug.program.now in
+    let reported = g.R.Sink.written in
+    let faults = g.R.Sink.faults in
+    let before = outside_of (g.F.Files.told c.args.files.now) (g.F.Files.faults c.args.files.now)
+    (g.S.Source.left c.args.input.now) (g.S.Source.faults c.args.input.now)
+    (g.K.Sink.written c.args.output.now) (g.K.Sink.faults c.args.output.now) in
+    let after = outside_of (g.F.Files.told decided.new.files) (g.F.Files.faults decided.new.files)
+    (g.S.Source.left decided.new.input) (g.S.Source.faults decided.new.input)
+    (g.K.Sink.written decided.new.output) (g.K.Sink.faults decided.new.output) in
+    record {
+      reading = Ok (debug layout program);
+      reads = rw c.in-Ok-Debug.field-0-is at c.in-Ok-Debug.ensures.answers;
+      comes = decided-comes (λ answer report. AnswersDebug layout program before after answer report)
+          (λ told. BreaksDebug layout program before after (reported c.args.report.now) told)
+          (report_of (reported c.args.report.now) (faults c.args.report.now))
+          (report_of (reported decided.new.report) (faults decided.new.report))
+          (report_of (reported c.put_decided.new.report) (faults c.put_decided.new.report))
+          decided.result c.put_decided.result decided.ensures.answers decided.ensures.report c.put_decided.ensures;
+    }
+
+pub returns-in-Ok-Debug-clause-files : goal.returns-in-Ok-Debug-clause-files
+returns-in-Ok-Debug-clause-files g c =
+    rw (decided-files _ _ c.debug_program-decided.result c.put_decided.result c.put_decided.ensures)
+    c.debug_program-decided.ensures.files
+
+pub returns-in-Ok-Debug-clause-input : goal.returns-in-Ok-Debug-clause-input
+returns-in-Ok-Debug-clause-input g c =
+    decided-tells input_answered _ _ _ _ c.debug_program-decided.result c.put_decided.result
+    c.debug_program-decided.ensures.input c.put_decided.ensures
+
+pub returns-in-Ok-Debug-clause-output : goal.returns-in-Ok-Debug-clause-output
+returns-in-Ok-Debug-clause-output g c =
+    decided-tells output_answered _ _ _ _ c.debug_program-decided.result c.put_decided.result
+    c.debug_program-decided.ensures.output c.put_decided.ensures
 
 pub returns-in-Ok-Time-clause-decided : goal.returns-in-Ok-Time-clause-decided
 returns-in-Ok-Time-clause-decided g c =
     let o = c.in-Ok-Time.options in
+    let decided = c.compare_layouts-decided in
+    let put = c.put_decided-in-Ok-Time in
     let layouts = map layout_in (map string_bytes c.in-Ok-Time.layouts.now) in
     let asked = time_asked c.in-Ok-Time.delays.now c.in-Ok-Time.program.now layouts o.limit in
+    let reported = g.R.Sink.written in
+    let faults = g.R.Sink.faults in
     let before = g.F.Files.told c.args.files.now in
-    let after = g.F.Files.told c.compare_layouts.new.files in
+    let after = g.F.Files.told decided.new.files in
     let streams = streams_of (g.S.Source.left c.args.input.now) (g.K.Sink.written c.args.output.now) in
+    let blank = report_of (reported c.args.report.now) (faults c.args.report.now) in
+    let half = report_of (reported decided.new.report) (faults decided.new.report) in
+    let full = report_of (reported put.new.report) (faults put.new.report) in
     record {
       reading = Ok (time c.in-Ok-Time.delays.now c.in-Ok-Time.program.now layouts o.limit o.sites);
       reads = rw c.in-Ok-Time.field-0-is at c.in-Ok-Time.ensures.answers;
-      decides = decides-beside (AnswersTime asked before after)
-          (BreaksTime asked before after (g.R.Sink.written c.args.report.now) (g.R.Sink.written c.compare_layouts.new.report))
-          (streams ≡ streams) _ _ _ refl c.compare_layouts.ensures.answers;
+      comes = comes-beside (λ answer shown closing. AnswersTime asked before after answer (shown ++ closing))
+          (BreaksTime asked before after blank.written full.written) (streams ≡ streams) blank full put.result refl
+          (decided-comes (λ answer report. AnswersTime asked before after answer report)
+          (λ told. BreaksTime asked before after blank.written told) blank half full decided.result put.result
+          decided.ensures.answers decided.ensures.report put.ensures);
     }
 
+pub returns-in-Ok-Time-clause-files : goal.returns-in-Ok-Time-clause-files
+returns-in-Ok-Time-clause-files g c =
+    rw (decided-files _ _ c.compare_layouts-decided.result c.put_decided-in-Ok-Time.result c.put_decided-in-Ok-Time.ensures)
+    c.compare_layouts-decided.ensures.files
+
 pub returns-in-Ok-Time-clause-input : goal.returns-in-Ok-Time-clause-input
-returns-in-Ok-Time-clause-input g c = untouched input_answered _ _ c.compare_layouts.ensures.input
+returns-in-Ok-Time-clause-input g c =
+    decided-tells input_answered _ _ _ _ c.compare_layouts-decided.result c.put_decided-in-Ok-Time.result
+    (untouched input_answered _ _ c.compare_layouts-decided.ensures.input) c.put_decided-in-Ok-Time.ensures
 
 pub returns-in-Ok-Time-clause-output : goal.returns-in-Ok-Time-clause-output
-returns-in-Ok-Time-clause-output g c = untouched output_answered _ _ c.compare_layouts.ensures.output
-
-pub returns-in-Err-clause-decided : goal.returns-in-Err-clause-decided
-returns-in-Err-clause-decided g c = record {
-  reading = Err c.in-Err.index;
-  reads = c.in-Err.ensures.answers;
-  decides = (
-    [],
-    writes-nothing _,
-    record {
-      status_is = refl;
-      files = refl;
-      reports = c.bad_words.ensures;
-      streams = refl;
-    },
-  );
-}
+returns-in-Ok-Time-clause-output g c =
+    decided-tells output_answered _ _ _ _ c.compare_layouts-decided.result c.put_decided-in-Ok-Time.result
+    (untouched output_answered _ _ c.compare_layouts-decided.ensures.output) c.put_decided-in-Ok-Time.ensures

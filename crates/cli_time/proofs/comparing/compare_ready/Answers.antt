@@ -1,6 +1,5 @@
-use Rattle.std.proofs.Common.{inl, refl}
+use Rattle.std.proofs.Common.{inl}
 use Rattle.cf_words.specs.Views.{layout_of}
-use Rattle.cli_files.specs.declared.status.Status.TheVariants as status
 use Rattle.cli_time.proofs.Comparisons.{times-broken, times-fewer, times-named}
 use Rattle.cli_time.proofs.comparing.compare_ready.Goals as goal
 
@@ -21,6 +20,5 @@ returns-in_err-put_least-clause-comes g c =
 pub returns-clause-comes : goal.returns-clause-comes
 returns-clause-comes g c =
     times-named _ _ _ _ _ _ _ _ _ _ _ c.first_least-least.result (layout_of c.word_at.result) c.put_least.result _
-    (record { status = status.Done; closing = c.new.result })
-    c.in-Ok.ensures.put (rw c.as_slice.ensures.value at c.first_least-least.ensures) c.word_at.ensures c.put_least.ensures
-    c.in_ok-put_least.was refl c.new.ensures
+    c.done.result c.in-Ok.ensures.put (rw c.as_slice.ensures.value at c.first_least-least.ensures) c.word_at.ensures
+    c.put_least.ensures c.in_ok-put_least.was c.done.ensures.status c.done.ensures.closing

@@ -1,0 +1,61 @@
+-- What a command comes to once its report was put.
+use Rattle.std.specs.Prelude.{◌≡◌, ◌≤◌, ℕ, List, Option, Result, Ok, Err}
+use Rattle.cf_io.specs.Causes.{Rose, HasCause}
+use Rattle.cf_io.specs.Puts.{Writes}
+use Rattle.cf_io.specs.declared.failed.Failed.{Failed}
+use Rattle.cf_report.specs.Putting.{PutsText}
+use Rattle.cli_files.specs.Causes.{files_answered}
+use Rattle.cli_files.specs.Outside.{Report}
+use Rattle.cli_files.specs.declared.answer.Answer.{Answer}
+use Rattle.cli_files.specs.declared.status.Status.{Status}
+use Rattle.cfpp_cli.specs.declared.reporting.Reported.{Reported}
+
+-- the text was put to the report, or the report failed behind a front of it
+abbrev pub Puts : (half full : Report) → (text : List ℕ) → Result (Unit {0}) Failed → Type 0
+Puts half full text put = PutsText half.written full.written half.faults full.faults text put
+
+-- what was shown was put, and the closing lines behind it, or the report failed behind a front of these
+pub record PutsBehind (blank full : Report) (shown closing : List ℕ) (put : Result (Unit {0}) Failed) : Type 0 where
+  pub told : Option (List ℕ)
+  pub shows : Writes blank.written told shown
+  pub closes : Puts (record blank { written = told }) full closing put
+
+-- the command was carried out with such an answer: what it showed, and the lines that close its report
+abbrev pub Carries : (Status → List ℕ → List ℕ → Type 0) → (blank full : Report) → Reported → Type 0
+Carries answers blank full reported =
+    (shown : List ℕ) × (closing : List ℕ) × answers reported.status shown closing
+    × PutsBehind blank full shown closing reported.put
+
+-- one that shows nothing: this is its whole report
+abbrev pub ReportsAlone : (Status → List ℕ → Type 0) → (blank full : Report) → Reported → Type 0
+ReportsAlone answers blank full reported =
+    (report : List ℕ) × answers reported.status report × Puts blank full report reported.put
+
+-- it was carried out, or the report failed while it was
+abbrev pub Comes : (Status → List ℕ → List ℕ → Type 0) → Type 0 → (blank full : Report) → Result Reported Failed → Type 0
+Comes answers breaks blank full (Ok reported) = Carries answers blank full reported
+Comes answers breaks blank full (Err failed) = breaks × Rose blank.faults full.faults
+
+-- an error where a file could not be read
+abbrev pub files_reported : Result Reported Failed → Result (Unit {0}) (Unit {0})
+files_reported (Ok reported) = files_answered reported.status
+files_reported (Err failed) = Ok tt
+
+-- a count of faults: it rose just where the answer says so; where the report failed while the command was carried out, it has not fallen
+abbrev pub Tells : (Status → Result (Unit {0}) (Unit {0})) → ℕ → ℕ → Result Reported Failed → Type 0
+Tells answered before now (Ok reported) = HasCause before now (answered reported.status)
+Tells answered before now (Err failed) = before ≤ now
+
+-- the closing lines of what was decided were put; none, where the report had failed
+abbrev pub PutsDecided : Result Answer Failed → (half full : Report) → Result Reported Failed → Type 0
+PutsDecided (Ok answer) half full (Ok reported) =
+    (reported.status ≡ answer.status) × Puts half full answer.closing reported.put
+PutsDecided (Ok answer) half full (Err failed) = ⊥
+PutsDecided (Err failed) half full (Ok reported) = ⊥
+PutsDecided (Err failed) half full (Err same) = full ≡ half
+
+-- a text was put behind a report that was put so far; none, behind one that failed
+abbrev pub Adds : (so_far : Result (Unit {0}) Failed) → (half full : Report) → (text : List ℕ) →
+    Result (Unit {0}) Failed → Type 0
+Adds (Ok u) half full text put = Puts half full text put
+Adds (Err failed) half full text put = (full ≡ half) × (put ≡ Err failed)
