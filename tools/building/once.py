@@ -3,11 +3,12 @@
 
 Some kits' rt computes a crate's checksum, and the list of the crates below it, anew for each path that leads down to it. Where many
 crates stand on one another that takes longer than the proofs. The sources do not change while a crate is proved here, so once is enough.
-Where the kit is made in another way, this is rt itself.
+Where the kit's rt is made in another way, it is run as it is.
 """
 import functools
+import importlib.machinery
+import importlib.util
 import os
-import runpy
 import shutil
 import sys
 
@@ -26,20 +27,25 @@ def once(method):
     return answer
 
 
-def main():
-    rt = os.path.realpath(shutil.which("rt") or sys.exit("rt is not there: the Rattle kit has to be installed"))
-    folder = os.path.dirname(rt)
-    if not os.path.isfile(f"{folder}/rtlib.py"):
-        os.execv(rt, ["rt", *sys.argv[1:]])
-    sys.path.insert(0, folder)
-    import rtlib
+def module_of(program):
+    """The program, which is one of Python, as a module."""
+    loader = importlib.machinery.SourceFileLoader("rt_of_the_kit", program)
+    module = importlib.util.module_from_spec(importlib.util.spec_from_loader(loader.name, loader))
+    loader.exec_module(module)
+    return module
 
-    crate = getattr(rtlib, "Crate", None)
-    for name in ("stamp", "below"):
-        if hasattr(crate, name):
-            setattr(crate, name, once(getattr(crate, name)))
-    sys.argv[0] = rt
-    runpy.run_path(rt, run_name="__main__")
+
+def main():
+    program = os.path.realpath(shutil.which("rt") or sys.exit("cfpp: rt is not there: the Rattle kit has to be installed"))
+    words = sys.argv[1:]
+    sys.argv[0] = program
+    try:
+        kit = module_of(program)
+        crate = kit.rtlib.Crate
+        crate.stamp, crate.below = once(crate.stamp), once(crate.below)
+    except (AttributeError, SyntaxError, ValueError):
+        os.execv(program, [program, *words])
+    sys.exit(kit.main(words))
 
 
 main()
