@@ -3,8 +3,12 @@ use Rattle.std.proofs.Common.{◌≡◌, ℕ, ◌+◌, ◌-◌, ◌%◌, ◌^◌
 use Rattle.std.specs.Prelude.{◌==◌, ◌&&◌, nat_le}
 use Rattle.std.specs.Int.{w32, from_le_bytes}
 use Rattle.std.proofs.lemmas.Bool.Decides.{nat_tests}
+use Rattle.std.specs.List.{flat_map}
+use Rattle.elf_view.specs.Segments.{LoadSegment}
 use Rattle.elf_view.specs.Symbols.{NamedSymbol}
+use Rattle.cf_listing.specs.Labels.{HaveLines}
 use Rattle.cf_listing.specs.Lines.{label_lines, word_line, lines_at, lines_from, skipped, IsFirstWord}
+use Rattle.cf_listing.specs.Listing.{segment_lines}
 
 -- no word stands at an address that 4 does not divide
 pub unaligned : (symbols : List NamedSymbol) (pc : ℕ) (bytes : List ℕ) → 1 ≤ pc % 4 → lines_at symbols pc bytes ≡ []
@@ -89,3 +93,21 @@ next-aligned pc next e h = (omega arith, omega arith)
 pub ruleset words = (no-lines)
 
 pub ruleset walked = (skip, skipped-aligned)
+
+-- labels that have the lines of the symbols make the same lines of words
+lines-same : (symbols labels : List NamedSymbol) → HaveLines symbols labels → (pc : ℕ) (bytes : List ℕ) → lines_from labels pc bytes ≡ lines_from symbols pc bytes
+unfolding lines_at
+lines-same symbols labels h pc [] = refl
+lines-same symbols labels h pc (byte ∷ bytes) = rw (h.at pc, lines-same symbols labels h ((pc + 1) % 2 ^ 32) bytes) refl
+
+segment-same : (symbols labels : List NamedSymbol) → HaveLines symbols labels → (segment : LoadSegment) → segment_lines labels segment ≡ segment_lines symbols segment
+unfolding segment_lines
+segment-same symbols labels h segment = rw (lines-same symbols labels h segment.vaddr segment.bytes) refl
+
+-- and the same listing
+pub segments-same : (symbols labels : List NamedSymbol) → HaveLines symbols labels → (segments : List LoadSegment)
+    → flat_map (segment_lines labels) segments ≡ flat_map (segment_lines symbols) segments
+segments-same symbols labels h [] = refl
+segments-same symbols labels h (segment ∷ segments) = rw (segment-same symbols labels h segment, segments-same symbols labels h segments) refl
+
+pub ruleset listings = (segments-same)

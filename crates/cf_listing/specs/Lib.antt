@@ -1,2 +1,4 @@
+pub mod Ending
+pub mod Labels
 pub mod Lines
 pub mod Listing

@@ -1,14 +1,9 @@
 -- The listing of a program: its executable segments in order (a format of this project).
-use Rattle.std.specs.Prelude.{ℕ, List, [], Option, Some, None, if◌then◌else◌}
+use Rattle.std.specs.Prelude.{ℕ, List, [], if◌then◌else◌}
 use Rattle.std.specs.List.{flat_map}
 use Rattle.elf_view.specs.Segments.{LoadSegment, segments_of}
 use Rattle.elf_view.specs.Symbols.{NamedSymbol, symbols_of}
 use Rattle.cf_listing.specs.Lines.{lines_from}
-
--- the symbols of an ELF file; a flat image has none
-abbrev pub symbols_in : Option (List ℕ) → List NamedSymbol
-symbols_in None = []
-symbols_in (Some file) = symbols_of file
 
 -- the lines of a segment that is executable
 unfoldable pub segment_lines : List NamedSymbol → LoadSegment → List ℕ

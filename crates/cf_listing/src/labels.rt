@@ -1,56 +1,78 @@
 //! The lines of labels.
 #![tactic(auto, unfolding(crate::specs::Lines::label_line), using(cf_io::proofs::Owing::owing))]
 
-ghost use Rattle.std.specs.Prelude.{◌≡◌, OnOk, OnErr, option_map};
+ghost use Rattle.std.specs.Prelude.{◌≡◌, ◌≤◌, All, OnOk, OnErr, filter, map};
 ghost use Rattle.cf_io.specs.Causes.{HasCause};
 ghost use Rattle.cf_io.specs.Puts.{Writes, WritesFront};
-ghost use Rattle.elf_view.specs.Symbols.{shown_symbol, symbols_of};
+ghost use Rattle.elf_view.specs.Symbols.{shown_lazy};
+ghost use Rattle.cf_listing.specs.Labels.{Ascend, has_value};
 ghost use Rattle.cf_listing.specs.Lines.{is_label_at, label_line, label_lines};
-ghost use Rattle.cf_listing.specs.Listing.{symbols_in};
 
 use crate::texts::put_two;
 use cf_io::{Failed, Sink};
-use elf_view::{Elf, Symbol};
+use elf_view::LazySymbol;
 
-fn is_label_at(symbol: &Symbol, pc: u32) -> bool
-    ensures { result ≡ is_label_at pc (shown_symbol symbol.now) }
+fn is_label_at(symbol: &LazySymbol, pc: u32) -> bool
+    ensures { result ≡ is_label_at pc (shown_lazy symbol.now) }
 {
-    symbol.value == pc && !symbol.name.is_empty()
+    symbol.value == pc && symbol.is_named()
 }
 
 /// Puts the line of a symbol, where it is a label at the address.
-fn put_label<K: Sink>(symbol: &Symbol, pc: u32, out: &mut K) -> Result<(), Failed>
-    ensures ok { OnOk result (Writes (K.written out.old) (K.written out.new) (label_line pc (shown_symbol symbol.now))) }
-    ensures err { OnErr result (WritesFront (K.written out.old) (K.written out.new) (label_line pc (shown_symbol symbol.now))) }
+fn put_label<K: Sink>(symbol: &LazySymbol, pc: u32, out: &mut K) -> Result<(), Failed>
+    ensures ok { OnOk result (Writes (K.written out.old) (K.written out.new) (label_line pc (shown_lazy symbol.now))) }
+    ensures err { OnErr result (WritesFront (K.written out.old) (K.written out.new) (label_line pc (shown_lazy symbol.now))) }
     ensures cause { HasCause (K.faults out.old) (K.faults out.new) result }
 {
     if !is_label_at(symbol, pc) {
         return Ok(());
     }
-    put_two(out, symbol.name, b":\n")
+    put_two(out, symbol.symbol().name, b":\n")
 }
 
-/// Puts the lines of the labels of an ELF file at an address.
+/// The symbols from a value on.
+fn symbols_from<'a, 'b>(symbols: &'a [LazySymbol<'b>], value: u32) -> &'a [LazySymbol<'b>]
+    requires { Ascend symbols.now }
+    ensures same { filter (has_value value) result.now ≡ filter (has_value value) symbols.now }
+    ensures least { All (λ symbol. value ≤ symbol.value) result.now }
+    ensures ascend { Ascend result.now }
+{
+    let below = symbols.partition_point(|symbol| symbol.value < value);
+    let (_, rest) = symbols.split_at(below);
+    rest
+}
+
+/// The symbols of a value.
+fn symbols_of_value<'a, 'b>(symbols: &'a [LazySymbol<'b>], value: u32) -> &'a [LazySymbol<'b>]
+    requires { Ascend symbols.now }
+    ensures { result.now ≡ filter (has_value value) symbols.now }
+{
+    let rest = symbols_from(symbols, value);
+    let count = rest.partition_point(|symbol| symbol.value <= value);
+    let (same, _) = rest.split_at(count);
+    same
+}
+
+/// Puts the lines of symbols that are labels at an address.
 #[tactic(auto, using(cf_io::proofs::Owing::owes))]
-fn put_symbols<K: Sink>(elf: &Elf, pc: u32, out: &mut K) -> Result<(), Failed>
-    ensures ok { OnOk result (Writes (K.written out.old) (K.written out.new) (label_lines (symbols_of elf.now) pc)) }
-    ensures err { OnErr result (WritesFront (K.written out.old) (K.written out.new) (label_lines (symbols_of elf.now) pc)) }
+fn put_each<K: Sink>(symbols: &[LazySymbol], pc: u32, out: &mut K) -> Result<(), Failed>
+    ensures ok { OnOk result (Writes (K.written out.old) (K.written out.new) (label_lines (map shown_lazy symbols.now) pc)) }
+    ensures err { OnErr result (WritesFront (K.written out.old) (K.written out.new) (label_lines (map shown_lazy symbols.now) pc)) }
     ensures cause { HasCause (K.faults out.old) (K.faults out.new) result }
 {
-    for symbol in elf.symbols() {
-        put_label(&symbol, pc, out)?;
+    for symbol in symbols {
+        put_label(symbol, pc, out)?;
     }
     Ok(())
 }
 
-/// Puts the lines of the labels at an address, if there is an ELF file with labels.
-pub fn put_labels<K: Sink>(elf: Option<&Elf>, pc: u32, out: &mut K) -> Result<(), Failed>
-    ensures ok { OnOk result (Writes (K.written out.old) (K.written out.new) (label_lines (symbols_in (option_map (λ e. e.now) elf.entry)) pc)) }
-    ensures err { OnErr result (WritesFront (K.written out.old) (K.written out.new) (label_lines (symbols_in (option_map (λ e. e.now) elf.entry)) pc)) }
+/// Puts the lines of the labels at an address.
+#[tactic(auto, using(crate::proofs::Values::values))]
+pub fn put_labels<K: Sink>(symbols: &[LazySymbol], pc: u32, out: &mut K) -> Result<(), Failed>
+    requires { Ascend symbols.now }
+    ensures ok { OnOk result (Writes (K.written out.old) (K.written out.new) (label_lines (map shown_lazy symbols.now) pc)) }
+    ensures err { OnErr result (WritesFront (K.written out.old) (K.written out.new) (label_lines (map shown_lazy symbols.now) pc)) }
     ensures cause { HasCause (K.faults out.old) (K.faults out.new) result }
 {
-    match elf {
-        Some(elf) => put_symbols(elf, pc, out),
-        None => Ok(()),
-    }
+    put_each(symbols_of_value(symbols, pc), pc, out)
 }

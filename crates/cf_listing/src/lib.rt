@@ -3,10 +3,11 @@
 
 mod labels;
 mod listing;
+mod order;
 mod texts;
 mod words;
 
-pub use listing::{put_elf_listing, put_flat_listing};
+pub use listing::{ListingErr, put_elf_listing, put_flat_listing};
 
 #[cfg(test)]
 mod tests;

@@ -1,18 +1,19 @@
 //! The lines of words.
 #![tactic(auto, using(cf_io::proofs::Owing::owing))]
 
-ghost use Rattle.std.specs.Prelude.{◌≡◌, ◌+◌, ◌-◌, ◌%◌, ◌^◌, ◌≤◌, ◌++◌, None, OnOk, OnErr, IfSome, codes, drop, length, option_map};
+ghost use Rattle.std.specs.Prelude.{◌≡◌, ◌+◌, ◌-◌, ◌%◌, ◌^◌, ◌≤◌, ◌++◌, None, OnOk, OnErr, IfSome, codes, drop, length, map};
 ghost use Rattle.cf_io.specs.Causes.{HasCause};
 ghost use Rattle.cf_io.specs.Puts.{Writes, WritesFront};
 ghost use Rattle.digits.specs.Hexadecimal.{hex8};
+ghost use Rattle.elf_view.specs.Symbols.{shown_lazy};
+ghost use Rattle.cf_listing.specs.Labels.{Ascend};
 ghost use Rattle.cf_listing.specs.Lines.{word_line, label_lines, lines_from, skipped, IsFirstWord};
-ghost use Rattle.cf_listing.specs.Listing.{symbols_in};
 
 use crate::labels::put_labels;
 use crate::texts::put_three;
 use cf_io::{Failed, Sink};
 use cf_texts::Page;
-use elf_view::Elf;
+use elf_view::LazySymbol;
 use rv_inst::decode_m;
 use rv_text::{TextLine, write_instr};
 
@@ -60,14 +61,15 @@ fn put_line<K: Sink>(pc: u32, word: u32, out: &mut K) -> Result<(), Failed>
 }
 
 /// Puts the labels at an address and the line of the word there.
-fn put_word<K: Sink>(elf: Option<&Elf>, pc: u32, word: u32, out: &mut K) -> Result<(), Failed>
+fn put_word<K: Sink>(symbols: &[LazySymbol], pc: u32, word: u32, out: &mut K) -> Result<(), Failed>
+    requires { Ascend symbols.now }
     ensures ok { OnOk result (Writes (K.written out.old) (K.written out.new)
-        (label_lines (symbols_in (option_map (λ e. e.now) elf.entry)) pc ++ word_line pc word)) }
+        (label_lines (map shown_lazy symbols.now) pc ++ word_line pc word)) }
     ensures err { OnErr result (WritesFront (K.written out.old) (K.written out.new)
-        (label_lines (symbols_in (option_map (λ e. e.now) elf.entry)) pc ++ word_line pc word)) }
+        (label_lines (map shown_lazy symbols.now) pc ++ word_line pc word)) }
     ensures cause { HasCause (K.faults out.old) (K.faults out.new) result }
 {
-    put_labels(elf, pc, out)?;
+    put_labels(symbols, pc, out)?;
     put_line(pc, word, out)
 }
 
@@ -95,22 +97,23 @@ fn first_word(bytes: &[u8]) -> Option<(u32, &[u8])>
 /// Puts the lines of words from an address on that 4 divides.
 #[tactic(auto, using(cf_io::proofs::Owing::owes, crate::proofs::Walked::words))]
 fn put_aligned<K: Sink>(
-    elf: Option<&Elf>,
+    symbols: &[LazySymbol],
     start: u32,
     bytes: &[u8],
     out: &mut K,
 ) -> Result<(), Failed>
-    requires { start % 4 ≡ 0 }
+    requires aligned { start % 4 ≡ 0 }
+    requires ascend { Ascend symbols.now }
     ensures ok { OnOk result (Writes (K.written out.old) (K.written out.new)
-        (lines_from (symbols_in (option_map (λ e. e.now) elf.entry)) start bytes.now)) }
+        (lines_from (map shown_lazy symbols.now) start bytes.now)) }
     ensures err { OnErr result (WritesFront (K.written out.old) (K.written out.new)
-        (lines_from (symbols_in (option_map (λ e. e.now) elf.entry)) start bytes.now)) }
+        (lines_from (map shown_lazy symbols.now) start bytes.now)) }
     ensures cause { HasCause (K.faults out.old) (K.faults out.new) result }
 {
     let mut pc = start;
     let mut rest = bytes;
     while let Some((word, behind)) = first_word(rest) {
-        put_word(elf, pc, word, out)?;
+        put_word(symbols, pc, word, out)?;
         pc = pc.wrapping_add(4);
         rest = behind;
     }
@@ -120,17 +123,18 @@ fn put_aligned<K: Sink>(
 /// Puts the lines of bytes from an address on.
 #[tactic(auto, using(cf_io::proofs::Owing::owing, crate::proofs::Walked::walked))]
 pub fn put_words<K: Sink>(
-    elf: Option<&Elf>,
+    symbols: &[LazySymbol],
     start: u32,
     bytes: &[u8],
     out: &mut K,
 ) -> Result<(), Failed>
+    requires { Ascend symbols.now }
     ensures ok { OnOk result (Writes (K.written out.old) (K.written out.new)
-        (lines_from (symbols_in (option_map (λ e. e.now) elf.entry)) start bytes.now)) }
+        (lines_from (map shown_lazy symbols.now) start bytes.now)) }
     ensures err { OnErr result (WritesFront (K.written out.old) (K.written out.new)
-        (lines_from (symbols_in (option_map (λ e. e.now) elf.entry)) start bytes.now)) }
+        (lines_from (map shown_lazy symbols.now) start bytes.now)) }
     ensures cause { HasCause (K.faults out.old) (K.faults out.new) result }
 {
     let (pc, rest) = aligned(start, bytes);
-    put_aligned(elf, pc, rest, out)
+    put_aligned(symbols, pc, rest, out)
 }

@@ -5,6 +5,7 @@ use Rattle.elf_view.specs.Headers.{symbol_entry}
 use Rattle.elf_view.specs.Segments.{LoadSegment, loads_in, segment_of}
 use Rattle.elf_view.specs.Symbols.{NamedSymbol, symbol_of}
 use Rattle.elf_view.specs.declared.segments.Segments.{Segments}
+use Rattle.elf_view.specs.declared.symbols.LazySymbols.{LazySymbols}
 use Rattle.elf_view.specs.declared.symbols.Symbols.{Symbols}
 
 -- the segments that are left
@@ -12,7 +13,11 @@ abbrev pub segments_left : Segments → List LoadSegment
 segments_left s =
     map (segment_of s.file.now) (loads_in s.headers.file.now s.headers.at s.headers.left)
 
+-- the symbols that are left whose names are not looked for
+abbrev pub lazy_left : LazySymbols → List NamedSymbol
+lazy_left s =
+    map (symbol_of s.names.now) (entries symbol_entry 16 s.entries.file.now s.entries.at s.entries.left)
+
 -- the symbols that are left
 abbrev pub symbols_left : Symbols → List NamedSymbol
-symbols_left s =
-    map (symbol_of s.names.now) (entries symbol_entry 16 s.entries.file.now s.entries.at s.entries.left)
+symbols_left s = lazy_left s.lazy

@@ -1,9 +1,10 @@
 -- The symbols of a file (Tool Interface Standard, Executable and Linking Format Specification, "Symbol Table" and "String Table").
-use Rattle.std.specs.Prelude.{ℕ, List, [], map, drop, ◌==◌, Option, Some, None}
+use Rattle.std.specs.Prelude.{ℕ, List, [], length, map, drop, Bool, ◌==◌, not, Option, Some, None}
 use Rattle.std.specs.List.{before_first}
 use Rattle.elf_view.specs.Sections.{first_symbol_table, section_at, content_of, entries_of}
 use Rattle.elf_view.specs.declared.headers.SectionHeader.{SectionHeader}
 use Rattle.elf_view.specs.declared.headers.SymbolEntry.{SymbolEntry}
+use Rattle.elf_view.specs.declared.symbols.LazySymbol.{LazySymbol}
 use Rattle.elf_view.specs.declared.symbols.Symbol.{Symbol}
 
 -- a symbol: the bytes of its name, its value and its size
@@ -12,9 +13,13 @@ pub record NamedSymbol : Type 0 where
   pub value : ℕ
   pub size : ℕ
 
+-- the bytes up to the first NUL
+abbrev pub first_text : List ℕ → List ℕ
+first_text names = before_first (λ b. b == 0) names
+
 -- the bytes from an index on up to the first NUL
 abbrev pub text_at : List ℕ → ℕ → List ℕ
-text_at names at = before_first (λ b. b == 0) (drop at names)
+text_at names at = first_text (drop at names)
 
 -- the symbol of an entry, whose name stands in the names
 abbrev pub symbol_of : List ℕ → SymbolEntry → NamedSymbol
@@ -33,6 +38,14 @@ symbols_at file (Some index) = symbols_in file (section_at file index)
 unfoldable pub symbols_of : List ℕ → List NamedSymbol
 symbols_of file = symbols_at file (first_symbol_table file)
 
+-- the symbol has a name that is not empty
+abbrev pub is_named : NamedSymbol → Bool
+is_named symbol = not (length symbol.name == 0)
+
 -- what a symbol shows of itself
 abbrev pub shown_symbol : Symbol → NamedSymbol
 shown_symbol s = record { name = s.name.now; value = s.value; size = s.size }
+
+-- what it shows of itself while its name is not looked for: the names begin with its own
+abbrev pub shown_lazy : LazySymbol → NamedSymbol
+shown_lazy s = record { name = first_text s.names.now; value = s.value; size = s.size }

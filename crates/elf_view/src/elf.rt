@@ -5,7 +5,7 @@ ghost use Rattle.elf_view.specs.Causes.{IsCause};
 ghost use Rattle.elf_view.specs.Executables.{IsElf};
 ghost use Rattle.elf_view.specs.Fields.{FitsIn};
 ghost use Rattle.elf_view.specs.Headers.{file_header, number_of_sections};
-ghost use Rattle.elf_view.specs.Left.{segments_left, symbols_left};
+ghost use Rattle.elf_view.specs.Left.{lazy_left, segments_left, symbols_left};
 ghost use Rattle.elf_view.specs.Refusal.{refusal};
 ghost use Rattle.elf_view.specs.Sections.{IsReadable};
 ghost use Rattle.elf_view.specs.Segments.{segments_of, IsLoadable};
@@ -15,7 +15,7 @@ use crate::entries::Entries;
 use crate::headers::{FileHeader, SectionHeader};
 use crate::refusal::check;
 use crate::sections::{first_symbol_table, section_at};
-use crate::{ElfErr, Segments, Symbols};
+use crate::{ElfErr, LazySymbols, Segments, Symbols};
 use std::marker::Model;
 
 /// An executable file, whose bytes are lent.
@@ -38,14 +38,14 @@ impl<'a> Model for Elf<'a> {
 }
 
 /// The symbols of a symbol table.
-fn symbols_in<'a>(file: &'a [u8], header: &FileHeader, table: &SectionHeader) -> Symbols<'a>
+fn symbols_in<'a>(file: &'a [u8], header: &FileHeader, table: &SectionHeader) -> LazySymbols<'a>
     requires header { header.now ≡ file_header file.now }
     requires fits { FitsIn file.now header.now.section_offset 40 (number_of_sections header.now) }
     requires readable { IsReadable file.now table.now }
-    ensures { symbols_left result ≡ symbols_in file.now table.now }
+    ensures { lazy_left result ≡ symbols_in file.now table.now }
 {
     let names = section_at(file, header, table.link);
-    Symbols::new(table.entries(file), names.content(file))
+    LazySymbols::new(table.entries(file), names.content(file))
 }
 
 impl<'a> Elf<'a> {
@@ -80,17 +80,24 @@ impl<'a> Elf<'a> {
         Segments::new(self.file, self.header.programs(self.file))
     }
 
-    /// The symbols, in the order of the first symbol table.
+    /// The symbols, in the order of the first symbol table, with names that are looked for where they are asked for.
     #[tactic(auto, using(crate::proofs::Accepted::sections_fit, crate::proofs::Accepted::table_readable), unfolding(crate::specs::Symbols::symbols_of))]
-    pub fn symbols(&self) -> Symbols<'a>
-        ensures { symbols_left result ≡ symbols_of self.now }
+    pub fn lazy_symbols(&self) -> LazySymbols<'a>
+        ensures { lazy_left result ≡ symbols_of self.now }
     {
         match first_symbol_table(self.file, &self.header) {
             Some(index) => {
                 let table = section_at(self.file, &self.header, index as u32);
                 symbols_in(self.file, &self.header, &table)
             }
-            None => Symbols::new(Entries::new(self.file, 0, 0), &[]),
+            None => LazySymbols::new(Entries::new(self.file, 0, 0), &[]),
         }
+    }
+
+    /// The symbols, in the order of the first symbol table.
+    pub fn symbols(&self) -> Symbols<'a>
+        ensures { symbols_left result ≡ symbols_of self.now }
+    {
+        Symbols::new(self.lazy_symbols())
     }
 }

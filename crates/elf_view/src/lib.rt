@@ -15,7 +15,7 @@ pub use elf::Elf;
 pub use refusal::ElfErr;
 pub use segment::Segment;
 pub use segments::Segments;
-pub use symbols::{Symbol, Symbols};
+pub use symbols::{LazySymbol, LazySymbols, Symbol, Symbols};
 
 #[cfg(test)]
 mod tests;

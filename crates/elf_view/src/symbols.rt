@@ -1,10 +1,9 @@
 //! The symbols of a file.
 
-ghost use Rattle.std.specs.Prelude.{◌≡◌, ◌≤◌, ◌<◌, ◌==◌, length, position, IfSome, map, All};
-ghost use Rattle.std.specs.List.{before_first};
+ghost use Rattle.std.specs.Prelude.{◌≡◌, ◌≤◌, ◌<◌, ◌==◌, length, drop, position, IfSome, map, All};
 ghost use Rattle.elf_view.specs.Fields.{entries as table_entries};
 ghost use Rattle.elf_view.specs.Headers.{symbol_entry};
-ghost use Rattle.elf_view.specs.Symbols.{symbol_of, text_at};
+ghost use Rattle.elf_view.specs.Symbols.{first_text, is_named, shown_lazy, shown_symbol, symbol_of};
 
 use crate::entries::Entries;
 use crate::headers::SymbolEntry;
@@ -31,7 +30,7 @@ fn first_nul(text: &[u8]) -> Option<usize>
 /// The bytes up to the first NUL.
 #[tactic(auto, using(crate::proofs::Names::stops_at_nul, crate::proofs::Names::goes_to_end))]
 fn before_nul(text: &[u8]) -> &[u8]
-    ensures { result.now ≡ before_first (λ byte. byte == 0) text.now }
+    ensures { result.now ≡ first_text text.now }
 {
     match first_nul(text) {
         Some(end) => &text[..end],
@@ -39,41 +38,111 @@ fn before_nul(text: &[u8]) -> &[u8]
     }
 }
 
-/// The text that begins at an index of the names.
+/// The names from an index on.
 #[tactic(auto, using(std::proofs::lemmas::List::take_rest))]
-fn text_at(names: &[u8], at: usize) -> &[u8]
+fn names_from(names: &[u8], at: usize) -> &[u8]
     requires { at ≤ length names.now }
-    ensures { result.now ≡ text_at names.now at }
+    ensures { result.now ≡ drop at names.now }
 {
-    before_nul(&names[at..])
+    &names[at..]
 }
 
-/// The symbols of a file, in the order of its symbol table.
+/// A symbol, whose name is looked for where it is asked for: a name may be long, and be that of many symbols.
 #[derive(Drop)]
-pub struct Symbols<'a> {
+pub struct LazySymbol<'a> {
+    /// The names of the file, from the first byte of its own on.
+    names: &'a [u8],
+    /// Its value: of a label, the address.
+    pub value: u32,
+    /// How many bytes it names, or 0.
+    pub size: u32,
+}
+
+impl<'a> LazySymbol<'a> {
+    /// The symbol, with its name.
+    pub fn symbol(&self) -> Symbol<'a>
+        ensures { shown_symbol result ≡ shown_lazy self.now }
+    {
+        Symbol {
+            name: before_nul(self.names),
+            value: self.value,
+            size: self.size,
+        }
+    }
+
+    /// Whether it has a name that is not empty.
+    #[tactic(auto, using(crate::proofs::Names::names))]
+    pub fn is_named(&self) -> bool
+        ensures { result ≡ is_named (shown_lazy self.now) }
+    {
+        match self.names {
+            [first, ..] => *first != 0,
+            [] => false,
+        }
+    }
+}
+
+/// The symbols of a file, in the order of its symbol table, with names that are not looked for yet.
+#[derive(Drop)]
+pub struct LazySymbols<'a> {
     entries: Entries<'a, SymbolEntry>,
     names: &'a [u8],
     pub ghost named: { All (λ e. e.name ≤ length names.now)
         (table_entries symbol_entry 16 entries.file.now entries.at entries.left) },
 }
 
-impl<'a> Symbols<'a> {
-    ghost use Rattle.elf_view.specs.Left.{symbols_left};
+impl<'a> LazySymbols<'a> {
+    ghost use Rattle.elf_view.specs.Left.{lazy_left};
 
-    pub(crate) fn new(entries: Entries<'a, SymbolEntry>, names: &'a [u8]) -> Symbols<'a>
+    pub(crate) fn new(entries: Entries<'a, SymbolEntry>, names: &'a [u8]) -> LazySymbols<'a>
         requires { All (λ e. e.name ≤ length names.now)
             (table_entries symbol_entry 16 entries.file.now entries.at entries.left) }
-        ensures { symbols_left result ≡ map (symbol_of names.now)
+        ensures { lazy_left result ≡ map (symbol_of names.now)
             (table_entries symbol_entry 16 entries.entry.file.now entries.entry.at entries.entry.left) }
     {
-        Symbols { entries, names }
+        LazySymbols { entries, names }
+    }
+}
+
+impl<'a> Iterator for LazySymbols<'a> {
+    ghost use Rattle.std.specs.Iterator.{YieldsFirstBy, item_count};
+    ghost use Rattle.elf_view.specs.Left.{lazy_left};
+
+    type Item = LazySymbol<'a>;
+
+    ghost next_gives = { YieldsFirstBy shown_lazy lazy_left };
+
+    ghost remaining = { item_count lazy_left };
+
+    fn next(&mut self) -> Option<LazySymbol<'a>> {
+        let entry = self.entries.next()?;
+        Some(LazySymbol {
+            names: names_from(self.names, entry.name as usize),
+            value: entry.value,
+            size: entry.size,
+        })
+    }
+}
+
+/// The symbols of a file, in the order of its symbol table.
+#[derive(Drop)]
+pub struct Symbols<'a> {
+    lazy: LazySymbols<'a>,
+}
+
+impl<'a> Symbols<'a> {
+    ghost use Rattle.elf_view.specs.Left.{lazy_left, symbols_left};
+
+    pub(crate) fn new(lazy: LazySymbols<'a>) -> Symbols<'a>
+        ensures { symbols_left result ≡ lazy_left lazy.entry }
+    {
+        Symbols { lazy }
     }
 }
 
 impl<'a> Iterator for Symbols<'a> {
     ghost use Rattle.std.specs.Iterator.{YieldsFirstBy, item_count};
     ghost use Rattle.elf_view.specs.Left.{symbols_left};
-    ghost use Rattle.elf_view.specs.Symbols.{shown_symbol};
 
     type Item = Symbol<'a>;
 
@@ -82,11 +151,7 @@ impl<'a> Iterator for Symbols<'a> {
     ghost remaining = { item_count symbols_left };
 
     fn next(&mut self) -> Option<Symbol<'a>> {
-        let entry = self.entries.next()?;
-        Some(Symbol {
-            name: text_at(self.names, entry.name as usize),
-            value: entry.value,
-            size: entry.size,
-        })
+        let lazy = self.lazy.next()?;
+        Some(lazy.symbol())
     }
 }

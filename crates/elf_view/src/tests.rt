@@ -197,6 +197,19 @@ fn lends_the_names(rt: HostRuntime) {
 }
 
 #[test]
+fn looks_for_names_late(rt: HostRuntime) {
+    let file = labels();
+    let elf = Elf::view(&file).ok().expect(&rt, "symbols");
+    let mut symbols = elf.lazy_symbols();
+    let empty = symbols.next().expect(&rt, "the empty symbol");
+    assert!(rt; !empty.is_named(), "no name");
+    let label = symbols.next().expect(&rt, "a label");
+    assert!(rt; label.is_named(), "a name");
+    assert_eq!(rt; (label.value, label.size), (0x0001_0000, 8));
+    assert_eq!(rt; label.symbol().name, b"orest".as_slice());
+}
+
+#[test]
 fn refuses_symbols_that_are_not_sound(rt: HostRuntime) {
     let bad = Some(ElfErr::BadSymbols(1));
     let changes = [

@@ -2,7 +2,7 @@ pub mod Splits
 pub mod Fitting
 pub mod Shorter
 pub mod Statements
-pub mod Marked
+pub mod Found
 pub mod Spelt
 pub mod Names
 pub mod Filled

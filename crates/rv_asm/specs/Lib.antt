@@ -7,6 +7,7 @@ pub mod Items
 pub mod Pseudos
 pub mod Reading
 pub mod Places
+pub mod LabelTables
 pub mod Labels
 pub mod Pieces
 pub mod Assembling

@@ -8,7 +8,7 @@ ghost use Rattle.rv_asm.specs.Objects.{Objects, Refuses};
 ghost use Rattle.rv_asm.specs.Small.{IsSmall};
 
 use crate::draft::first_look;
-use crate::label::Labels;
+use crate::label_table::LabelTable;
 use crate::object::{Bytes, Object};
 use crate::place::MOST;
 use crate::refusal::{AsmErr, AsmKind};
@@ -45,7 +45,7 @@ fn check_ascii(source: &[u8]) -> Result<(), AsmErr>
 }
 
 #[tactic(auto, unfolding(crate::specs::Labels::entry_of))]
-fn entry(labels: &Labels) -> u32
+fn entry(labels: &LabelTable) -> u32
     ensures { result ≡ entry_of labels.now }
 {
     labels.value_of(b"_start").unwrap_or(0x1_0000)
@@ -63,7 +63,7 @@ fn assemble_lines(alloc: Global, source: &[u8]) -> Result<Object, AsmErr>
     Ok(Object {
         text_bytes: Bytes::new(out.text),
         data_bytes: Bytes::new(out.data),
-        labels: out.labels,
+        labels: out.labels.into_labels(),
         entry,
     })
 }

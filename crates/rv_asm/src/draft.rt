@@ -9,7 +9,7 @@ ghost use Rattle.rv_asm.specs.Spelling.{IsRefusal};
 ghost use Rattle.rv_asm.specs.Seen.{seen, Reads, IsSound};
 
 use crate::item::Item;
-use crate::label::Labels;
+use crate::label_table::LabelTable;
 use crate::place::Place;
 use crate::reading::read_statement;
 use crate::refusal::{AsmErr, AsmKind};
@@ -21,7 +21,7 @@ use std::alloc::Global;
 #[derive(Drop)]
 pub struct Draft {
     pub place: Place,
-    pub labels: Labels,
+    pub labels: LabelTable,
 }
 
 /// The item of a statement at a place.
@@ -41,7 +41,7 @@ pub fn item_at(place: Place, text: &[u8]) -> Result<Item<'_>, AsmKind>
 /// Defines the label that a line begins with.
 fn define_label(
     alloc: Global,
-    labels: &mut Labels,
+    labels: &mut LabelTable,
     place: Place,
     text: &[u8],
 ) -> Result<(), AsmKind>
@@ -83,7 +83,7 @@ pub fn first_look(alloc: Global, source: &[u8]) -> Result<Draft, AsmErr>
 {
     let mut draft = Draft {
         place: Place::start(),
-        labels: Labels::new(Vec::new(alloc)),
+        labels: LabelTable::new(alloc),
     };
     let mut above = 0;
     let mut rest = source;

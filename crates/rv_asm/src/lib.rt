@@ -5,6 +5,7 @@ mod assembling;
 mod draft;
 mod item;
 mod label;
+mod label_table;
 pub mod laws;
 mod object;
 mod operands;

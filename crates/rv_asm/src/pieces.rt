@@ -11,7 +11,7 @@ ghost use Rattle.rv_asm.specs.Spelling.{SpellsPiece, Spells, Gives, IsRefusal};
 ghost use Rattle.rv_asm.specs.Seen.{seen, IsSound, JumpFits, FarFits};
 
 use crate::item::{Far, Item};
-use crate::label::Labels;
+use crate::label_table::LabelTable;
 use crate::operands::{cut_operand, names_label, number_of_width};
 use crate::operations::Width;
 use crate::pseudos::{reaching, word_modulo};
@@ -48,14 +48,14 @@ fn double(alloc: Global, i: Instr, j: Instr) -> Result<Vec<u8>, AllocError>
     Ok(bytes)
 }
 
-fn label_value(labels: &Labels, name: &[u8]) -> Result<u32, AsmKind>
+fn label_value(labels: &LabelTable, name: &[u8]) -> Result<u32, AsmKind>
     ensures { result ≡ label_value labels.now name.now }
 {
     labels.value_of(name).ok_or(AsmKind::NoLabel)
 }
 
 /// The jump or the branch at an address to a label.
-fn near(labels: &Labels, pc: u32, jump: Jump, label: &[u8]) -> Result<Instr, AsmKind>
+fn near(labels: &LabelTable, pc: u32, jump: Jump, label: &[u8]) -> Result<Instr, AsmKind>
     requires { JumpFits jump }
     ensures instr { result ≡ near_instr labels.now pc jump label.now }
     ensures fits { IfOk result (λ i. Fits i) }
@@ -69,7 +69,7 @@ fn near(labels: &Labels, pc: u32, jump: Jump, label: &[u8]) -> Result<Instr, Asm
 }
 
 /// The number that an operand stands for.
-fn operand_value(labels: &Labels, width: Width, operand: &[u8]) -> Result<i64, AsmKind>
+fn operand_value(labels: &LabelTable, width: Width, operand: &[u8]) -> Result<i64, AsmKind>
     ensures { result ≡ operand_value labels.now width operand.now }
 {
     if names_label(width, operand) {
@@ -88,7 +88,12 @@ fn push_number(bytes: &mut Vec<u8>, width: Width, word: u32) -> Result<(), Alloc
 }
 
 /// The bytes of the numbers of a directive.
-fn numbers(alloc: Global, labels: &Labels, width: Width, text: &[u8]) -> Result<Vec<u8>, AsmKind>
+fn numbers(
+    alloc: Global,
+    labels: &LabelTable,
+    width: Width,
+    text: &[u8],
+) -> Result<Vec<u8>, AsmKind>
     ensures ok { IfOk result (λ bytes. bytes_from labels.now width [] (operands_of text.now) ≡ Ok bytes.items) }
     ensures err { IfErr result (λ kind. IsRefusal kind (bytes_from labels.now width [] (operands_of text.now))) }
 {
@@ -126,7 +131,7 @@ fn zeros(alloc: Global, count: u32) -> Result<Vec<u8>, AllocError>
 #[tactic(auto, unfolding(crate::specs::Pieces::pieces_of), using(crate::proofs::Spelt::spelling))]
 pub fn item_bytes(
     alloc: Global,
-    labels: &Labels,
+    labels: &LabelTable,
     pc: u32,
     item: Item<'_>,
 ) -> Result<Vec<u8>, AsmKind>

@@ -10,7 +10,7 @@ ghost use Rattle.rv_asm.specs.Seen.{seen};
 
 use crate::draft::item_at;
 use crate::item::Item;
-use crate::label::Labels;
+use crate::label_table::LabelTable;
 use crate::pieces::item_bytes;
 use crate::place::Place;
 use crate::refusal::{AsmErr, AsmKind};
@@ -24,11 +24,11 @@ pub struct Output {
     pub place: Place,
     pub text: Vec<u8>,
     pub data: Vec<u8>,
-    pub labels: Labels,
+    pub labels: LabelTable,
 }
 
 /// Marks the label that an item exports.
-fn mark(labels: &mut Labels, item: Item<'_>)
+fn mark(labels: &mut LabelTable, item: Item<'_>)
     ensures { labels.new ≡ marked labels.old (seen item.entry) }
 {
     if let Item::Export(name) = item {
@@ -69,7 +69,7 @@ impl Output {
 }
 
 /// The sections of a source with these labels.
-pub fn second_look(alloc: Global, source: &[u8], labels: Labels) -> Result<Output, AsmErr>
+pub fn second_look(alloc: Global, source: &[u8], labels: LabelTable) -> Result<Output, AsmErr>
     requires { length source.now ≤ 1048576 }
     ensures ok { IfOk result (λ out. Outputs out (sections_from 0 (empty labels) (text_lines source.now))) }
     ensures err { IfErr result (λ e. (e.kind ≡ AsmKind.NoMemory) ⊎ (sections_from 0 (empty labels) (text_lines source.now) ≡ Err e)) }

@@ -1,0 +1,99 @@
+//! The labels that are known above a line, each found by its name.
+#![tactic(auto, using(crate::proofs::Found::tables))]
+
+ghost use Rattle.std.specs.Prelude.{◌≡◌, ◌++◌, ◌∷◌, [], map, None, OnOk, false};
+ghost use Rattle.std.specs.Str.{IsUtf8};
+ghost use Rattle.rv_asm.specs.LabelTables.{FindsNames, names_of, place_of};
+ghost use Rattle.rv_asm.specs.Labels.{named, value_of, exported};
+
+use crate::label::{Label, Labels, name_of};
+use std::alloc::{AllocError, Global};
+use std::collections::BTreeMap;
+use std::marker::Model;
+
+/// The labels of a source, in the order of their definition, and the place of each name among them. A source may have
+/// some hundred thousand labels and uses of them, so that none is looked for among all.
+#[derive(Drop)]
+pub struct LabelTable {
+    list: Vec<Label>,
+    places: BTreeMap<Vec<u8>, usize>,
+}
+
+impl Model for LabelTable {
+    ghost use Rattle.std.specs.Prelude.{List, map};
+    ghost use Rattle.rv_asm.specs.LabelTables.{FindsNames, names_of, place_of};
+    ghost use Rattle.rv_asm.specs.Labels.{Named, named};
+
+    ghost Value = { List Named };
+
+    ghost view = { λ table. map named table.list.items };
+
+    ghost invariant = { λ table. FindsNames (names_of (map named table.list.items)) (place_of table.places) };
+}
+
+impl LabelTable {
+    /// No labels.
+    pub fn new(alloc: Global) -> LabelTable
+        ensures { result ≡ [] }
+    {
+        LabelTable {
+            list: Vec::new(alloc),
+            places: BTreeMap::new(alloc),
+        }
+    }
+
+    /// Puts a label that is not exported behind the others.
+    pub fn define(
+        &mut self,
+        alloc: Global,
+        name: &[u8],
+        value: u32,
+        in_text: bool,
+    ) -> Result<(), AllocError>
+        requires utf8 { IsUtf8 name.now }
+        requires unknown { value_of self.old name.now ≡ None }
+        ensures { OnOk result (self.new ≡ self.old ++ record { name = name.now; value = value; in_text = in_text; global = false } ∷ []) }
+    {
+        let label = Label {
+            name: name_of(alloc, name)?,
+            value,
+            global: false,
+            in_text,
+        };
+        let key = Vec::from_slice(alloc, name)?;
+        self.list.reserve(1)?;
+        self.places.insert(key, self.list.len())?;
+        match self.list.push(label) {
+            Ok(()) => Ok(()),
+            Err(_) => unreachable!(),
+        }
+    }
+
+    /// The value of the label of a name.
+    pub fn value_of(&self, name: &[u8]) -> Option<u32>
+        ensures { result ≡ value_of self.now name.now }
+    {
+        match self.places.get(name) {
+            Some(place) => Some(self.list[*place].value),
+            None => None,
+        }
+    }
+
+    /// Exports the label of a name.
+    pub fn export(&mut self, name: &[u8])
+        ensures { self.new ≡ exported self.old name.now }
+    {
+        if let Some(place) = self.places.get(name) {
+            let place = *place;
+            self.list[place].global = true;
+        }
+    }
+
+    /// The labels alone.
+    pub fn into_labels(self) -> Labels
+        ensures { result ≡ self }
+    {
+        let LabelTable { list, places: _ } = self;
+        Labels::new(list)
+    }
+}
