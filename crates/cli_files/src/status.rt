@@ -1,3 +1,5 @@
+//! How a call of the simulator ends.
+
 ghost use Rattle.std.specs.Prelude.{◌≡◌};
 
 use cf_audit::TraceKind;
