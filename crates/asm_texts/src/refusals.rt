@@ -4,6 +4,7 @@
 ghost use Rattle.std.specs.Prelude.{◌≡◌, ◌+◌, ◌≤◌, ◌++◌, length};
 ghost use Rattle.std.specs.Fmt.{signed_decimal};
 ghost use Rattle.asm_texts.specs.Refusals.{with_number, with_counts, text_refused, line_refused, bad_source as refused};
+ghost use Rattle.cf_texts.specs.Room.{page_room};
 
 use cf_texts::Page;
 use itoa::Buffer;
@@ -13,7 +14,7 @@ use rv_text::TextErr;
 /// A number in decimal, with a sign where it is below 0.
 #[tactic(auto)]
 fn push_signed(page: &mut Page, number: i64)
-    requires { length page.old + 21 ≤ 640 }
+    requires { length page.old + 21 ≤ page_room }
     ensures text { page.new ≡ page.old ++ signed_decimal number }
     ensures size { length page.new ≤ length page.old + 21 }
 {
@@ -24,7 +25,7 @@ fn push_signed(page: &mut Page, number: i64)
 /// A name and a signed number.
 #[tactic(auto, using(std::proofs::lemmas::List::append_assoc), unfolding(crate::specs::Refusals::with_number))]
 fn push_with_number(page: &mut Page, name: &[u8], number: i64)
-    requires { length page.old + length name.now + 22 ≤ 640 }
+    requires { length page.old + length name.now + 22 ≤ page_room }
     ensures text { page.new ≡ page.old ++ with_number name.now number }
     ensures size { length page.new ≤ length page.old + length name.now + 22 }
 {
@@ -36,7 +37,7 @@ fn push_with_number(page: &mut Page, name: &[u8], number: i64)
 /// A name and two numbers.
 #[tactic(auto, using(std::proofs::lemmas::List::append_assoc), unfolding(crate::specs::Refusals::with_counts))]
 fn push_with_counts(page: &mut Page, name: &[u8], got: u32, wanted: u32)
-    requires { length page.old + length name.now + 42 ≤ 640 }
+    requires { length page.old + length name.now + 42 ≤ page_room }
     ensures text { page.new ≡ page.old ++ with_counts name.now got wanted }
     ensures size { length page.new ≤ length page.old + length name.now + 42 }
 {
@@ -48,7 +49,7 @@ fn push_with_counts(page: &mut Page, name: &[u8], got: u32, wanted: u32)
 }
 
 fn push_text(page: &mut Page, error: TextErr)
-    requires { length page.old + 60 ≤ 640 }
+    requires { length page.old + 60 ≤ page_room }
     ensures text { page.new ≡ page.old ++ text_refused error }
     ensures size { length page.new ≤ length page.old + 60 }
 {
@@ -62,7 +63,7 @@ fn push_text(page: &mut Page, error: TextErr)
 }
 
 fn push_kind(page: &mut Page, kind: AsmKind)
-    requires { length page.old + 70 ≤ 640 }
+    requires { length page.old + 70 ≤ page_room }
     ensures text { page.new ≡ page.old ++ line_refused kind }
     ensures size { length page.new ≤ length page.old + 70 }
 {

@@ -19,6 +19,7 @@ use Rattle.cf_run.proofs.Runs.{reached-none, none-trace, reached-more, reached-t
 use Rattle.cf_audit.specs.Compared.{Comparison, alone, put_of, fresh, told_by}
 use Rattle.cf_audit.specs.Traces.{most_retired, AreReadBack, IsReadBack, IsTrace, StandsAt, AgreesSoFar}
 use Rattle.cf_audit.specs.Turns.{Stand, stand_of, left_of, NextIs, Advances, Tries, Tests}
+use Rattle.cf_audit.specs.Limits.{most_trace}
 use Rattle.cf_audit.proofs.Comparing.{told-more}
 use Rattle.cf_audit.proofs.Parting.{goes_on}
 
@@ -91,14 +92,14 @@ put-behind now new piece none told =
     (both.0, both.1 ∙ ap (λ (put : List ℕ). put ++ piece) (put_all_agreed now none))
 
 -- one more instruction can retire
-pub retires-below : (text : List ℕ) (start : Place) (now : Stand) → Comes text start now → length text ≤ 16777216 → now.place.core.state.retired < most_retired
+pub retires-below : (text : List ℕ) (start : Place) (now : Stand) → Comes text start now → length text ≤ most_trace → now.place.core.state.retired < most_retired
 retires-below text start now h small =
     let s = so-far text start now h in
     let size : length now.seen.text ≡ length text = ap length s.text_is in
     omega (arith, h.retired, h.few, h.within, size)
 
 -- the next group agrees
-pub comes-more : (text : List ℕ) (start : Place) (now new : Stand) (mv : Move) → length text ≤ 16777216 → new.place.report ≡ Some (told_by new.seen) → Comes text start now → NextIs now mv → Advances mv now new
+pub comes-more : (text : List ℕ) (start : Place) (now new : Stand) (mv : Move) → length text ≤ most_trace → new.place.report ≡ Some (told_by new.seen) → Comes text start now → NextIs now mv → Advances mv now new
     → Comes text start new × (now.seen.agreed < new.seen.agreed)
 comes-more text start now new mv small tells h next a =
     let made : Made = record { move = mv; event = a.event; state = new.place.core.state } in
@@ -130,7 +131,7 @@ comes-more text start now new mv small tells h next a =
       rises,
     )
 
-pub comes-on : (text : List ℕ) (start : Place) (now new : Stand) → length text ≤ 16777216 → new.place.report ≡ Some (told_by new.seen) → Comes text start now → Tests text now new None → Comes text start new × (now.seen.agreed < new.seen.agreed)
+pub comes-on : (text : List ℕ) (start : Place) (now new : Stand) → length text ≤ most_trace → new.place.report ≡ Some (told_by new.seen) → Comes text start now → Tests text now new None → Comes text start new × (now.seen.agreed < new.seen.agreed)
 unfolding Tests Tries
 comes-on text start now new small tells h (mv, next, a) = comes-more text start now new mv small tells h next a
 
@@ -141,8 +142,8 @@ comes-falls text start new agreed h rises =
     omega (arith, rises, h.within, size)
 
 -- no count is near the greatest
-pub counts-small : (text : List ℕ) (start : Place) (now : Stand) → Comes text start now → length text ≤ 16777216
-    → (now.place.tally.moves ≤ 16777216) × (now.place.tally.meets ≤ 16777216) × (now.place.tally.kills ≤ 16777216) × (now.place.tally.dead ≤ 16777216)
+pub counts-small : (text : List ℕ) (start : Place) (now : Stand) → Comes text start now → length text ≤ most_trace
+    → (now.place.tally.moves ≤ most_trace) × (now.place.tally.meets ≤ most_trace) × (now.place.tally.kills ≤ most_trace) × (now.place.tally.dead ≤ most_trace)
 counts-small text start now h small =
     let size : length now.seen.text ≡ length text = ap length (so-far text start now h).text_is in
     let counts = counts-within most_retired show.Moves start now.place h.reached in

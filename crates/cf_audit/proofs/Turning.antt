@@ -30,6 +30,7 @@ use Rattle.cf_audit.specs.Audits.{Audits}
 use Rattle.cf_audit.specs.Compared.{alone, told_by}
 use Rattle.cf_audit.specs.Traces.{most_retired, line_of, has_line, BeginsWith, IsTrace, StandsAt, PartsAt, Fails, GoesWrong}
 use Rattle.cf_audit.specs.Turns.{Stand, left_of, NextIs, Parts, Tries, Tests}
+use Rattle.cf_audit.specs.Limits.{most_trace}
 use Rattle.cf_audit.proofs.Coming.{Comes, so-far, put-behind, retires-below, trace-so-far, agrees-so-far, agreed-length, stands-here}
 use Rattle.cf_audit.proofs.Parting.{parted, byte_behind}
 
@@ -60,7 +61,7 @@ record PartsThere (text : List ℕ) (start : Place) (now new : Stand) (reached :
   text_is : new.seen.text ≡ text
   within : new.seen.agreed ≤ length text
 
-parts_there : (text : List ℕ) (start : Place) (now new : Stand) (mv : Move) → length text ≤ 16777216 → new.place.report ≡ Some (told_by new.seen) → (h : Comes text start now) → NextIs now mv → Parts mv now new → PartsThere text start now new h.reached
+parts_there : (text : List ℕ) (start : Place) (now new : Stand) (mv : Move) → length text ≤ most_trace → new.place.report ≡ Some (told_by new.seen) → (h : Comes text start now) → NextIs now mv → Parts mv now new → PartsThere text start now new h.reached
 parts_there text start now new mv small tells h next p =
     let group : List ℕ = shown_of show.Moves mv p.event now.place new.place in
     let full : Place = record new.place { report = filled now.place.report group } in
@@ -194,7 +195,7 @@ fails_there text start now new h quiet fails =
     (subst (λ (s : Streams). FailsToRead (in_state start.core h.reached.last.state) new.place.core s new.place.streams) quiet.0 there)
 
 -- what the move of the next line leads to, where the audit ends with it
-tried : (text : List ℕ) (start : Place) (now new : Stand) (mv : Move) (answer : Audit) → length text ≤ 16777216 → new.place.report ≡ Some (told_by new.seen) → IsQuiet now new → Comes text start now → NextIs now mv → Tries text mv now new (Some answer)
+tried : (text : List ℕ) (start : Place) (now new : Stand) (mv : Move) (answer : Audit) → length text ≤ most_trace → new.place.report ≡ Some (told_by new.seen) → IsQuiet now new → Comes text start now → NextIs now mv → Tries text mv now new (Some answer)
     → Audits start.core new.place.core start.streams.input new.place.streams.input text answer
 unfolding Audits Tries Fails Does
 tried text start now new mv (Agrees n) small tells quiet h next t = absurd t
@@ -241,7 +242,7 @@ tests-none text left now new place answer is at behind has none same =
     rw is (ap has_line (sym behind) ∙ has, λ mv begins. none mv (subst (λ (t : List ℕ). BeginsWith t (now.place.tally.moves + 1) mv) (sym behind) begins), ap (line_of text) at, same)
 
 -- how the audit ends with a turn
-pub audited : (text : List ℕ) (start : Place) (now new : Stand) (answer : Audit) → length text ≤ 16777216 → new.place.report ≡ Some (told_by new.seen) → IsQuiet now new → Comes text start now → Tests text now new (Some answer)
+pub audited : (text : List ℕ) (start : Place) (now new : Stand) (answer : Audit) → length text ≤ most_trace → new.place.report ≡ Some (told_by new.seen) → IsQuiet now new → Comes text start now → Tests text now new (Some answer)
     → Audits start.core new.place.core start.streams.input new.place.streams.input text answer
 unfolding Tests Audits Fails
 audited text start now new (Agrees n) small tells quiet h t = agrees_all text start now new n h t.0 t.1 t.2

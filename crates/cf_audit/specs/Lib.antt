@@ -3,3 +3,4 @@ pub mod Traces
 pub mod Lines
 pub mod Turns
 pub mod Audits
+pub mod Limits

@@ -8,6 +8,7 @@ ghost use Rattle.rv_machine.specs.Streams.{streams_of};
 ghost use Rattle.cf_run.specs.Moving.{place_of};
 ghost use Rattle.cf_run.specs.Policies.{IsOpened};
 ghost use Rattle.cf_audit.specs.Compared.{told_by};
+ghost use Rattle.cf_audit.specs.Limits.{most_trace};
 ghost use Rattle.cf_audit.specs.Traces.{has_line, line_of};
 ghost use Rattle.cf_audit.specs.Turns.{stand_of, Compares, Tries, Tests, input_tested};
 ghost use Rattle.cf_audit.specs.Audits.{Audits, AgreesWithAll, RetiresSequentially};
@@ -20,6 +21,10 @@ use cf_core::Core;
 use cf_io::{Nowhere, Source};
 use cf_report::Tally;
 use cf_run::{Ran, Show, known, make};
+use cf_scripts::MOST_SCRIPT;
+
+/// The greatest length of a trace, in bytes: that of a script.
+pub const MOST_TRACE: usize = MOST_SCRIPT;
 
 fn has_line(text: &[u8]) -> bool
     ensures { result ≡ has_line text.now }
@@ -44,7 +49,7 @@ fn count_lines(text: &[u8]) -> usize
 /// The line in which the byte at a place stands, counted from 1.
 #[tactic(auto, using(crate::proofs::Parting::fronts), unfolding(crate::specs::Traces::line_of))]
 fn line_of(text: &[u8], place: usize) -> u32
-    requires { length text.now ≤ 16777216 }
+    requires { length text.now ≤ most_trace }
     ensures { result ≡ line_of text.now place }
 {
     let end = place.min(text.len());
@@ -53,7 +58,7 @@ fn line_of(text: &[u8], place: usize) -> u32
 
 /// The answer for a trace that is wrong at this place.
 fn wrong(trace: &[u8], place: usize, kind: TraceKind) -> Audit
-    requires { length trace.now ≤ 16777216 }
+    requires { length trace.now ≤ most_trace }
     ensures { result ≡ Audit.Wrong (line_of trace.now place) kind }
 {
     Audit::Wrong {
@@ -65,7 +70,7 @@ fn wrong(trace: &[u8], place: usize, kind: TraceKind) -> Audit
 /// The answer where a byte that was put does not agree with the trace.
 #[tactic(auto, unfolding(crate::specs::Turns::Compares))]
 fn compared(trace: &[u8], report: &Compared<'_>) -> Option<Audit>
-    requires { length trace.now ≤ 16777216 }
+    requires { length trace.now ≤ most_trace }
     ensures { Compares trace.now report.now result }
 {
     if !report.differs() {
@@ -86,7 +91,7 @@ fn try_move<S: Source>(
     report: &mut Compared<'_>,
     tally: &mut Tally,
 ) -> Option<Audit>
-    requires size { length trace.now ≤ 16777216 }
+    requires size { length trace.now ≤ most_trace }
     requires retired { core.old.state.retired + 1 < 2 ^ 64 }
     requires moves { tally.old.moves + 1 < 2 ^ 64 }
     requires meets { tally.old.meets + 1 < 2 ^ 64 }
@@ -122,7 +127,7 @@ fn advance<S: Source>(
     report: &mut Compared<'_>,
     tally: &mut Tally,
 ) -> Option<Audit>
-    requires size { length trace.now ≤ 16777216 }
+    requires size { length trace.now ≤ most_trace }
     requires retired { core.old.state.retired + 1 < 2 ^ 64 }
     requires moves { tally.old.moves + 1 < 2 ^ 64 }
     requires meets { tally.old.meets + 1 < 2 ^ 64 }
@@ -150,7 +155,7 @@ fn advance<S: Source>(
 }
 
 /// Audits a recorded trace: what `--show moves` writes of a run, without the report that closes it. The processor is an
-/// opened one on which nothing has retired, and the trace has at most 16,777,216 bytes.
+/// opened one on which nothing has retired, and the trace has at most `MOST_TRACE` bytes.
 ///
 /// Group after group the move that the trace tells is made, and all that is shown of it is compared with the trace, byte
 /// by byte; nothing of it is kept. `Agrees` comes exactly where the trace is that of a run, of so many moves, which leads to
@@ -167,7 +172,7 @@ fn advance<S: Source>(
 pub fn audit<S: Source>(core: &mut Core, trace: &[u8], input: &mut S) -> Audit
     requires opened { IsOpened core.old }
     requires retired { core.old.state.retired ≡ 0 }
-    requires size { length trace.now ≤ 16777216 }
+    requires size { length trace.now ≤ most_trace }
     ensures audits { Audits core.old core.new (S.left input.old) (S.left input.new) trace.now result }
     ensures agrees { AgreesWithAll core.old (S.left input.old) trace.now result }
     ensures sequential { RetiresSequentially core.old (S.left input.old) trace.now result }

@@ -9,4 +9,4 @@ mod first_line;
 pub mod laws;
 
 pub use answer::{Audit, TraceKind};
-pub use auditing::audit;
+pub use auditing::{MOST_TRACE, audit};

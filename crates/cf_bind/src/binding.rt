@@ -1,3 +1,5 @@
+//! A register and its value, as passengers and packets have them.
+
 /// A register's name with its value, once that is known ("Counterflow Pipeline Processor Architecture", 1994: a
 /// binding).
 #[derive(Clone, Copy, PartialEq, Eq)]

@@ -1,3 +1,5 @@
+//! What stands at one place: a stage of the pipes, or an operation of a siding.
+
 use crate::packet::Packet;
 use crate::passenger::Passenger;
 use rv_inst::Instr;

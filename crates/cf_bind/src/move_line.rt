@@ -1,3 +1,5 @@
+//! A buffer for the text of one move.
+
 ghost use Rattle.std.specs.Prelude.{◌≡◌, ◌+◌, ◌<◌, ◌≤◌, ◌++◌, [], length, decimal};
 ghost use Rattle.digits.specs.Hexadecimal.{hex8};
 

@@ -1,3 +1,5 @@
+//! The moves of the processor, and what bars them.
+
 use crate::passenger::Guess;
 
 /// One local change of the processor. A number without a name is that of a stage, from 1 at the bottom.

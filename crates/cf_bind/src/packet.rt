@@ -1,3 +1,5 @@
+//! Results on their way down, and the fetch unit where they arrive.
+
 /// What descends the result pipe.
 #[derive(Clone, Copy, PartialEq, Eq)]
 pub enum Packet {

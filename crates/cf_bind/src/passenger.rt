@@ -1,3 +1,5 @@
+//! Instructions on their way up.
+
 use crate::binding::Binding;
 use crate::packet::Packet;
 use rv_inst::Instr;

@@ -3,6 +3,7 @@
 
 ghost use Rattle.std.specs.Prelude.{◌≡◌, ◌+◌, ◌≤◌, ◌++◌, length, codes, decimal};
 ghost use Rattle.cf_texts.specs.Texts.{line as line_of};
+ghost use Rattle.cf_texts.specs.Room.{page_room};
 ghost use Rattle.cf_closing.specs.Lines.{bar_text, script_text, place_in_script, bad_line, barred_line, line_of_run, first_line};
 
 use cf_bind::Bar;
@@ -13,7 +14,7 @@ use cf_texts::Page;
 /// What bars a move: its name, and the register of a source without a value.
 #[tactic(auto, unfolding(crate::specs::Lines::bar_text))]
 pub fn push_bar(page: &mut Page, bar: Bar)
-    requires { length page.old + 20 ≤ 640 }
+    requires { length page.old + 20 ≤ page_room }
     ensures text { page.new ≡ page.old ++ bar_text bar }
     ensures size { length page.new ≤ length page.old + 20 }
 {
@@ -47,7 +48,7 @@ pub fn push_bar(page: &mut Page, bar: Bar)
 /// Why a line of a script tells no move.
 #[tactic(auto, unfolding(crate::specs::Lines::script_text))]
 pub fn push_script(page: &mut Page, kind: ScriptKind)
-    requires { length page.old + 20 ≤ 640 }
+    requires { length page.old + 20 ≤ page_room }
     ensures text { page.new ≡ page.old ++ script_text kind }
     ensures size { length page.new ≤ length page.old + 20 }
 {
@@ -62,7 +63,7 @@ pub fn push_script(page: &mut Page, kind: ScriptKind)
 /// What happened at the line of a script of this number, before the cause.
 #[tactic(auto, unfolding(crate::specs::Lines::place_in_script))]
 fn push_place(page: &mut Page, what: &[u8], number: u32)
-    requires { length page.old + length what.now + 22 ≤ 640 }
+    requires { length page.old + length what.now + 22 ≤ page_room }
     ensures text { page.new ≡ page.old ++ place_in_script what.now number }
     ensures size { length page.new ≤ length page.old + length what.now + 22 }
 {
@@ -73,7 +74,7 @@ fn push_place(page: &mut Page, what: &[u8], number: u32)
 
 /// The line of a script that tells no move, and why.
 fn push_bad_line(page: &mut Page, refusal: ScriptErr)
-    requires { length page.old + 80 ≤ 640 }
+    requires { length page.old + 80 ≤ page_room }
     ensures text { page.new ≡ page.old ++ bad_line refusal }
     ensures size { length page.new ≤ length page.old + 80 }
 {
@@ -84,7 +85,7 @@ fn push_bad_line(page: &mut Page, refusal: ScriptErr)
 
 /// The line of a script whose move is barred, and what bars it.
 fn push_barred(page: &mut Page, number: u32, bar: Bar)
-    requires { length page.old + 80 ≤ 640 }
+    requires { length page.old + 80 ≤ page_room }
     ensures text { page.new ≡ page.old ++ barred_line number bar }
     ensures size { length page.new ≤ length page.old + 80 }
 {
@@ -95,7 +96,7 @@ fn push_barred(page: &mut Page, number: u32, bar: Bar)
 
 /// How many moves a script had.
 fn push_script_end(page: &mut Page, moves: u64)
-    requires { length page.old + 80 ≤ 640 }
+    requires { length page.old + 80 ≤ page_room }
     ensures text { page.new ≡ page.old ++ line_of (codes "script end after " ++ decimal moves ++ codes " moves") }
     ensures size { length page.new ≤ length page.old + 80 }
 {
@@ -106,7 +107,7 @@ fn push_script_end(page: &mut Page, moves: u64)
 
 /// How a run finished, whatever its schedule.
 fn push_ran(page: &mut Page, limit: u64, answer: Ran)
-    requires { length page.old + 80 ≤ 640 }
+    requires { length page.old + 80 ≤ page_room }
     ensures text { page.new ≡ page.old ++ line_of_run limit answer }
     ensures size { length page.new ≤ length page.old + 80 }
 {
@@ -132,7 +133,7 @@ pub fn run_line(limit: u64, answer: Ran) -> Page
 
 /// The first line of a closing report: how the run of a script finished under a limit, with so many moves made.
 pub(crate) fn push_first_line(page: &mut Page, limit: u64, moves: u64, answer: Scripted)
-    requires { length page.old + 80 ≤ 640 }
+    requires { length page.old + 80 ≤ page_room }
     ensures text { page.new ≡ page.old ++ first_line limit moves answer }
     ensures size { length page.new ≤ length page.old + 80 }
 {

@@ -2,6 +2,7 @@
 
 ghost use Rattle.std.specs.Prelude.{◌≡◌, ◌+◌, ◌*◌, ◌<◌, ◌≤◌, ◌++◌, length, codes, map};
 ghost use Rattle.cf_texts.specs.Texts.{counted_line};
+ghost use Rattle.cf_texts.specs.Room.{page_room};
 ghost use Rattle.mem_regions.specs.Ranges.{range_of};
 ghost use Rattle.cf_closing.specs.Lines.{bar_text};
 ghost use Rattle.cf_report.specs.Putting.{PutsText};
@@ -63,7 +64,7 @@ pub(crate) fn refuse_bar<R: Sink>(bar: Bar, report: &mut R) -> Result<(), Failed
 /// Why a line tells no command.
 #[tactic(auto, unfolding(crate::specs::Replies::refusal_text))]
 fn push_refusal(page: &mut Page, refusal: Refusal)
-    requires { length page.old + 20 ≤ 640 }
+    requires { length page.old + 20 ≤ page_room }
     ensures text { page.new ≡ page.old ++ refusal_text refusal }
     ensures size { length page.new ≤ length page.old + 20 }
 {
@@ -115,7 +116,7 @@ pub(crate) fn put_moved<R: Sink>(core: &Core, event: &Event, report: &mut R) -> 
 /// Bytes, each as two hexadecimal digits behind a space.
 #[tactic(auto, unfolding(crate::specs::Replies::bytes_text))]
 fn push_bytes(page: &mut Page, bytes: &[u8])
-    requires { length page.old + 3 * length bytes.now ≤ 640 }
+    requires { length page.old + 3 * length bytes.now ≤ page_room }
     ensures text { page.new ≡ page.old ++ bytes_text bytes.now }
     ensures size { length page.new ≡ length page.old + 3 * length bytes.now }
 {

@@ -7,6 +7,7 @@ ghost use Rattle.cf_io.specs.Puts.{Writes, WritesFront};
 ghost use Rattle.cf_gen.specs.Draws.{state_after};
 ghost use Rattle.cf_gen.specs.Statements.{register_text};
 ghost use Rattle.cf_gen.specs.Program.{statement as statement_line, opening_text, drawn_statement, closing_text, program_text};
+ghost use Rattle.cf_texts.specs.Room.{page_room};
 
 use crate::choice::choose;
 use crate::draws::Draws;
@@ -60,7 +61,7 @@ text:
 
 /// The line that gives a register a number.
 fn push_load(page: &mut Page, register: u32, number: u32)
-    requires { length page.old + 52 ≤ 640 }
+    requires { length page.old + 52 ≤ page_room }
     ensures text { page.new ≡ page.old
         ++ statement_line (codes "li " ++ register_text register ++ codes ", " ++ decimal number) }
     ensures size { length page.new ≤ length page.old + 52 }

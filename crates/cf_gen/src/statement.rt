@@ -3,13 +3,14 @@
 
 ghost use Rattle.std.specs.Prelude.{◌≡◌, ◌+◌, ◌≤◌, ◌++◌, length};
 ghost use Rattle.cf_gen.specs.Statements.{register_text, label_text, two_registers, three_registers, register_and_word, instruction_text};
+ghost use Rattle.cf_texts.specs.Room.{page_room};
 
 use crate::choice::{Choice, Operation};
 use cf_texts::Page;
 
 /// A register: `x` and its number.
 pub fn push_register(page: &mut Page, register: u32)
-    requires { length page.old + 21 ≤ 640 }
+    requires { length page.old + 21 ≤ page_room }
     ensures text { page.new ≡ page.old ++ register_text register }
     ensures size { length page.new ≤ length page.old + 21 }
 {
@@ -19,7 +20,7 @@ pub fn push_register(page: &mut Page, register: u32)
 
 /// A label: `L` and its number.
 pub fn push_label(page: &mut Page, number: u32)
-    requires { length page.old + 21 ≤ 640 }
+    requires { length page.old + 21 ≤ page_room }
     ensures text { page.new ≡ page.old ++ label_text number }
     ensures size { length page.new ≤ length page.old + 21 }
 {
@@ -28,7 +29,7 @@ pub fn push_label(page: &mut Page, number: u32)
 }
 
 fn push_two_registers(page: &mut Page, choice: Choice)
-    requires { length page.old + 44 ≤ 640 }
+    requires { length page.old + 44 ≤ page_room }
     ensures text { page.new ≡ page.old ++ two_registers choice }
     ensures size { length page.new ≤ length page.old + 44 }
 {
@@ -38,7 +39,7 @@ fn push_two_registers(page: &mut Page, choice: Choice)
 }
 
 fn push_three_registers(page: &mut Page, choice: Choice)
-    requires { length page.old + 67 ≤ 640 }
+    requires { length page.old + 67 ≤ page_room }
     ensures text { page.new ≡ page.old ++ three_registers choice }
     ensures size { length page.new ≤ length page.old + 67 }
 {
@@ -48,7 +49,7 @@ fn push_three_registers(page: &mut Page, choice: Choice)
 }
 
 fn push_register_and_word(page: &mut Page, choice: Choice)
-    requires { length page.old + 47 ≤ 640 }
+    requires { length page.old + 47 ≤ page_room }
     ensures text { page.new ≡ page.old ++ register_and_word choice }
     ensures size { length page.new ≤ length page.old + 47 }
 {
@@ -59,7 +60,7 @@ fn push_register_and_word(page: &mut Page, choice: Choice)
 }
 
 fn push_named(page: &mut Page, name: &[u8], choice: Choice)
-    requires { length page.old + length name.now + 67 ≤ 640 }
+    requires { length page.old + length name.now + 67 ≤ page_room }
     ensures text { page.new ≡ page.old ++ (name.now ++ three_registers choice) }
     ensures size { length page.new ≤ length page.old + length name.now + 67 }
 {
@@ -68,7 +69,7 @@ fn push_named(page: &mut Page, name: &[u8], choice: Choice)
 }
 
 fn push_access(page: &mut Page, name: &[u8], choice: Choice)
-    requires { length page.old + length name.now + 47 ≤ 640 }
+    requires { length page.old + length name.now + 47 ≤ page_room }
     ensures text { page.new ≡ page.old ++ (name.now ++ register_and_word choice) }
     ensures size { length page.new ≤ length page.old + length name.now + 47 }
 {
@@ -77,7 +78,7 @@ fn push_access(page: &mut Page, name: &[u8], choice: Choice)
 }
 
 fn push_addi(page: &mut Page, choice: Choice)
-    requires { length page.old + 71 ≤ 640 }
+    requires { length page.old + 71 ≤ page_room }
     ensures text { page.new ≡ page.old ++ instruction_text Operation.Addi choice 0 }
     ensures size { length page.new ≤ length page.old + 71 }
 {
@@ -88,7 +89,7 @@ fn push_addi(page: &mut Page, choice: Choice)
 }
 
 fn push_blt(page: &mut Page, choice: Choice, label: u32)
-    requires { length page.old + 71 ≤ 640 }
+    requires { length page.old + 71 ≤ page_room }
     ensures text { page.new ≡ page.old ++ instruction_text Operation.Blt choice label }
     ensures size { length page.new ≤ length page.old + 71 }
 {
@@ -100,7 +101,7 @@ fn push_blt(page: &mut Page, choice: Choice, label: u32)
 
 /// The text of a statement. A branch goes to this label.
 pub fn push_instruction(page: &mut Page, choice: Choice, label: u32)
-    requires { length page.old + 72 ≤ 640 }
+    requires { length page.old + 72 ≤ page_room }
     ensures text { page.new ≡ page.old ++ instruction_text choice.operation choice label }
     ensures size { length page.new ≤ length page.old + 72 }
 {

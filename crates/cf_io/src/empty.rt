@@ -1,3 +1,5 @@
+//! The source that has nothing to give.
+
 ghost use Rattle.std.specs.Prelude.{Some, []};
 
 use crate::failed::Failed;

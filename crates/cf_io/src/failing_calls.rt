@@ -1,3 +1,5 @@
+//! Which calls of an object in memory are to fail.
+
 ghost use Rattle.std.specs.Prelude.{◌≡◌, []};
 ghost use Rattle.cf_io.specs.FailingCalls.{after_call, fails_next, no_calls};
 

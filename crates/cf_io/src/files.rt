@@ -1,3 +1,5 @@
+//! Files, as the simulator sees them.
+
 ghost use Rattle.std.specs.Prelude.{ℕ, Option, ◌≤◌, IfOk, vec_len};
 ghost use Rattle.cf_io.specs.Reads.{Told, Reads, HasReadCause};
 

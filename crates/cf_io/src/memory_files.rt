@@ -1,3 +1,5 @@
+//! Files in memory, for tests and for callers that have the bytes.
+
 ghost use Rattle.std.specs.Prelude.{◌≡◌, ◌<◌, ◌≤◌, [], ◌∷◌, ◌++◌, Some, None, map, take, IfSome, IfNone, IfOk, IfErr};
 ghost use Rattle.std.specs.Prelude.{vec_len, vec_capacity};
 ghost use Rattle.cf_io.specs.Causes.{raised};

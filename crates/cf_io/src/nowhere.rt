@@ -1,3 +1,5 @@
+//! The sink that keeps nothing.
+
 ghost use Rattle.std.specs.Prelude.{◌≡◌, None, length};
 ghost use Rattle.cf_io.specs.Causes.{HasCause};
 ghost use Rattle.cf_io.specs.Puts.{Puts};

@@ -1,3 +1,5 @@
+//! Sinks, and writing to one until all is written.
+
 ghost use Rattle.std.specs.Prelude.{ℕ, List, Option, OnOk, OnErr};
 ghost use Rattle.cf_io.specs.Causes.{HasCause};
 ghost use Rattle.cf_io.specs.Puts.{Puts, Writes, WritesFront};

@@ -1,3 +1,5 @@
+//! Sources, and taking from one until there is enough.
+
 ghost use Rattle.std.specs.Prelude.{ℕ, List, Option};
 ghost use Rattle.cf_io.specs.Causes.{HasCause};
 ghost use Rattle.cf_io.specs.Takes.{Takes, TakesAll};

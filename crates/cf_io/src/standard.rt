@@ -1,3 +1,5 @@
+//! The streams of a process, as a source and sinks.
+
 ghost use Rattle.std.specs.Prelude.{◌≡◌, None};
 ghost use Rattle.std.specs.Io.KnownBytes.{ReadConsumes, WriteAppends};
 ghost use Rattle.cf_io.specs.Adapted.{answer_of_reader, answer_of_writer};

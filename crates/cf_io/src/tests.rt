@@ -1,3 +1,4 @@
+//! What no clause says: that streams and files can be read and written, and that the definitions mean what is wanted.
 use super::*;
 use std::alloc::Global;
 use std::io::{self, Read};

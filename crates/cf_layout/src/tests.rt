@@ -1,3 +1,4 @@
+//! The built-in layout, by its table.
 use crate::plain;
 use rv_inst::Class;
 

@@ -5,6 +5,7 @@ ghost use Rattle.std.specs.Prelude.{◌≡◌, ◌+◌, ◌*◌, ◌≤◌, ◌+
 ghost use Rattle.std.specs.List.{list_any};
 ghost use Rattle.cf_report.specs.Picture.{fetch_line, or_dash, requests_text, lane_line, kept_text, kept_below, cache_line, answered_text, op_text, ops_text, siding_line};
 ghost use Rattle.cf_report.specs.Putting.{PutsText};
+ghost use Rattle.cf_texts.specs.Room.{page_room};
 
 use crate::passengers::push_value;
 use crate::putting::put_text;
@@ -40,7 +41,7 @@ pub(crate) fn put_fetch<R: Sink>(fetch: Fetch, report: &mut R) -> Result<(), Fai
 /// The registers that were requested, each behind a space.
 #[tactic(auto, using(crate::proofs::Listed::listing))]
 fn push_requests(page: &mut Page, core: &Core)
-    requires { length page.old + 4 * length core.now.state.lane ≤ 640 }
+    requires { length page.old + 4 * length core.now.state.lane ≤ page_room }
     ensures text { page.new ≡ page.old ++ requests_text core.now.state.lane }
     ensures size { length page.new ≤ length page.old + 4 * length core.now.state.lane }
 {
@@ -53,7 +54,7 @@ fn push_requests(page: &mut Page, core: &Core)
 /// The registers that were requested, or `-`.
 #[tactic(auto, using(crate::proofs::Listed::listed))]
 fn push_lane(page: &mut Page, core: &Core)
-    requires { length page.old + 258 ≤ 640 }
+    requires { length page.old + 258 ≤ page_room }
     ensures text { page.new ≡ page.old ++ or_dash (requests_text core.now.state.lane) }
     ensures size { length page.new ≤ length page.old + 258 }
 {
@@ -85,7 +86,7 @@ pub(crate) fn put_lane<R: Sink>(core: &Core, report: &mut R) -> Result<(), Faile
 
 /// A register that is kept, behind a space, or nothing.
 fn push_kept(page: &mut Page, register: u8, kept: Option<u32>)
-    requires { length page.old + 13 ≤ 640 }
+    requires { length page.old + 13 ≤ page_room }
     ensures text { page.new ≡ page.old ++ kept_text register kept }
     ensures size { length page.new ≤ length page.old + 13 }
 {
@@ -97,7 +98,7 @@ fn push_kept(page: &mut Page, register: u8, kept: Option<u32>)
 
 /// The registers that are kept.
 fn push_cache(page: &mut Page, core: &Core)
-    requires { length page.old + 416 ≤ 640 }
+    requires { length page.old + 416 ≤ page_room }
     ensures text { page.new ≡ page.old ++ kept_below 32 core.now.state.cache }
     ensures size { length page.new ≤ length page.old + 416 }
 {
@@ -129,7 +130,7 @@ pub(crate) fn put_cache<R: Sink>(core: &Core, report: &mut R) -> Result<(), Fail
 }
 
 fn push_op(page: &mut Page, cell: &Option<Op>)
-    requires { length page.old + 10 ≤ 640 }
+    requires { length page.old + 10 ≤ page_room }
     ensures text { page.new ≡ page.old ++ op_text cell.now }
     ensures size { length page.new ≤ length page.old + 10 }
 {
@@ -147,7 +148,7 @@ fn push_op(page: &mut Page, cell: &Option<Op>)
 
 /// The cells of a siding in order.
 fn push_ops(page: &mut Page, ops: &[Option<Op>])
-    requires { length page.old + 10 * length ops.now ≤ 640 }
+    requires { length page.old + 10 * length ops.now ≤ page_room }
     ensures text { page.new ≡ page.old ++ ops_text ops.now }
     ensures size { length page.new ≤ length page.old + 10 * length ops.now }
 {

@@ -3,13 +3,14 @@
 
 ghost use Rattle.std.specs.Prelude.{◌≡◌, ◌+◌, ◌≤◌, ◌++◌, length, codes};
 ghost use Rattle.cf_report.specs.Passengers.{value_text, packet_text, guess_text, binding_text, owed_text, progress_text, flag_text, standing_text, bindings_text, passenger_text};
+ghost use Rattle.cf_texts.specs.Room.{page_room};
 
 use cf_bind::{Binding, End, Guess, Packet, Passenger};
 use cf_texts::Page;
 
 /// A register with its value.
 pub(crate) fn push_value(page: &mut Page, register: u8, value: u32)
-    requires { length page.old + 12 ≤ 640 }
+    requires { length page.old + 12 ≤ page_room }
     ensures text { page.new ≡ page.old ++ value_text register value }
     ensures size { length page.new ≤ length page.old + 12 }
 {
@@ -20,7 +21,7 @@ pub(crate) fn push_value(page: &mut Page, register: u8, value: u32)
 
 /// A result.
 pub(crate) fn push_packet(page: &mut Page, packet: Packet)
-    requires { length page.old + 13 ≤ 640 }
+    requires { length page.old + 13 ≤ page_room }
     ensures text { page.new ≡ page.old ++ packet_text packet }
     ensures size { length page.new ≤ length page.old + 13 }
 {
@@ -35,7 +36,7 @@ pub(crate) fn push_packet(page: &mut Page, packet: Packet)
 }
 
 fn push_guess(page: &mut Page, guess: Guess)
-    requires { length page.old + 11 ≤ 640 }
+    requires { length page.old + 11 ≤ page_room }
     ensures text { page.new ≡ page.old ++ guess_text guess }
     ensures size { length page.new ≤ length page.old + 11 }
 {
@@ -52,7 +53,7 @@ fn push_guess(page: &mut Page, guess: Guess)
 
 /// A binding, or `-` where there is none, with a space behind it.
 fn push_binding(page: &mut Page, binding: Option<Binding>)
-    requires { length page.old + 13 ≤ 640 }
+    requires { length page.old + 13 ≤ page_room }
     ensures text { page.new ≡ page.old ++ binding_text binding ++ codes " " }
     ensures size { length page.new ≤ length page.old + 13 }
 {
@@ -73,7 +74,7 @@ fn push_binding(page: &mut Page, binding: Option<Binding>)
 }
 
 fn push_owed(page: &mut Page, owes: Option<Packet>)
-    requires { length page.old + 13 ≤ 640 }
+    requires { length page.old + 13 ≤ page_room }
     ensures text { page.new ≡ page.old ++ owed_text owes }
     ensures size { length page.new ≤ length page.old + 13 }
 {
@@ -112,7 +113,7 @@ fn flag(passenger: &Passenger) -> &'static [u8]
 }
 
 fn push_standing(page: &mut Page, passenger: &Passenger)
-    requires { length page.old + 30 ≤ 640 }
+    requires { length page.old + 30 ≤ page_room }
     ensures text { page.new ≡ page.old ++ standing_text passenger.now }
     ensures size { length page.new ≤ length page.old + 30 }
 {
@@ -125,7 +126,7 @@ fn push_standing(page: &mut Page, passenger: &Passenger)
 }
 
 fn push_bindings(page: &mut Page, passenger: &Passenger)
-    requires { length page.old + 39 ≤ 640 }
+    requires { length page.old + 39 ≤ page_room }
     ensures text { page.new ≡ page.old ++ bindings_text passenger.now }
     ensures size { length page.new ≤ length page.old + 39 }
 {
@@ -137,7 +138,7 @@ fn push_bindings(page: &mut Page, passenger: &Passenger)
 /// An instruction: its address, guess and flag, its sources and destination, and what it has still to send.
 #[tactic(auto, unfolding(crate::specs::Passengers::passenger_text))]
 pub(crate) fn push_passenger(page: &mut Page, passenger: &Passenger)
-    requires { length page.old + 82 ≤ 640 }
+    requires { length page.old + 82 ≤ page_room }
     ensures text { page.new ≡ page.old ++ passenger_text passenger.now }
     ensures size { length page.new ≤ length page.old + 82 }
 {

@@ -4,6 +4,7 @@
 ghost use Rattle.std.specs.Prelude.{◌≡◌, ◌+◌, ◌≤◌, ◌++◌, length, codes, decimal};
 ghost use Rattle.cf_report.specs.Passengers.{packet_text, passenger_text, met_text as text_of_met, held_text, is_empty as is_empty_cell, stage_line};
 ghost use Rattle.cf_report.specs.Putting.{PutsText};
+ghost use Rattle.cf_texts.specs.Room.{page_room};
 
 use crate::passengers::{push_packet, push_passenger};
 use crate::putting::put_text;
@@ -20,7 +21,7 @@ fn met_text(met: bool) -> &'static [u8]
 
 /// An instruction and a result.
 fn push_both(page: &mut Page, passenger: &Passenger, packet: Packet, met: bool)
-    requires { length page.old + 110 ≤ 640 }
+    requires { length page.old + 110 ≤ page_room }
     ensures text { page.new ≡ page.old
         ++ (text_of_met met ++ passenger_text passenger.now ++ codes " | " ++ packet_text packet) }
     ensures size { length page.new ≤ length page.old + 110 }
@@ -33,7 +34,7 @@ fn push_both(page: &mut Page, passenger: &Passenger, packet: Packet, met: bool)
 
 /// An instruction that stands alone.
 fn push_instruction(page: &mut Page, passenger: &Passenger)
-    requires { length page.old + 110 ≤ 640 }
+    requires { length page.old + 110 ≤ page_room }
     ensures text { page.new ≡ page.old ++ (codes " instruction | " ++ passenger_text passenger.now) }
     ensures size { length page.new ≤ length page.old + 110 }
 {
@@ -43,7 +44,7 @@ fn push_instruction(page: &mut Page, passenger: &Passenger)
 
 /// A result that stands alone.
 fn push_result(page: &mut Page, packet: Packet)
-    requires { length page.old + 23 ≤ 640 }
+    requires { length page.old + 23 ≤ page_room }
     ensures text { page.new ≡ page.old ++ (codes " result | " ++ packet_text packet) }
     ensures size { length page.new ≤ length page.old + 23 }
 {
@@ -53,7 +54,7 @@ fn push_result(page: &mut Page, packet: Packet)
 
 /// What a stage holds.
 fn push_held(page: &mut Page, cell: &Cell)
-    requires { length page.old + 110 ≤ 640 }
+    requires { length page.old + 110 ≤ page_room }
     ensures text { page.new ≡ page.old ++ held_text cell.now.passenger cell.now.packet cell.now.met }
     ensures size { length page.new ≤ length page.old + 110 }
 {
@@ -66,7 +67,7 @@ fn push_held(page: &mut Page, cell: &Cell)
 }
 
 fn push_number(page: &mut Page, stage: u32)
-    requires { length page.old + 26 ≤ 640 }
+    requires { length page.old + 26 ≤ page_room }
     ensures text { page.new ≡ page.old ++ (codes "stage " ++ decimal stage) }
     ensures size { length page.new ≤ length page.old + 26 }
 {

@@ -1,3 +1,5 @@
+//! What is counted of a run.
+
 /// What was counted over a list of moves.
 #[derive(Clone, Copy, Debug, PartialEq, Eq)]
 pub struct Tally {

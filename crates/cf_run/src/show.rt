@@ -1,3 +1,5 @@
+//! What is shown of a run.
+
 /// What a run puts to the report as it goes on.
 #[derive(Clone, Copy, PartialEq, Eq)]
 pub enum Show {

@@ -5,6 +5,7 @@ use Rattle.std.specs.List.{slice_split}
 use Rattle.std.proofs.lemmas.List.Splits.{length-slice_split}
 use Rattle.std.proofs.lemmas.List.Sums.{count_by-le-length}
 use Rattle.rv_text.specs.Lines.{is_line_feed, lines_from, lines_of_pieces, text_lines}
+use Rattle.cf_scripts.specs.Limits.{most_script}
 use Rattle.cf_bind.specs.declared.moves.Move.{Move}
 use Rattle.cf_scripts.specs.declared.refusal.ScriptKind.{ScriptKind}
 use Rattle.cf_scripts.specs.MoveLines.{move_in}
@@ -37,7 +38,7 @@ lines-few : (text : List ℕ) → length (text_lines text) ≤ length text + 1
 unfolding text_lines
 lines-few text = omega (arith, lines-of (slice_split is_line_feed text), length-slice_split is_line_feed text, count_by-le-length is_line_feed text)
 
-pub told-few : (above : ℕ) (text : List ℕ) (told : Told) → told_from above (text_lines text) ≡ told → above + length text ≤ 16777216 → length told.moves < 2 ^ 25
+pub told-few : (above : ℕ) (text : List ℕ) (told : Told) → told_from above (text_lines text) ≡ told → above + length text ≤ most_script → length told.moves < 2 ^ 25
 told-few above text told same few =
     subst (λ (t : Told). length t.moves < 2 ^ 25) same (omega (arith, told-lines above (text_lines text), lines-few text))
 

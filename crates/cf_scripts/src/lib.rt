@@ -12,7 +12,7 @@ mod writing;
 pub use kind::place_named;
 pub use reading::{is_ascii, read_move};
 pub use refusal::{ScriptErr, ScriptKind};
-pub use script::{Script, is_skipped};
+pub use script::{MOST_SCRIPT, Script, is_skipped};
 pub use words::Words;
 pub use writing::write_move;
 

@@ -1,3 +1,5 @@
+//! What is wrong with a script.
+
 /// Why a line tells no move, in the order in which it is tested.
 #[derive(Clone, Copy, Debug, PartialEq, Eq)]
 pub enum ScriptKind {

@@ -1,6 +1,7 @@
 //! A script is read, line by line.
 
 ghost use Rattle.std.specs.Prelude.{◌≡◌, ◌<◌, ◌≤◌, ◌^◌, length};
+ghost use Rattle.cf_scripts.specs.Limits.{most_script};
 ghost use Rattle.cf_scripts.specs.Scripts.{is_skipped, script_of, next_of, behind_next};
 
 use crate::reading::read_move;
@@ -9,6 +10,9 @@ use crate::words::Words;
 use cf_bind::Move;
 use rv_text::cut_line;
 use std::marker::Model;
+
+/// The greatest length of a script's text, in bytes.
+pub const MOST_SCRIPT: usize = 16_777_216;
 
 /// A script, whose text is lent. It is seen as what is left of it: the moves, and the refusal or the end behind
 /// them.
@@ -24,13 +28,14 @@ pub struct Script<'a> {
 impl<'a> Model for Script<'a> {
     ghost use Rattle.std.specs.Prelude.{◌+◌, ◌≤◌, length};
     ghost use Rattle.rv_text.specs.Lines.{text_lines};
+    ghost use Rattle.cf_scripts.specs.Limits.{most_script};
     ghost use Rattle.cf_scripts.specs.Scripts.{Told, told_from};
 
     ghost Value = { Told };
 
     ghost view = { λ script. told_from script.above (text_lines script.rest.now) };
 
-    ghost invariant = { λ script. script.above + length script.rest.now ≤ 16777216 };
+    ghost invariant = { λ script. script.above + length script.rest.now ≤ most_script };
 }
 
 /// Whether a line is a comment or has no words.
@@ -42,10 +47,10 @@ pub fn is_skipped(line: &[u8]) -> bool
 }
 
 impl<'a> Script<'a> {
-    /// The script of a text of at most 16,777,216 bytes.
+    /// The script of a text.
     #[tactic(auto, unfolding(crate::specs::Scripts::script_of))]
     pub fn view(text: &'a [u8]) -> Script<'a>
-        requires { length text.now ≤ 16777216 }
+        requires { length text.now ≤ most_script }
         ensures { result ≡ script_of text.now }
     {
         Script {

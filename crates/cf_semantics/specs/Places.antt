@@ -1,5 +1,5 @@
 -- Places in the column: an item, with what stands above it and below it.
-use Rattle.std.specs.Prelude.{◌≡◌, ℕ, zero, suc, List, [], ◌∷◌, ◌++◌, Bool, false, if◌then◌else◌, Some}
+use Rattle.std.specs.Prelude.{◌≡◌, ℕ, zero, suc, List, [], ◌∷◌, ◌++◌, false, if◌then◌else◌, Some}
 use Rattle.rv_inst.specs.declared.isa.Isa.{Isa}
 use Rattle.rv_machine.specs.Machine.{Machine}
 use Rattle.cf_bind.specs.declared.packet.Packet.{Packet}
@@ -28,11 +28,6 @@ pub record Lying (s : State) : Type 0 where
 -- what is known below these items, where x is the sequential machine as far as it has retired
 abbrev pub known : Isa → State → Machine → List Item → Walk
 known isa s x above = walk (past isa) above (top s x)
-
--- a barrier: a packet that turns or halts, or a passenger that owes one
-abbrev pub is_barrier : Item → Bool
-is_barrier (Up i p) = turns p.owes
-is_barrier (Down i k) = turns (Some k)
 
 -- neither a passenger nor a barrier is among the items
 abbrev pub IsHarmless : List Item → Type 0

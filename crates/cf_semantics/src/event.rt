@@ -1,3 +1,5 @@
+//! What is seen of a move.
+
 use cf_bind::End;
 use rv_machine::Retired;
 

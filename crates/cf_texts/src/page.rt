@@ -4,17 +4,21 @@
 ghost use Rattle.std.specs.Prelude.{◌≡◌, ◌+◌, ◌*◌, ◌<◌, ◌≤◌, ◌++◌, ◌∷◌, [], length, decimal};
 ghost use Rattle.digits.specs.Hexadecimal.{hex8};
 ghost use Rattle.cf_texts.specs.Texts.{line, separator as separator_of, register_name, register_entry, registers_from, counted_line, trap_line};
+ghost use Rattle.cf_texts.specs.Room.{page_room};
 
 use arrayvec::ArrayVec;
 use digits::hex8;
 use itoa::Buffer;
 use std::marker::Model;
 
-/// A page of 640 bytes at most, which takes no memory: there is room for a line of each kind, a count and the 32
-/// registers. It is seen as its bytes.
+/// How many bytes a page has room for.
+const ROOM: usize = 640;
+
+/// A page of text, which takes no memory: there is room for a line of each kind, a count and the 32 registers. It is seen as
+/// its bytes.
 #[derive(Drop)]
 pub struct Page {
-    text: ArrayVec<u8, 640>,
+    text: ArrayVec<u8, ROOM>,
 }
 
 impl Model for Page {
@@ -51,7 +55,7 @@ impl Page {
 
     /// Some bytes.
     pub fn push(&mut self, text: &[u8])
-        requires { length self.old + length text.now ≤ 640 }
+        requires { length self.old + length text.now ≤ page_room }
         ensures { self.new ≡ self.old ++ text.now }
     {
         for byte in text {
@@ -61,7 +65,7 @@ impl Page {
 
     /// A word as eight hexadecimal digits.
     pub fn push_hex(&mut self, word: u32)
-        requires { length self.old + 8 ≤ 640 }
+        requires { length self.old + 8 ≤ page_room }
         ensures text { self.new ≡ self.old ++ hex8 word }
         ensures size { length self.new ≡ length self.old + 8 }
     {
@@ -70,7 +74,7 @@ impl Page {
 
     /// A number in decimal, of 20 digits at most.
     pub fn push_decimal(&mut self, number: u64)
-        requires { length self.old + 20 ≤ 640 }
+        requires { length self.old + 20 ≤ page_room }
         ensures text { self.new ≡ self.old ++ decimal number }
         ensures size { length self.new ≤ length self.old + 20 }
     {
@@ -81,7 +85,7 @@ impl Page {
     /// A register's name: `x` and two digits.
     #[tactic(auto, unfolding(crate::specs::Texts::register_name))]
     pub fn push_register_name(&mut self, register: u8)
-        requires { length self.old + 3 ≤ 640 }
+        requires { length self.old + 3 ≤ page_room }
         ensures text { self.new ≡ self.old ++ register_name register }
         ensures size { length self.new ≡ length self.old + 3 }
     {
@@ -89,7 +93,7 @@ impl Page {
     }
 
     fn push_register(&mut self, register: u8, word: u32)
-        requires { length self.old + 13 ≤ 640 }
+        requires { length self.old + 13 ≤ page_room }
         ensures text { self.new ≡ self.old ++ register_entry register word }
         ensures size { length self.new ≡ length self.old + 13 }
     {
@@ -101,7 +105,7 @@ impl Page {
 
     /// The 32 registers in eight lines.
     pub fn push_registers(&mut self, regs: &[u32; 32])
-        requires { length self.old + 416 ≤ 640 }
+        requires { length self.old + 416 ≤ page_room }
         ensures text { self.new ≡ self.old ++ registers_from 0 regs.now }
         ensures size { length self.new ≡ length self.old + 416 }
     {
@@ -114,7 +118,7 @@ impl Page {
 
     /// A line of this text.
     pub fn push_line(&mut self, text: &[u8])
-        requires { length self.old + length text.now + 1 ≤ 640 }
+        requires { length self.old + length text.now + 1 ≤ page_room }
         ensures text { self.new ≡ self.old ++ line text.now }
         ensures size { length self.new ≡ length self.old + length text.now + 1 }
     {
@@ -124,7 +128,7 @@ impl Page {
 
     /// A line of a name and a number.
     pub fn push_counted(&mut self, name: &[u8], number: u64)
-        requires { length self.old + length name.now + 21 ≤ 640 }
+        requires { length self.old + length name.now + 21 ≤ page_room }
         ensures text { self.new ≡ self.old ++ counted_line name.now number }
         ensures size { length self.new ≤ length self.old + length name.now + 21 }
     {
@@ -135,7 +139,7 @@ impl Page {
 
     /// The line of a trap.
     pub fn push_trap(&mut self, cause: u8, pc: u32, detail: u32)
-        requires { length self.old + 60 ≤ 640 }
+        requires { length self.old + 60 ≤ page_room }
         ensures text { self.new ≡ self.old ++ trap_line cause pc detail }
         ensures size { length self.new ≤ length self.old + 60 }
     {

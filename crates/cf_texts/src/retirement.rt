@@ -3,13 +3,14 @@
 
 ghost use Rattle.std.specs.Prelude.{◌≡◌, ◌+◌, ◌≤◌, ◌++◌, length};
 ghost use Rattle.cf_texts.specs.Retirement.{written_register, retirement_text};
+ghost use Rattle.cf_texts.specs.Room.{page_room};
 
 use crate::page::Page;
 
 impl Page {
     /// The register that an instruction wrote, with its value, or `-` where it wrote none.
     fn push_written(&mut self, register: u8, value: u32)
-        requires { length self.old + 12 ≤ 640 }
+        requires { length self.old + 12 ≤ page_room }
         ensures text { self.new ≡ self.old ++ written_register register value }
         ensures size { length self.new ≤ length self.old + 12 }
     {

@@ -1,3 +1,4 @@
+//! Lines that were worked by hand.
 use super::*;
 
 #[test]

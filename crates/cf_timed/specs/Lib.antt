@@ -7,3 +7,4 @@ pub mod Clocks
 pub mod Earliest
 pub mod Timings
 pub mod TimedRuns
+pub mod Limits

@@ -16,7 +16,7 @@ pub use answer::Timed;
 pub use clock::Clock;
 pub use delays::{Delays, kind_place};
 pub use reaching::port;
-pub use reading::read_delays;
+pub use reading::{MOST_DELAYS, read_delays};
 pub use refusal::{DelayErr, DelayKind};
 pub use run::{clock_behind, run_timed, timed};
 pub use timing::Timing;

@@ -3,6 +3,7 @@
 ghost use Rattle.std.specs.Prelude.{◌≡◌, ◌<◌, ◌≤◌, All, IfOk, IfSome, MatchResult, Ok, Err, length};
 ghost use Rattle.cf_timed.specs.Delays.{IsDelay};
 ghost use Rattle.cf_timed.specs.DelayLines.{delay_word, delays_in, filled, line_told, words_told};
+ghost use Rattle.cf_timed.specs.Limits.{most_delays};
 
 use crate::delays::Delays;
 use crate::refusal::{DelayErr, DelayKind};
@@ -54,12 +55,15 @@ fn read_line(named: &mut [Option<u32>; 14], line: &[u8]) -> Result<(), DelayKind
     }
 }
 
+/// The greatest length of a text of delays, in bytes.
+pub const MOST_DELAYS: usize = 65_536;
+
 /// The delays that the text tells, a kind of move and its delay a line; a kind that no line tells has delay 1. Or the first
 /// line that tells no delay: the first refusal of `NotAscii`, `UnknownKind`, `KindTwice`, `BadDelay` and `ExtraWords`. A comment
 /// and a line without words are skipped.
 #[tactic(auto, unfolding(crate::specs::DelayLines::delays_in))]
 pub fn read_delays(text: &[u8]) -> Result<Delays, DelayErr>
-    requires { length text.now ≤ 65536 }
+    requires { length text.now ≤ most_delays }
     ensures { result ≡ delays_in text.now }
 {
     let mut named = [None; 14];

@@ -1,3 +1,4 @@
+//! Words of command lines, by the grammar: what they ask, and which of them is refused.
 use super::*;
 use std::alloc::{AllocError, Global};
 use std::process::Abort;

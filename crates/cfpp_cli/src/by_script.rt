@@ -5,7 +5,7 @@ ghost use Rattle.rv_machine.specs.Streams.{streams_of};
 ghost use Rattle.cf_words.specs.Options.{most_limit};
 ghost use Rattle.cli_files.specs.Causes.{input_answered, output_answered};
 ghost use Rattle.cli_files.specs.Outside.{report_of};
-ghost use Rattle.cli_files.specs.Scripts.{most_script};
+ghost use Rattle.cf_scripts.specs.Limits.{most_script};
 ghost use Rattle.cfpp_cli.specs.Reporting.{Comes, Tells, files_reported};
 ghost use Rattle.cfpp_cli.specs.Run.{ByScript, RunsCore, BreaksCore};
 

@@ -8,7 +8,8 @@ use Rattle.cli_files.specs.Reads.{layout_files, WereRead}
 use Rattle.cli_files.specs.declared.status.Status.{Status}
 use Rattle.cli_files.proofs.Reading.{AllRead, one-read, more-read, were-all, were-before, were-behind, were-lacking, loaded-read, loaded-lacking}
 use Rattle.cli_audit.specs.Audit.{AuditAsked, AuditSide, ReadsTrace, StopsAtTrace, AnswersAudit}
-use Rattle.cli_audit.specs.Traces.{most_trace, LacksTrace}
+use Rattle.cf_audit.specs.Limits.{most_trace}
+use Rattle.cli_audit.specs.Traces.{LacksTrace}
 
 trace-lacking : (name : List ℕ) (a b : Option Told) (answer : Status) (report : List ℕ) →
     LacksTrace name a b answer report → WereRead (name ∷ []) a b

@@ -1,17 +1,13 @@
 -- The trace that a file holds, and why there is none.
 use Rattle.std.specs.Prelude.{◌≡◌, ◌<◌, ◌≤◌, ◌+◌, ◌⊎◌, ℕ, List, length, codes, Option}
 use Rattle.cf_io.specs.Reads.{Told}
+use Rattle.cf_audit.specs.Limits.{most_trace}
 use Rattle.cli_files.specs.Files.{IsFrontOf, LacksBytes}
 use Rattle.cli_files.specs.declared.status.Status.{Status}
 use Rattle.cli_files.specs.declared.status.Status.TheVariants as status
 use Rattle.cli_files.specs.declared.status.TraceFault.TheVariants as fault
 use Rattle.cli_files.specs.declared.status.Which.TheVariants as which
 use Rattle.cli_audit.specs.Reports.{bad_trace}
-use Rattle.cli_audit.specs.declared.traces.TheConstants.{MOST_BYTES}
-
--- the greatest length of a trace
-abbrev pub most_trace : ℕ
-most_trace = MOST_BYTES
 
 -- the file's first bytes, one more than a trace may have, are not too many, and are this text
 pub record IsTraceAt (name : List ℕ) (before after : Option Told) (text : List ℕ) : Type 0 where

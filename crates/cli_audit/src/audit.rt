@@ -5,7 +5,7 @@ ghost use Rattle.std.specs.Prelude.{◌≡◌, ◌≤◌, length, Ok};
 ghost use Rattle.cf_io.specs.Causes.{HasCause};
 ghost use Rattle.cf_words.specs.Views.{layout_of};
 ghost use Rattle.cli_files.specs.Causes.{files_answered, input_answered, output_answered};
-ghost use Rattle.cli_audit.specs.Traces.{most_trace};
+ghost use Rattle.cf_audit.specs.Limits.{most_trace};
 ghost use Rattle.cli_audit.specs.Audit.{audit_asked, side, AnswersAudit, ComesOfTrace, status_of as status_for, text_of};
 
 use crate::reports::{bad_trace, trace_of};

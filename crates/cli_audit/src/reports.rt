@@ -3,6 +3,7 @@
 
 ghost use Rattle.std.specs.Prelude.{◌≡◌, ◌+◌, ◌≤◌, ◌++◌, length};
 ghost use Rattle.cli_audit.specs.Reports.{kind_text, place_text, fault_text, bad_trace as bad_trace_text, trace_of as trace_text};
+ghost use Rattle.cf_texts.specs.Room.{page_room};
 
 use cf_audit::TraceKind;
 use cf_closing::push_bar;
@@ -11,7 +12,7 @@ use cli_files::TraceFault;
 
 /// Why a text is not the trace of a run: the name, and what bars the move.
 fn push_kind(page: &mut Page, kind: TraceKind)
-    requires { length page.old + 30 ≤ 640 }
+    requires { length page.old + 30 ≤ page_room }
     ensures text { page.new ≡ page.old ++ kind_text kind }
     ensures size { length page.new ≤ length page.old + 30 }
 {
@@ -28,7 +29,7 @@ fn push_kind(page: &mut Page, kind: TraceKind)
 
 /// The line in which that is seen.
 fn push_place(page: &mut Page, number: u32)
-    requires { length page.old + 30 ≤ 640 }
+    requires { length page.old + 30 ≤ page_room }
     ensures text { page.new ≡ page.old ++ place_text number }
     ensures size { length page.new ≤ length page.old + 30 }
 {
@@ -37,7 +38,7 @@ fn push_place(page: &mut Page, number: u32)
 }
 
 fn push_fault(page: &mut Page, fault: TraceFault)
-    requires { length page.old + 80 ≤ 640 }
+    requires { length page.old + 80 ≤ page_room }
     ensures text { page.new ≡ page.old ++ fault_text fault }
     ensures size { length page.new ≤ length page.old + 80 }
 {

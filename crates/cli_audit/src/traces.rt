@@ -6,12 +6,13 @@ ghost use Rattle.cli_files.specs.Causes.{files_read};
 ghost use Rattle.cli_audit.specs.Traces.{IsTraceAt, LacksTrace};
 
 use crate::reports::bad_trace;
+use cf_audit::MOST_TRACE;
 use cf_io::{Files, FilesErr};
 use cli_files::{Answer, Status, TraceFault, Which, no_memory, unread};
 use std::alloc::Global;
 
 /// The greatest length of a trace, in bytes.
-const MOST_BYTES: u64 = 16_777_216;
+const MOST_BYTES: u64 = MOST_TRACE as u64;
 
 /// The text of the trace in the file of this name, or the answer where there is none.
 pub fn trace_at<F: Files>(alloc: Global, name: &str, files: &mut F) -> Result<Vec<u8>, Answer>

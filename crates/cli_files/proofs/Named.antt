@@ -5,7 +5,8 @@ use Rattle.cf_layout.specs.Layout.{Plan}
 use Rattle.layout_file.specs.Answers.{Describes}
 use Rattle.cf_words.specs.Words.{in_file}
 use Rattle.cli_files.specs.Files.{IsFrontOf}
-use Rattle.cli_files.specs.Layouts.{most_layout_bytes, IsLayoutAt, IsNoLayout, LacksLayout}
+use Rattle.layout_file.specs.Limits.{most_layout_bytes}
+use Rattle.cli_files.specs.Layouts.{IsLayoutAt, IsNoLayout, LacksLayout}
 use Rattle.cli_files.specs.declared.answer.Answer.{Answer}
 
 -- a file that describes a layout is where it is

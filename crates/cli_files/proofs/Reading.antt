@@ -10,14 +10,16 @@ use Rattle.cf_words.specs.Options.{Schedule, by_script, by_seed, by_rule}
 use Rattle.cf_words.specs.Words.{Layout, plain, in_file}
 use Rattle.cli_files.specs.Files.{IsFrontOf, NotesFailure, NotesUnheld, LacksBytes}
 use Rattle.cli_files.specs.Image.{most_bytes}
-use Rattle.cli_files.specs.Layouts.{IsLayoutAt, LacksLayout, most_layout_bytes}
+use Rattle.layout_file.specs.Limits.{most_layout_bytes}
+use Rattle.cli_files.specs.Layouts.{IsLayoutAt, LacksLayout}
 use Rattle.cli_files.specs.Loading.{IsLoaded, LacksLoaded}
 use Rattle.cli_files.specs.Outside.{Outside}
 use Rattle.cli_files.specs.Programs.{IsProgramAt, LacksProgram}
 use Rattle.cli_files.specs.Reads.{layout_files, script_files, ReadsFirst, WereRead}
 use Rattle.cli_files.specs.RunFiles.{RunAsked, IsReady, LacksFile, ReadsFiles, AnswersFiles}
 use Rattle.cli_files.specs.Schedules.{ReadySchedule, IsScheduled, LacksSchedule, in_script, drawn_from, in_turn}
-use Rattle.cli_files.specs.Scripts.{LacksScript, most_script}
+use Rattle.cf_scripts.specs.Limits.{most_script}
+use Rattle.cli_files.specs.Scripts.{LacksScript}
 use Rattle.cli_files.specs.declared.status.Status.{Status}
 use Rattle.cli_files.specs.declared.status.Which.{Which}
 

@@ -2,7 +2,8 @@
 use Rattle.std.specs.Prelude.{◌≡◌, ◌≤◌, ℕ, List, length, vec_items, Option}
 use Rattle.cf_io.specs.Reads.{Told}
 use Rattle.cf_words.specs.Options.{Schedule, by_script, by_seed, by_rule}
-use Rattle.cli_files.specs.Scripts.{IsScriptAt, LacksScript, most_script}
+use Rattle.cf_scripts.specs.Limits.{most_script}
+use Rattle.cli_files.specs.Scripts.{IsScriptAt, LacksScript}
 use Rattle.cli_files.specs.declared.status.Status.{Status}
 use Rattle.cli_files.specs.declared.schedules.ReadySchedule as rust
 use Rattle.cli_files.specs.declared.schedules.ReadySchedule.TheVariants as schedules

@@ -13,12 +13,12 @@ use crate::status::{Status, Which};
 use cf_io::{Files, FilesErr};
 use cf_layout::{Layout, plain};
 use cf_words::LayoutWord;
-use layout_file::{FileErr, read_layout};
+use layout_file::{FileErr, MOST_LAYOUT, read_layout};
 use layout_refusals::bad_layout;
 use std::alloc::Global;
 
 /// The greatest length of a layout file, in bytes.
-const MOST_BYTES: u64 = 65_536;
+const MOST_BYTES: u64 = MOST_LAYOUT as u64;
 
 /// The layout that a file of this content describes, or the answer where it describes none.
 fn read_content(alloc: Global, file: &[u8]) -> Result<Layout, Answer>

@@ -3,6 +3,7 @@
 
 ghost use Rattle.std.specs.Prelude.{◌≡◌, ◌+◌, ◌*◌, ◌≤◌, ◌++◌, length, codes};
 ghost use Rattle.cf_texts.specs.Texts.{line as line_of, counted_line};
+ghost use Rattle.cf_texts.specs.Room.{page_room};
 ghost use Rattle.cli_files.specs.Refusals.{spaced, variant, elf_text, load_text, program_text, bad_program as bad_program_text};
 
 use crate::status::ProgramErr;
@@ -13,7 +14,7 @@ use mem_regions::LoadErr;
 /// Numbers in decimal, each after one space.
 #[tactic(auto, unfolding(crate::specs::Refusals::spaced))]
 fn push_spaced(page: &mut Page, numbers: &[u64])
-    requires { length page.old + 21 * length numbers.now ≤ 640 }
+    requires { length page.old + 21 * length numbers.now ≤ page_room }
     ensures text { page.new ≡ page.old ++ spaced numbers.now }
     ensures size { length page.new ≤ length page.old + 21 * length numbers.now }
 {
@@ -26,7 +27,7 @@ fn push_spaced(page: &mut Page, numbers: &[u64])
 /// A variant's name and the numbers that it keeps.
 #[tactic(auto, unfolding(crate::specs::Refusals::variant))]
 fn push_variant(page: &mut Page, name: &[u8], kept: &[u64])
-    requires { length page.old + length name.now + 21 * length kept.now ≤ 640 }
+    requires { length page.old + length name.now + 21 * length kept.now ≤ page_room }
     ensures text { page.new ≡ page.old ++ variant name.now kept.now }
     ensures size { length page.new ≤ length page.old + length name.now + 21 * length kept.now }
 {
@@ -35,7 +36,7 @@ fn push_variant(page: &mut Page, name: &[u8], kept: &[u64])
 }
 
 fn push_elf(page: &mut Page, error: ElfErr)
-    requires { length page.old + 50 ≤ 640 }
+    requires { length page.old + 50 ≤ page_room }
     ensures text { page.new ≡ page.old ++ elf_text error }
     ensures size { length page.new ≤ length page.old + 50 }
 {
@@ -61,7 +62,7 @@ fn push_elf(page: &mut Page, error: ElfErr)
 }
 
 fn push_load(page: &mut Page, error: LoadErr)
-    requires { length page.old + 60 ≤ 640 }
+    requires { length page.old + 60 ≤ page_room }
     ensures text { page.new ≡ page.old ++ load_text error }
     ensures size { length page.new ≤ length page.old + 60 }
 {
@@ -79,7 +80,7 @@ fn push_load(page: &mut Page, error: LoadErr)
 }
 
 fn push_program(page: &mut Page, error: ProgramErr)
-    requires { length page.old + 80 ≤ 640 }
+    requires { length page.old + 80 ≤ page_room }
     ensures text { page.new ≡ page.old ++ program_text error }
     ensures size { length page.new ≤ length page.old + 80 }
 {

@@ -9,10 +9,11 @@ use crate::answer::{Answer, no_memory, unread};
 use crate::refusals::line;
 use crate::status::{ScriptFault, Status, Which};
 use cf_io::{Files, FilesErr};
+use cf_scripts::MOST_SCRIPT;
 use std::alloc::Global;
 
 /// The greatest length of a script, in bytes.
-const MOST_BYTES: u64 = 16_777_216;
+const MOST_BYTES: u64 = MOST_SCRIPT as u64;
 
 /// The text of the script in the file of this name, or the answer where there is none.
 pub fn script_at<F: Files>(alloc: Global, name: &str, files: &mut F) -> Result<Vec<u8>, Answer>

@@ -1,3 +1,5 @@
+//! How a call of the simulator ends.
+
 ghost use Rattle.std.specs.Prelude.{◌≡◌};
 
 use cf_audit::TraceKind;
@@ -24,7 +26,7 @@ pub enum Which {
 /// Why a file is no program.
 #[derive(Clone, Copy, Debug, PartialEq, Eq)]
 pub enum ProgramErr {
-    /// It has over 33,554,432 bytes.
+    /// It is longer than a program may be.
     TooLong,
 
     /// It begins as an ELF file does, and is none that can be viewed.
@@ -38,7 +40,7 @@ pub enum ProgramErr {
 /// Why a file is no script of moves that can be made.
 #[derive(Clone, Copy, Debug, PartialEq, Eq)]
 pub enum ScriptFault {
-    /// It has over 16,777,216 bytes.
+    /// It is longer than a script may be.
     TooLong,
 
     /// The line that was reached tells no move.
@@ -48,7 +50,7 @@ pub enum ScriptFault {
 /// Why a file does not tell how long moves take.
 #[derive(Clone, Copy, Debug, PartialEq, Eq)]
 pub enum DelaysFault {
-    /// It has over 65,536 bytes.
+    /// It is longer than a file of delays may be.
     TooLong,
 
     /// A line tells no delay.
@@ -58,7 +60,7 @@ pub enum DelaysFault {
 /// Why a file is not the trace of a run.
 #[derive(Clone, Copy, PartialEq, Eq)]
 pub enum TraceFault {
-    /// It has over 16,777,216 bytes.
+    /// It is longer than a trace may be.
     TooLong,
 
     /// The line in which that is seen, counted from 1, and why.

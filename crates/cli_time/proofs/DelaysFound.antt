@@ -4,7 +4,8 @@ use Rattle.cf_io.specs.Reads.{Told}
 use Rattle.cf_timed.specs.DelayLines.{delays_in}
 use Rattle.cli_files.specs.Files.{IsFrontOf}
 use Rattle.cli_files.specs.declared.answer.Answer.{Answer}
-use Rattle.cli_time.specs.DelayFiles.{most_delays, IsDelaysAt, LacksDelays, RefusesText}
+use Rattle.cf_timed.specs.Limits.{most_delays}
+use Rattle.cli_time.specs.DelayFiles.{IsDelaysAt, LacksDelays, RefusesText}
 
 -- a text that was read and tells delays is in its file
 pub delays-found : (before after : Option Told) (name text : List ℕ) (r : Result (List ℕ) Answer) →

@@ -8,7 +8,8 @@ use Rattle.cli_files.specs.Reads.{layout_files, files_of_layouts, WereRead}
 use Rattle.cli_files.specs.declared.status.Status.{Status}
 use Rattle.cli_files.proofs.Reading.{AllRead, none-read, one-read, more-read, were-all, were-before, were-behind, were-lacking, layout-read, layout-lacking, program-read, program-lacking}
 use Rattle.cli_time.specs.Asked.{TimeAsked}
-use Rattle.cli_time.specs.DelayFiles.{most_delays, IsDelaysAt, LacksDelays}
+use Rattle.cf_timed.specs.Limits.{most_delays}
+use Rattle.cli_time.specs.DelayFiles.{IsDelaysAt, LacksDelays}
 use Rattle.cli_time.specs.LayoutFiles.{AreLayoutsAt, LacksLayouts}
 use Rattle.cli_time.specs.Reading.{IsLaid, IsReady, LacksFile}
 use Rattle.cli_time.specs.Times.{ReadsFiles, AnswersTime, BreaksTime}

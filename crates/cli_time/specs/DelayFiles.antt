@@ -2,6 +2,7 @@
 use Rattle.std.specs.Prelude.{◌≡◌, ◌<◌, ◌≤◌, ◌+◌, ◌⊎◌, ℕ, List, length, codes, Option, Ok, Err}
 use Rattle.cf_io.specs.Reads.{Told}
 use Rattle.cf_timed.specs.DelayLines.{delays_in}
+use Rattle.cf_timed.specs.Limits.{most_delays}
 use Rattle.cli_files.specs.Files.{IsFrontOf, LacksBytes}
 use Rattle.cli_files.specs.declared.status.DelaysFault.{DelaysFault}
 use Rattle.cli_files.specs.declared.status.DelaysFault.TheVariants as fault
@@ -9,10 +10,6 @@ use Rattle.cli_files.specs.declared.status.Status.{Status}
 use Rattle.cli_files.specs.declared.status.Status.TheVariants as status
 use Rattle.cli_files.specs.declared.status.Which.TheVariants as which
 use Rattle.cli_time.specs.Refusals.{bad_delays}
-
--- the greatest length of a file of delays
-abbrev pub most_delays : ℕ
-most_delays = 65536
 
 -- the file's first bytes, one more than it may have, are not too many, and tell these
 pub record IsDelaysAt (name : List ℕ) (before after : Option Told) (delays : List ℕ) : Type 0 where

@@ -3,6 +3,7 @@
 ghost use Rattle.std.specs.Prelude.{◌≡◌, ◌≤◌, IfOk, IfErr, Ok, length};
 ghost use Rattle.cf_io.specs.Causes.{HasCause};
 ghost use Rattle.cf_timed.specs.DelayLines.{delays_in};
+ghost use Rattle.cf_timed.specs.Limits.{most_delays};
 ghost use Rattle.cli_files.specs.Causes.{files_read};
 ghost use Rattle.cli_files.specs.declared.status.Status.TheVariants.{BadDelays};
 ghost use Rattle.cli_time.specs.DelayFiles.{IsDelaysAt, LacksDelays, RefusesText};
@@ -10,12 +11,12 @@ ghost use Rattle.cli_time.specs.Refusals.{bad_delays as bad_delays_text};
 
 use crate::refusals::bad_delays;
 use cf_io::{Files, FilesErr};
-use cf_timed::{Delays, read_delays};
+use cf_timed::{Delays, MOST_DELAYS, read_delays};
 use cli_files::{Answer, DelaysFault, Status, Which, no_memory, unread};
 use std::alloc::Global;
 
 /// The greatest length of a file of delays, in bytes.
-const MOST_BYTES: u64 = 65_536;
+const MOST_BYTES: u64 = MOST_DELAYS as u64;
 
 fn refusal(fault: DelaysFault) -> Answer
     ensures status { result.status ≡ BadDelays fault }
@@ -29,7 +30,7 @@ fn refusal(fault: DelaysFault) -> Answer
 
 /// The delays that a text tells, or the answer where it tells none.
 fn read_text(text: &[u8]) -> Result<Delays, Answer>
-    ensures fits { IfOk result (λ delays. length text.now ≤ 65536) }
+    ensures fits { IfOk result (λ delays. length text.now ≤ most_delays) }
     ensures told { IfOk result (λ delays. delays_in text.now ≡ Ok delays) }
     ensures refused { IfErr result (λ answer. RefusesText text.now answer.status answer.closing) }
 {

@@ -7,6 +7,7 @@ ghost use Rattle.cf_timed.specs.TimedRuns.{answer_of};
 ghost use Rattle.cf_words.specs.Views.{layout_of};
 ghost use Rattle.cli_time.specs.Asked.{name_of};
 ghost use Rattle.cli_time.specs.Lines.{ending_text, least_line, measured_text, number_text, time_line};
+ghost use Rattle.cf_texts.specs.Room.{page_room};
 
 use crate::measuring::Measured;
 use cf_closing::run_line;
@@ -31,7 +32,7 @@ fn ran(answer: Timed) -> Ran
 
 /// How the run ended.
 fn push_ending(page: &mut Page, limit: u64, answer: Timed)
-    requires { length page.old + 80 ≤ 640 }
+    requires { length page.old + 80 ≤ page_room }
     ensures text { page.new ≡ page.old ++ ending_text limit answer }
     ensures size { length page.new ≤ length page.old + 80 }
 {
@@ -42,7 +43,7 @@ fn push_ending(page: &mut Page, limit: u64, answer: Timed)
 
 /// A number behind its name.
 fn push_number(page: &mut Page, name: &[u8], number: u64)
-    requires { length page.old + length name.now + 20 ≤ 640 }
+    requires { length page.old + length name.now + 20 ≤ page_room }
     ensures text { page.new ≡ page.old ++ number_text name.now number }
     ensures size { length page.new ≤ length page.old + length name.now + 20 }
 {

@@ -3,13 +3,14 @@
 
 ghost use Rattle.std.specs.Prelude.{◌≡◌, ◌+◌, ◌≤◌, ◌++◌, length};
 ghost use Rattle.cli_time.specs.Refusals.{bad_delays as bad_delays_text, error_text, kind_text};
+ghost use Rattle.cf_texts.specs.Room.{page_room};
 
 use cf_texts::Page;
 use cf_timed::{DelayErr, DelayKind};
 use cli_files::DelaysFault;
 
 fn push_kind(page: &mut Page, kind: DelayKind)
-    requires { length page.old + 20 ≤ 640 }
+    requires { length page.old + 20 ≤ page_room }
     ensures text { page.new ≡ page.old ++ kind_text kind }
     ensures size { length page.new ≤ length page.old + 20 }
 {
@@ -23,7 +24,7 @@ fn push_kind(page: &mut Page, kind: DelayKind)
 }
 
 fn push_error(page: &mut Page, error: DelayErr)
-    requires { length page.old + 60 ≤ 640 }
+    requires { length page.old + 60 ≤ page_room }
     ensures text { page.new ≡ page.old ++ error_text error }
     ensures size { length page.new ≤ length page.old + 60 }
 {

@@ -1,3 +1,4 @@
+//! Digits that were worked by hand.
 use super::*;
 
 #[test]

@@ -12,6 +12,7 @@ use Rattle.cf_layout.proofs.Ordered.{few_classes}
 use Rattle.cf_layout.proofs.Asking.{class_within, class_stages_few}
 use Rattle.layout_file.specs.Names.{class_name}
 use Rattle.layout_file.specs.Text.{pair_line, rest_text, array_text, quoted_name, unit_line, unit_lines, siding_lines, siding_text, numbers_text, cache_line, format_text, head_text, body_text}
+use Rattle.layout_file.specs.Limits.{most_layout_bytes}
 use Rattle.layout_file.proofs.Texts.{AreSmall, UnitsAreSmall, SidingsAreSmall, IsSmall}
 
 -- texts of at most ten bytes
@@ -148,7 +149,7 @@ head_length second plan stages lane =
     )
 
 -- the whole text
-whole_length : (second : Bool) (plan : Plan) → ((c : Class) → length (stages_of plan c) ≤ 32) → length plan.sidings ≤ 8 → AreShort plan.sidings → IsSmall plan → length (head_text second plan ++ body_text plan) ≤ 65536
+whole_length : (second : Bool) (plan : Plan) → ((c : Class) → length (stages_of plan c) ≤ 32) → length plan.sidings ≤ 8 → AreShort plan.sidings → IsSmall plan → length (head_text second plan ++ body_text plan) ≤ most_layout_bytes
 unfolding body_text
 whole_length second plan few eight short small =
     let units = unit_lines plan computed_classes in
@@ -194,5 +195,5 @@ accepted_small plan a =
     }
 
 -- so its text is short
-pub text_short : (second : Bool) (plan : Plan) → IsAccepted plan → length (head_text second plan ++ body_text plan) ≤ 65536
+pub text_short : (second : Bool) (plan : Plan) → IsAccepted plan → length (head_text second plan ++ body_text plan) ≤ most_layout_bytes
 text_short second plan a = whole_length second plan (class_stages_few plan a) a.few_sidings (sidings_small plan plan.sidings a.stages.1 a.sidings).1 (accepted_small plan a)

@@ -6,6 +6,7 @@ use Rattle.cf_layout.specs.Layout.{Plan}
 use Rattle.cf_layout.specs.Asked.{plan_of}
 use Rattle.layout_file.specs.declared.fault.FileErr.{FileErr}
 use Rattle.layout_file.specs.declared.fault.FileErr.TheVariants.{TooLong, NotToml, NoMemory}
+use Rattle.layout_file.specs.Limits.{most_layout_bytes}
 use Rattle.layout_file.specs.Reading.{asked_by, fault_of}
 
 -- the error is this fault, or memory ran out
@@ -24,17 +25,17 @@ IsDocument file ms = IsUtf8 file × (parse_document file ≡ Some ms)
 abbrev pub HasFault : List ℕ → FileErr → Type 0
 HasFault file e = (ms : Members) × IsDocument file ms × (fault_of ms ≡ Some e)
 
--- why reading a file of at most 65,536 bytes fails: want of memory, no document, or a document with a fault
+-- why reading a file that is not too long fails: want of memory, no document, or a document with a fault
 abbrev pub FailsWithin : List ℕ → FileErr → Type 0
 FailsWithin file e = (e ≡ NoMemory) ⊎ (((e ≡ NotToml) × IsNotToml file) ⊎ HasFault file e)
 
 -- why reading fails
 abbrev pub Fails : List ℕ → FileErr → Type 0
-Fails file e = ((e ≡ TooLong) × (65536 < length file)) ⊎ ((length file ≤ 65536) × FailsWithin file e)
+Fails file e = ((e ≡ TooLong) × (most_layout_bytes < length file)) ⊎ ((length file ≤ most_layout_bytes) × FailsWithin file e)
 
 -- the file is a document without a fault, and describes the layout
 abbrev pub Describes : List ℕ → Plan → Type 0
-Describes file plan = (length file ≤ 65536) × ((ms : Members) × IsDocument file ms × (fault_of ms ≡ None) × (plan ≡ plan_of (asked_by ms)))
+Describes file plan = (length file ≤ most_layout_bytes) × ((ms : Members) × IsDocument file ms × (fault_of ms ≡ None) × (plan ≡ plan_of (asked_by ms)))
 
 -- the file is read as the layout: it describes that one and no other, and reading it fails only where memory runs out
 pub record ReadsAs (file : List ℕ) (plan : Plan) : Type 0 where

@@ -3,3 +3,4 @@ pub mod Tables
 pub mod Reading
 pub mod Answers
 pub mod Text
+pub mod Limits

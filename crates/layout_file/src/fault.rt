@@ -7,7 +7,7 @@ use std::alloc::{AllocError, AllocFailed};
 /// Why a file is no layout.
 #[derive(Drop)]
 pub enum FileErr {
-    /// The file has more than 65,536 bytes.
+    /// The file has more than `MOST_LAYOUT` bytes.
     TooLong,
     /// The file is no TOML document.
     NotToml,

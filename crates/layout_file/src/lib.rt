@@ -13,7 +13,7 @@ mod writing;
 pub use classes::class_name;
 pub use fault::FileErr;
 pub use name::Name;
-pub use reading::read_layout;
+pub use reading::{MOST_LAYOUT, read_layout};
 pub use writing::write_layout;
 
 #[cfg(test)]

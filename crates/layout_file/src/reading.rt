@@ -246,6 +246,9 @@ fn layout_in(alloc: Global, table: &Table) -> Result<Layout, FileErr>
     }
 }
 
+/// The greatest length of a layout file, in bytes.
+pub const MOST_LAYOUT: usize = 65_536;
+
 /// Reads a layout file of format 1 or 2: a TOML document with the keys `format`, `stages`, `lane`, the table `units`,
 /// and the array of tables `siding`; format 2 has the key `cache` besides, and the classes `mul` and `div`.
 ///
@@ -256,7 +259,7 @@ pub fn read_layout(alloc: Global, file: &[u8]) -> Result<Layout, FileErr>
     ensures ok { IfOk result (λ layout. Describes file.now layout) }
     ensures refused { IfErr result (λ error. Fails file.now error) }
 {
-    if file.len() > 65_536 {
+    if file.len() > MOST_LAYOUT {
         return Err(FileErr::TooLong);
     }
     match toml::table_from_slice(alloc, file) {

@@ -1,3 +1,4 @@
+//! What no clause says: that files are read, and that the definitions mean what is wanted.
 use crate::laws::read_back;
 use crate::{FileErr, read_layout, write_layout};
 use cf_layout::{LayoutErr, plain};

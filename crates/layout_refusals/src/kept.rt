@@ -3,6 +3,7 @@
 ghost use Rattle.std.specs.Prelude.{◌≡◌, ◌+◌, ◌*◌, ◌≤◌, ◌++◌, ◌∷◌, [], map, length};
 ghost use Rattle.layout_refusals.specs.Texts.{cut, spaced, variant};
 ghost use Rattle.layout_refusals.specs.Kept.{kept_text};
+ghost use Rattle.cf_texts.specs.Room.{page_room};
 
 use crate::cutting::cut;
 use cf_texts::Page;
@@ -21,7 +22,7 @@ pub(crate) enum Kept {
 /// A class by its word in layout files, a number in decimal.
 #[tactic(auto, using(crate::proofs::Cuts::short_name))]
 fn push_kept(page: &mut Page, value: Kept)
-    requires { length page.old + 20 ≤ 640 }
+    requires { length page.old + 20 ≤ page_room }
     ensures text { page.new ≡ page.old ++ kept_text value }
     ensures size { length page.new ≤ length page.old + 20 }
 {
@@ -35,7 +36,7 @@ fn push_kept(page: &mut Page, value: Kept)
 /// Values, each after one space.
 #[tactic(auto, unfolding(crate::specs::Texts::spaced))]
 fn push_spaced(page: &mut Page, kept: &[Kept])
-    requires { length page.old + 21 * length kept.now ≤ 640 }
+    requires { length page.old + 21 * length kept.now ≤ page_room }
     ensures text { page.new ≡ page.old ++ spaced (map kept_text kept.now) }
     ensures size { length page.new ≤ length page.old + 21 * length kept.now }
 {
@@ -48,7 +49,7 @@ fn push_spaced(page: &mut Page, kept: &[Kept])
 /// A variant's name and the values that it keeps.
 #[tactic(auto, unfolding(crate::specs::Texts::variant))]
 pub(crate) fn push_variant(page: &mut Page, name: &[u8], kept: &[Kept])
-    requires { length page.old + length name.now + 21 * length kept.now ≤ 640 }
+    requires { length page.old + length name.now + 21 * length kept.now ≤ page_room }
     ensures text { page.new ≡ page.old ++ variant name.now (map kept_text kept.now) }
     ensures size { length page.new ≤ length page.old + length name.now + 21 * length kept.now }
 {
@@ -59,7 +60,7 @@ pub(crate) fn push_variant(page: &mut Page, name: &[u8], kept: &[Kept])
 /// A variant's name and the text that it keeps, which is cut.
 #[tactic(auto, unfolding(crate::specs::Texts::spaced, crate::specs::Texts::variant))]
 pub(crate) fn push_text(page: &mut Page, name: &[u8], text: &str)
-    requires { length page.old + length name.now + 41 ≤ 640 }
+    requires { length page.old + length name.now + 41 ≤ page_room }
     ensures text { page.new ≡ page.old ++ variant name.now (cut text.now ∷ []) }
     ensures size { length page.new ≤ length page.old + length name.now + 41 }
 {

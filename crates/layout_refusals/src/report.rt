@@ -3,6 +3,7 @@
 
 ghost use Rattle.std.specs.Prelude.{◌≡◌, ◌+◌, ◌≤◌, ◌++◌, length};
 ghost use Rattle.layout_refusals.specs.Texts.{layout_text, fault_text, bad_layout as report_of};
+ghost use Rattle.cf_texts.specs.Room.{page_room};
 
 use crate::kept::Kept::{Class, Integer, Number};
 use crate::kept::{push_text, push_variant};
@@ -11,7 +12,7 @@ use cf_texts::Page;
 use layout_file::FileErr;
 
 fn push_layout(page: &mut Page, error: LayoutErr)
-    requires { length page.old + 100 ≤ 640 }
+    requires { length page.old + 100 ≤ page_room }
     ensures text { page.new ≡ page.old ++ layout_text error }
     ensures size { length page.new ≤ length page.old + 100 }
 {
@@ -57,7 +58,7 @@ fn push_layout(page: &mut Page, error: LayoutErr)
 }
 
 fn push_fault(page: &mut Page, error: &FileErr)
-    requires { length page.old + 110 ≤ 640 }
+    requires { length page.old + 110 ≤ page_room }
     ensures text { page.new ≡ page.old ++ fault_text error.now }
     ensures size { length page.new ≤ length page.old + 110 }
 {

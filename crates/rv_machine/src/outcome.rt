@@ -1,3 +1,5 @@
+//! What a step and an environment call come to.
+
 /// The line of an instruction that retired.
 #[derive(Clone, Copy, Debug, PartialEq, Eq)]
 pub struct Retired {

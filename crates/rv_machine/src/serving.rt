@@ -1,3 +1,5 @@
+//! Environment calls.
+
 ghost use Rattle.std.specs.Prelude.{◌≡◌, [], Some, false, Ok, IfOk, OnErr, IsTrue, slice_index};
 ghost use Rattle.cf_io.specs.Causes.{HasCause};
 ghost use Rattle.mem_regions.specs.Ranges.{can_write};

@@ -1,3 +1,4 @@
+//! Programs and environment calls that were worked by hand from the manual and the tables of Linux.
 use super::*;
 use cf_io::{Empty, MemSink, MemSource, Nowhere};
 use mem_regions::{Part, Regions};

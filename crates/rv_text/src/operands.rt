@@ -1,3 +1,5 @@
+//! The operands of a text, by their kinds.
+
 /// An operand of an instruction's text.
 #[derive(Clone, Copy)]
 pub enum Operand {

@@ -1,3 +1,5 @@
+//! What is wrong with the text of an instruction.
+
 /// Why a text is no instruction. The first that holds is answered: the name, the count of operands,
 /// then the operands from left to right.
 #[derive(Clone, Copy, PartialEq, Eq)]

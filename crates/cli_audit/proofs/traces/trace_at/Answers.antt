@@ -1,6 +1,6 @@
 use Rattle.std.proofs.Common.{inl, refl, ◌+◌, arith}
 use Rattle.cli_files.proofs.FileFronts.{file-front}
-use Rattle.cli_audit.specs.Traces.{most_trace}
+use Rattle.cf_audit.specs.Limits.{most_trace}
 use Rattle.cli_audit.proofs.traces.trace_at.Goals as goal
 
 pub returns-in-Ok-clause-refused : goal.returns-in-Ok-clause-refused

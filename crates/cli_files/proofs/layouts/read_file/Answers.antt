@@ -1,5 +1,5 @@
 use Rattle.std.proofs.Common.{◌+◌}
-use Rattle.cli_files.specs.Layouts.{most_layout_bytes}
+use Rattle.layout_file.specs.Limits.{most_layout_bytes}
 use Rattle.cli_files.proofs.FileFronts.{file-front}
 use Rattle.cli_files.proofs.Named.{layout-described, layout-refused}
 use Rattle.cli_files.proofs.layouts.read_file.Goals as goal

@@ -1,6 +1,6 @@
 use Rattle.std.proofs.Common.{◌+◌}
 use Rattle.cli_files.proofs.FileFronts.{file-front}
-use Rattle.cli_time.specs.DelayFiles.{most_delays}
+use Rattle.cf_timed.specs.Limits.{most_delays}
 use Rattle.cli_time.proofs.DelaysFound.{delays-found, delays-refused}
 use Rattle.cli_time.proofs.delay_files.delays_at.Goals as goal
 

@@ -1,5 +1,6 @@
 use Rattle.std.proofs.Common.{◌≡◌, ◌+◌, ◌≤◌, length}
 use Rattle.rv_text.specs.Lines.{text_lines}
+use Rattle.cf_scripts.specs.Limits.{most_script}
 use Rattle.cf_scripts.specs.Scripts.{told_from}
 use Rattle.cf_scripts.proofs.script.Script.next.Given as goal
 
@@ -7,7 +8,7 @@ use Rattle.cf_scripts.proofs.script.Script.next.Given as goal
 abbrev pub invariant-loop-self : goal.invariant-loop-self
 invariant-loop-self l = record {
   same : told_from l.self-inside.above (text_lines l.self-inside.rest.now) ≡ l.fn.self;
-  counted : l.self-inside.above + length l.self-inside.rest.now ≤ 16777216;
+  counted : l.self-inside.above + length l.self-inside.rest.now ≤ most_script;
 }
 
 abbrev pub decreases-loop-self : goal.decreases-loop-self
