@@ -4,3 +4,4 @@ pub mod Sizes
 pub mod Written
 pub mod ReadBack
 pub mod Counted
+mod Names

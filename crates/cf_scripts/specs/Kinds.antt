@@ -1,5 +1,5 @@
 -- The kinds of moves by their names (a format of this project).
-use Rattle.std.specs.Prelude.{ℕ, Option, List, [], ◌∷◌, codes}
+use Rattle.std.specs.Prelude.{ℕ, Option, List, [], ◌∷◌, codes, map, slice_get, unwrap_or}
 use Rattle.std.specs.List.{find, position}
 use Rattle.std.specs.Str.{bytes_eq}
 use Rattle.cf_scripts.specs.declared.kind.Kind.{Kind}
@@ -34,3 +34,11 @@ kind_named word = find (λ kind. bytes_eq (name_of kind) word) kinds
 -- the place of that kind among all
 unfoldable pub place_named : List ℕ → Option ℕ
 place_named word = position (λ kind. bytes_eq (name_of kind) word) kinds
+
+-- the names of all kinds, in their order
+unfoldable pub names : List (List ℕ)
+names = map name_of kinds
+
+-- the name of the kind at a place among all
+unfoldable pub name_at : ℕ → List ℕ
+name_at place = unwrap_or (slice_get names place) []

@@ -1,6 +1,6 @@
 //! The kinds of moves by their names.
-ghost use Rattle.std.specs.Prelude.{◌≡◌, ◌<◌, IfSome};
-ghost use Rattle.cf_scripts.specs.Kinds.{name_of, kind_named, place_named};
+ghost use Rattle.std.specs.Prelude.{◌≡◌, ◌<◌, ◌≤◌, IfSome, length};
+ghost use Rattle.cf_scripts.specs.Kinds.{name_at, name_of, kind_named, place_named};
 
 /// A move without its numbers and its guess: what the first word of its line tells.
 #[derive(Clone, Copy)]
@@ -77,4 +77,15 @@ pub fn place_named(word: &[u8]) -> Option<usize>
     ensures within { IfSome result (λ place. place < 14) }
 {
     KINDS.iter().position(|kind| kind.name() == word)
+}
+
+/// The name of the kind at a place among the kinds in the order of `Move`, from 0: the first word of its lines, of at most seven
+/// letters.
+#[tactic(auto, using(crate::proofs::Names::named))]
+pub fn kind_name(place: usize) -> &'static [u8]
+    requires { place < 14 }
+    ensures name { result.now ≡ name_at place }
+    ensures few { length result.now ≤ 7 }
+{
+    KINDS[place].name()
 }

@@ -9,7 +9,7 @@ mod script;
 mod words;
 mod writing;
 
-pub use kind::place_named;
+pub use kind::{kind_name, place_named};
 pub use reading::{is_ascii, read_move};
 pub use refusal::{ScriptErr, ScriptKind};
 pub use script::{MOST_SCRIPT, Script, is_skipped};

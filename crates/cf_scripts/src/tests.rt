@@ -120,3 +120,11 @@ fn the_longest_script(rt: HostRuntime) {
     let text = vec![in rt.alloc(); b'\n'; 16_777_216].expect(&rt, "memory");
     assert_tells(&rt, &text, &[], Ok(None));
 }
+
+/// A kind is named by the word that names it.
+#[test]
+fn names_of_kinds(rt: HostRuntime) {
+    for place in 0..14 {
+        assert!(rt; place_named(kind_name(place)) == Some(place));
+    }
+}

@@ -253,7 +253,7 @@ shown-some : (name : Name) → takes_key name keys.Show ≡ true →
     (has_lines name shows.Report ≡ true) ⊎ (has_sites name ≡ true)
 shown-some names.Machine h = inl refl
 shown-some names.Run h = inl refl
-shown-some names.Time h = absurd (cc)
+shown-some names.Time h = inr refl
 shown-some names.Moves h = absurd (cc)
 shown-some names.Rounds h = absurd (cc)
 shown-some names.Debug h = absurd (cc)

@@ -72,6 +72,7 @@ takes_key names.Moves keys.Limit = true
 takes_key names.Moves keys.Script = true
 takes_key names.Rounds keys.Limit = true
 takes_key names.Time keys.Limit = true
+takes_key names.Time keys.Show = true
 takes_key names.Gen keys.Run = true
 takes_key _ _ = false
 

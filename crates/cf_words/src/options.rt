@@ -84,7 +84,7 @@ impl Key {
             (Name::Run, Key::Limit | Key::Show | Key::Script | Key::Seed) => true,
             (Name::Moves, Key::Limit | Key::Script) => true,
             (Name::Rounds, Key::Limit) => true,
-            (Name::Time, Key::Limit) => true,
+            (Name::Time, Key::Limit | Key::Show) => true,
             (Name::Gen, Key::Run) => true,
             _ => false,
         }

@@ -171,3 +171,64 @@ fn run_words(rt: HostRuntime) -> Result<(), Fail> {
     }
     Ok(())
 }
+
+/// The layouts that the words ask to compare, how many, the limit, and whether it is shown what each time is made of.
+fn time_asked(words: &[String]) -> Result<(&str, &str, usize, u64, bool), u32> {
+    match read_words(words)? {
+        Command::Time {
+            delays,
+            program,
+            layouts,
+            options,
+        } => Ok((delays, program, layouts.len(), options.limit, options.sites)),
+        _ => Err(99),
+    }
+}
+
+#[test]
+fn time_words(rt: HostRuntime) -> Result<(), Fail> {
+    let alloc = rt.alloc();
+    let rows = [
+        (
+            ["time", "d", "p", "plain"].as_slice(),
+            Ok(("d", "p", 1, 10_000_000, false)),
+        ),
+        (
+            ["time", "d", "p", "l", "plain", "--show", "sites"].as_slice(),
+            Ok(("d", "p", 2, 10_000_000, true)),
+        ),
+        (
+            ["time", "d", "p", "l", "--limit", "5", "--show", "sites"].as_slice(),
+            Ok(("d", "p", 1, 5, true)),
+        ),
+        (
+            ["time", "d", "p", "l", "--show", "sites", "--limit", "5"].as_slice(),
+            Ok(("d", "p", 1, 5, true)),
+        ),
+        (["time", "d", "p", "--show", "sites"].as_slice(), Err(3)),
+        (["time", "d", "p", "l", "--show"].as_slice(), Err(5)),
+        (
+            ["time", "d", "p", "l", "--show", "retired"].as_slice(),
+            Err(5),
+        ),
+        (
+            ["time", "d", "p", "l", "--show", "Sites"].as_slice(),
+            Err(5),
+        ),
+        (
+            ["time", "d", "p", "l", "--show", "sites", "--show", "sites"].as_slice(),
+            Err(6),
+        ),
+        (
+            ["time", "d", "p", "l", "--show", "sites", "m"].as_slice(),
+            Err(6),
+        ),
+        (["run", "l", "p", "--show", "sites"].as_slice(), Err(4)),
+        (["machine", "p", "--show", "sites"].as_slice(), Err(3)),
+    ];
+    for (row, wanted) in rows {
+        let words = words_of(alloc, row)?;
+        assert!(rt; time_asked(words.as_slice()) == wanted);
+    }
+    Ok(())
+}
