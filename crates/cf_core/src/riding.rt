@@ -81,7 +81,7 @@ impl Processor {
         requires units { siding_of self.now.plan class ≡ None }
         ensures { result ≡ stops_there self.now.plan self.now.state i }
     {
-        is_undone(passenger) && !passenger.launched && self.layout.last_stage(class) == i
+        is_undone(passenger) && !passenger.launched && self.layout.last_unit_stage(class) == i
     }
 
     /// Whether the siding launches from the stage, and the instruction has still to be launched.

@@ -1,6 +1,6 @@
 //! An accepted layout.
 
-ghost use Rattle.std.specs.Prelude.{◌≡◌, ◌↔◌, IsTrue, ◌<◌, ◌≤◌, true, All, IfOk, IfSome, length};
+ghost use Rattle.std.specs.Prelude.{◌≡◌, ◌↔◌, IsTrue, ◌<◌, ◌≤◌, true, All, IfOk, IfSome, None, length};
 ghost use Rattle.cf_layout.specs.Asked.{is_within, IsSmall, plan_of};
 ghost use Rattle.cf_layout.specs.Layout.{stages_of, unit_at, siding_of, recovers_by, is_homed, launch_stage, recover_stage, cells_of, serves, siding_at, has_mul, last_stage};
 ghost use Rattle.cf_layout.specs.Accepted.{IsAccepted};
@@ -197,19 +197,37 @@ impl Layout {
         self.siding(siding).cells
     }
 
-    /// The last stage at which an instruction of the class can still be computed: that of its last unit, or the one at
-    /// which its siding recovers. It is the last of the pipeline for a class that has neither, and the first for `Free`,
-    /// which needs no computing.
+    /// The last stage of a class whose siding recovers at the stage, or which has no siding where that is the last one.
     #[inline(always)]
     #[tactic(auto, unfolding(crate::specs::Layout::last_stage))]
-    pub fn last_stage(&self, class: Class) -> u32
+    fn last_before(&self, class: Class, recovery: u32) -> u32
+        requires { recovery ≡ recovers_by self.now (siding_of self.now class) }
         ensures { result ≡ last_stage self.now class }
     {
         match class {
             Class::Free => 1,
             Class::Serial => self.stages,
-            _ => self.stages_of(class).last_or(self.recovers_by(class)),
+            _ => self.stages_of(class).last_or(recovery),
         }
+    }
+
+    /// The last stage at which an instruction of the class can still be computed: that of its last unit, or the one at
+    /// which its siding recovers. It is the last of the pipeline for a class that has neither, and the first for `Free`,
+    /// which needs no computing.
+    #[inline(always)]
+    pub fn last_stage(&self, class: Class) -> u32
+        ensures { result ≡ last_stage self.now class }
+    {
+        self.last_before(class, self.recovers_by(class))
+    }
+
+    /// The same of a class without a siding, for which none is asked again.
+    #[inline(always)]
+    pub fn last_unit_stage(&self, class: Class) -> u32
+        requires { siding_of self.now class ≡ None }
+        ensures { result ≡ last_stage self.now class }
+    {
+        self.last_before(class, self.stages)
     }
 
     /// The recovery stage of the class's siding, and the last stage of the pipeline where it has none.

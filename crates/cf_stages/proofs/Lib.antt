@@ -3,6 +3,7 @@ pub mod Cells
 pub mod Deciding
 pub mod Empty
 pub mod Kept
+pub mod Lifted
 pub mod Meetings
 pub mod Neighbours
 pub mod Order

@@ -1,5 +1,6 @@
 -- Two neighbouring stages are changed one after the other.
 use Rattle.std.proofs.Common.{◌≡◌, ◌≢◌, ◌∙◌, ℕ, ◌+◌, ◌-◌, ◌<◌, ◌≤◌, List, Option, Some, None, false, IsTrue, length, refl, sym, ap, arith}
+use Rattle.std.specs.Prelude.{IsSome}
 use Rattle.cf_bind.specs.declared.cell.Cell.{Cell}
 use Rattle.cf_bind.specs.declared.packet.Packet.{Packet}
 use Rattle.cf_bind.specs.declared.passenger.Passenger.{Passenger}
@@ -46,6 +47,15 @@ climbs-low cells i h = let r = climbs_from cells i h in stage-low cells i r.from
 pub climbs-high : (cells : List Cell) (i : ℕ) → IsTrue (climbs cells i) → i + 1 ≤ length cells
 climbs-high cells i h = let r = climbs_from cells i h in stage-high cells (i + 1) r.to r.there
 
+pub climbs-rider : (cells : List Cell) (i : ℕ) → IsTrue (climbs cells i) → IsSome (passenger_at cells i)
+unfolding climbs
+climbs-rider cells i h = rider_by (cell_at cells i) (cell_at cells (i + 1)) h
+  where
+    rider_by : (o q : Option Cell) → IsTrue (on o false (λ c. can_climb c q)) → IsSome (on o None (λ c. c.passenger))
+    rider_by None q g = absurd (cc)
+    rider_by (Some c) None g = absurd (cc)
+    rider_by (Some c) (Some d) g = grind arith
+
 pub climbed-is : (cells : List Cell) (i : ℕ) (p : Option Passenger) → IsTrue (climbs cells i) → p ≡ passenger_at cells i → changed (changed cells i (with_new_passenger None)) (i + 1) (with_new_passenger p) ≡ climbed cells i
 climbed-is cells i p h e =
     let r = climbs_from cells i h in
@@ -75,6 +85,15 @@ falls-low cells i h = let r = falls_from cells i h in let e = stage-low cells (i
 
 pub falls-within : (cells : List Cell) (i : ℕ) → IsTrue (falls cells i) → i ≤ length cells
 falls-within cells i h = let r = falls_from cells i h in stage-high cells i r.from r.here
+
+pub falls-result : (cells : List Cell) (i : ℕ) → IsTrue (falls cells i) → IsSome (packet_at cells i)
+unfolding falls
+falls-result cells i h = result_by (cell_at cells i) (cell_at cells (i - 1)) h
+  where
+    result_by : (o q : Option Cell) → IsTrue (on o false (λ c. can_fall c q)) → IsSome (on o None (λ c. c.packet))
+    result_by None q g = absurd (cc)
+    result_by (Some c) None g = absurd (cc)
+    result_by (Some c) (Some d) g = grind arith
 
 pub fallen-is : (cells : List Cell) (i : ℕ) (q : Option Packet) → IsTrue (falls cells i) → q ≡ packet_at cells i → changed (changed cells i (with_place None false)) (i - 1) (with_place q false) ≡ fallen cells i
 fallen-is cells i q h e =

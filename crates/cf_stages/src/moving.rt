@@ -24,17 +24,14 @@ impl Stages {
 
     /// Moves the instruction of the stage into the one above, where it has met nothing.
     #[inline(always)]
-    #[tactic(auto, using(crate::proofs::Order::climbing, crate::proofs::Neighbours::climbing, crate::proofs::Kept::counting))]
+    #[tactic(auto, using(crate::proofs::Order::climbing))]
     pub fn climb(&mut self, i: u32)
         requires { IsTrue (climbs self.old i) }
         ensures stages { self.new ≡ climbed self.old i }
         ensures order { contents self.new ≡ contents self.old }
         ensures count { length self.new ≡ length self.old }
     {
-        let _ = &self.passengers;
-        let passenger = *self.passenger(i);
-        self.place_passenger(i, None);
-        self.place_passenger(i + 1, passenger);
+        self.lift_passenger(i);
     }
 
     /// Whether the result of the stage can move down: it is there, it has met the instruction of its stage if there is
@@ -54,15 +51,13 @@ impl Stages {
 
     /// Moves the result of the stage into the one below, where it has met nothing.
     #[inline(always)]
-    #[tactic(auto, using(crate::proofs::Order::falling, crate::proofs::Neighbours::falling))]
+    #[tactic(auto, using(crate::proofs::Order::falling))]
     pub fn fall(&mut self, i: u32)
         requires { IsTrue (falls self.old i) }
         ensures stages { self.new ≡ fallen self.old i }
         ensures order { contents self.new ≡ contents self.old }
         ensures count { length self.new ≡ length self.old }
     {
-        let packet = self.packet(i);
-        self.place_packet(i, None, false);
-        self.place_packet(i - 1, packet, false);
+        self.drop_packet(i);
     }
 }

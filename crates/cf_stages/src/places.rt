@@ -1,15 +1,26 @@
 //! One place of a pipe gets another content, and the words keep up with it.
 
-ghost use Rattle.std.specs.Prelude.{◌≡◌, ◌<◌, ◌≤◌, IsSome, IsTrue, length};
+ghost use Rattle.std.specs.Prelude.{◌≡◌, ◌-◌, ◌<◌, ◌≤◌, IsSome, IsTrue, None, length, slice_index_or, slice_set};
 ghost use Rattle.cf_semantics.specs.Moves.{with_passenger};
 ghost use Rattle.cf_semantics.specs.Options.{is_some};
 ghost use Rattle.cf_semantics.specs.State.{put_cell};
-ghost use Rattle.cf_stages.specs.Changes.{IsCell, changed, passenger_at, with_new_passenger};
+ghost use Rattle.cf_stages.specs.Changes.{IsCell, changed, climbed, climbs, fallen, falls, passenger_at, with_new_passenger};
 ghost use Rattle.cf_stages.specs.Parts.{with_place};
 
 use crate::stages::Stages;
 use crate::words::{is_there, with_bit};
 use cf_bind::{Cell, Packet, Passenger};
+
+/// Copies the instruction of the place below into the place.
+#[inline(always)]
+fn carry(places: &mut Vec<Option<Passenger>>, i: usize)
+    requires above { 0 < i }
+    requires within { i < length places.old.items }
+    ensures copied { places.new.items ≡ slice_set places.old.items i (slice_index_or places.old.items (i - 1) None) }
+    ensures count { length places.new.items ≡ length places.old.items }
+{
+    places[i] = places[i - 1];
+}
 
 impl Stages {
     /// An instruction comes to the stage, or goes from it. It has met nothing there.
@@ -26,6 +37,21 @@ impl Stages {
         self.passengers[i as usize - 1] = passenger;
     }
 
+    /// The instruction of the stage goes to the one above, in which none is, where it has met nothing.
+    // It is copied from one place to the other at once: through a place of its own it would be copied twice.
+    #[inline(always)]
+    #[tactic(auto, using(crate::proofs::Lifted::lifting, crate::proofs::Kept::counting))]
+    pub(crate) fn lift_passenger(&mut self, i: u32)
+        requires { IsTrue (climbs self.old i) }
+        ensures stages { self.new ≡ climbed self.old i }
+        ensures count { length self.new ≡ length self.old }
+    {
+        self.passenger_mask = with_bit(with_bit(self.passenger_mask, i, false), i + 1, true);
+        self.met_mask = with_bit(with_bit(self.met_mask, i, false), i + 1, false);
+        carry(&mut self.passengers, i as usize);
+        self.passengers[i as usize - 1] = None;
+    }
+
     /// A result comes to the stage, or goes from it. It has met the instruction that is there, or has not.
     #[inline(always)]
     #[tactic(auto, using(crate::proofs::Kept::replacing, crate::proofs::Kept::counting))]
@@ -40,6 +66,20 @@ impl Stages {
         self.packet_mask = with_bit(self.packet_mask, i, is_there(&packet));
         self.met_mask = with_bit(self.met_mask, i, met);
         self.packets[i as usize - 1] = packet;
+    }
+
+    /// The result of the stage goes to the one below, in which none is, where it has met nothing.
+    #[inline(always)]
+    #[tactic(auto, using(crate::proofs::Lifted::dropping, crate::proofs::Kept::counting))]
+    pub(crate) fn drop_packet(&mut self, i: u32)
+        requires { IsTrue (falls self.old i) }
+        ensures stages { self.new ≡ fallen self.old i }
+        ensures count { length self.new ≡ length self.old }
+    {
+        self.packet_mask = with_bit(with_bit(self.packet_mask, i, false), i - 1, true);
+        self.met_mask = with_bit(with_bit(self.met_mask, i, false), i - 1, false);
+        self.packets[i as usize - 2] = self.packets[i as usize - 1];
+        self.packets[i as usize - 1] = None;
     }
 
     /// Another instruction stands in the place of the one that is there.
