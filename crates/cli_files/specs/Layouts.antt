@@ -10,14 +10,13 @@ use Rattle.layout_refusals.specs.Texts.{bad_layout}
 use Rattle.cf_words.specs.Words.{Layout, plain, in_file}
 use Rattle.cli_files.specs.Files.{IsFrontOf, LacksBytes}
 use Rattle.cli_files.specs.Memory.{SaysNoMemory}
-use Rattle.cli_files.specs.declared.layouts.TheConstants.{MOST_BYTES}
 use Rattle.cli_files.specs.declared.status.Status.{Status}
 use Rattle.cli_files.specs.declared.status.Status.TheVariants as status
 use Rattle.cli_files.specs.declared.status.Which.TheVariants as which
 
--- the greatest length of a layout file
+-- the greatest length of a layout file, in bytes
 abbrev pub most_layout_bytes : ℕ
-most_layout_bytes = MOST_BYTES
+most_layout_bytes = 65536
 
 -- the word names this layout: the built-in one, or the one that is described by its file's first bytes, one more than a
 -- layout may have

@@ -3,15 +3,14 @@ use Rattle.std.specs.Prelude.{◌≡◌, ◌<◌, ◌≤◌, ◌+◌, ◌⊎◌,
 use Rattle.cf_io.specs.Reads.{Told}
 use Rattle.cf_texts.specs.Texts.{line}
 use Rattle.cli_files.specs.Files.{IsFrontOf, LacksBytes}
-use Rattle.cli_files.specs.declared.scripts.TheConstants.{MOST_BYTES}
 use Rattle.cli_files.specs.declared.status.ScriptFault.TheVariants as fault
 use Rattle.cli_files.specs.declared.status.Status.{Status}
 use Rattle.cli_files.specs.declared.status.Status.TheVariants as status
 use Rattle.cli_files.specs.declared.status.Which.TheVariants as which
 
--- the greatest length of a script
+-- the greatest length of a script, in bytes
 abbrev pub most_script : ℕ
-most_script = MOST_BYTES
+most_script = 16777216
 
 -- the file's first bytes, one more than a script may have, are not too many, and are this text
 pub record IsScriptAt (name : List ℕ) (before after : Option Told) (text : List ℕ) : Type 0 where
