@@ -1,7 +1,6 @@
 -- The limit of a trace.
 use Rattle.std.specs.Prelude.{ℕ}
-use Rattle.cf_audit.specs.declared.auditing.TheConstants.{MOST_TRACE}
 
--- the greatest length of its text
+-- the greatest length of its text, in bytes
 abbrev pub most_trace : ℕ
-most_trace = MOST_TRACE
+most_trace = 16777216

@@ -1,7 +1,6 @@
 -- The limit of a script.
 use Rattle.std.specs.Prelude.{ℕ}
-use Rattle.cf_scripts.specs.declared.script.TheConstants.{MOST_SCRIPT}
 
--- the greatest length of its text
+-- the greatest length of its text, in bytes
 abbrev pub most_script : ℕ
-most_script = MOST_SCRIPT
+most_script = 16777216

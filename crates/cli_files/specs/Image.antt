@@ -11,13 +11,12 @@ use Rattle.mem_regions.specs.Loading.{loaded}
 use Rattle.mem_regions.specs.Refusal.{refusal as load_refusal}
 use Rattle.rv_machine.specs.Hart.{Hart}
 use Rattle.rv_machine.specs.Machine.{start_hart}
-use Rattle.cli_files.specs.declared.opening.TheConstants.{MOST_BYTES}
 use Rattle.cli_files.specs.declared.status.ProgramErr.{ProgramErr}
 use Rattle.cli_files.specs.declared.status.ProgramErr.TheVariants as program
 
--- the greatest length of a program file
+-- the greatest length of a program file, in bytes
 abbrev pub most_bytes : ℕ
-most_bytes = MOST_BYTES
+most_bytes = 33554432
 
 -- where a flat image stands, and where it is entered
 abbrev pub flat_base : ℕ

@@ -1,7 +1,6 @@
 -- The limit of a layout file.
 use Rattle.std.specs.Prelude.{ℕ}
-use Rattle.layout_file.specs.declared.reading.TheConstants.{MOST_LAYOUT}
 
--- its greatest length
+-- its greatest length, in bytes
 abbrev pub most_layout_bytes : ℕ
-most_layout_bytes = MOST_LAYOUT
+most_layout_bytes = 65536
