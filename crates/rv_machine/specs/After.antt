@@ -1,5 +1,5 @@
 -- The sequential machine after some instructions of its set.
-use Rattle.std.specs.Prelude.{ℕ, zero, suc, Option, Some, None}
+use Rattle.std.specs.Prelude.{◌≡◌, ℕ, zero, suc, Option, Some, None}
 use Rattle.rv_inst.specs.declared.isa.Isa.{Isa}
 use Rattle.rv_machine.specs.Machine.{Machine}
 use Rattle.rv_machine.specs.Outcome.{Outcome, Next, Trap, Exit}
@@ -20,3 +20,8 @@ step_from isa (Some m) = next_machine (step isa m)
 unfoldable pub after : Isa → Machine → ℕ → Option Machine
 after isa m zero = Some m
 after isa m (suc n) = step_from isa (after isa m n)
+
+-- the same machine but for the input that is left
+pub record SameButInput (m k : Machine) : Type 0 where
+  pub hart : k.hart ≡ m.hart
+  pub output : k.output ≡ m.output
