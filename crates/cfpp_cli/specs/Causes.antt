@@ -7,4 +7,5 @@ use Rattle.cfpp_cli.specs.declared.listing.ListErr.TheVariants as err
 abbrev pub output_listed : Result (Unit {0}) ListErr → Result (Unit {0}) (Unit {0})
 output_listed (Ok u) = Ok tt
 output_listed (Err (err.Refused error)) = Ok tt
+output_listed (Err err.NoMemory) = Ok tt
 output_listed (Err err.Failed) = Err tt

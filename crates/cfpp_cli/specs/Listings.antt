@@ -4,6 +4,7 @@ use Rattle.elf_view.specs.Executables.{IsElf}
 use Rattle.elf_view.specs.Refusal.{starts_with_elf, refusal as elf_refusal}
 use Rattle.cf_io.specs.Puts.{WritesFront}
 use Rattle.cf_listing.specs.Listing.{elf_listing, flat_listing}
+use Rattle.cf_texts.specs.Texts.{line}
 use Rattle.cli_files.specs.Image.{most_bytes}
 use Rattle.cli_files.specs.Refusals.{bad_program}
 use Rattle.cfpp_cli.specs.FileCommands.{FileSide, PutsText, FailsText, ComesOfFile, RefusesFile}
@@ -36,6 +37,7 @@ IsUnlistable image (program.Load error) = ⊥
 abbrev pub IsNotListed : List ℕ → Option (List ℕ) → Option (List ℕ) → ListErr → Type 0
 IsNotListed image before after (err.Refused error) =
     IsUnlistable image error × (after ≡ before)
+IsNotListed image before after err.NoMemory = IsListable image × (after ≡ before)
 IsNotListed image before after err.Failed =
     IsListable image × WritesFront before after (listing_of image)
 
@@ -45,6 +47,8 @@ ListsImage image before after status.Done report =
     IsListable image × PutsText (listing_of image) before after report
 ListsImage image before after status.WriteFault report =
     IsListable image × FailsText (listing_of image) before after report
+ListsImage image before after status.NoMemory report =
+    IsListable image × (after ≡ before) × (report ≡ line (codes "no memory"))
 ListsImage image before after (status.BadProgram error) report =
     IsUnlistable image error × (report ≡ bad_program error) × (after ≡ before)
 ListsImage image before after _ report = ⊥

@@ -9,7 +9,7 @@ ghost use Rattle.cfpp_cli.specs.FileCommands.{file_side};
 ghost use Rattle.cfpp_cli.specs.Listings.{listing_of, IsListable, IsNotListed, ListsImage, AnswersList};
 
 use cf_io::{Files, FilesErr, Sink};
-use cf_listing::{put_elf_listing, put_flat_listing};
+use cf_listing::{ListingErr, put_elf_listing, put_flat_listing};
 use cli_files::{
     Answer, MOST_BYTES, ProgramErr, Which, done, is_elf, no_memory, no_program, unread, write_fault,
 };
@@ -21,13 +21,16 @@ pub enum ListErr {
     /// The file is no program.
     Refused(ProgramErr),
 
+    /// There was no memory for it. Nothing was put.
+    NoMemory,
+
     /// The output failed.
     Failed,
 }
 
 /// Puts the listing of a program file.
 #[tactic(auto, unfolding(crate::specs::Listings::listing_of))]
-fn put_listing<K: Sink>(image: &[u8], output: &mut K) -> Result<(), ListErr>
+fn put_listing<K: Sink>(alloc: Global, image: &[u8], output: &mut K) -> Result<(), ListErr>
     ensures listable { OnOk result (IsListable image.now) }
     ensures ok { OnOk result (Writes (K.written output.old) (K.written output.new) (listing_of image.now)) }
     ensures err { IfErr result (λ e. IsNotListed image.now (K.written output.old) (K.written output.new) e) }
@@ -46,22 +49,24 @@ fn put_listing<K: Sink>(image: &[u8], output: &mut K) -> Result<(), ListErr>
         Ok(elf) => elf,
         Err(error) => return Err(ListErr::Refused(ProgramErr::Elf(error))),
     };
-    match put_elf_listing(&elf, output) {
+    match put_elf_listing(alloc, &elf, output) {
         Ok(()) => Ok(()),
-        Err(_) => Err(ListErr::Failed),
+        Err(ListingErr::NoMemory) => Err(ListErr::NoMemory),
+        Err(ListingErr::Failed) => Err(ListErr::Failed),
     }
 }
 
 /// Lists a program that was read.
-fn list_image<K: Sink>(image: &[u8], output: &mut K) -> Answer
+fn list_image<K: Sink>(alloc: Global, image: &[u8], output: &mut K) -> Answer
     ensures comes { ListsImage image.now (K.written output.old) (K.written output.new) result.status result.closing }
     ensures files { files_answered result.status ≡ Ok tt }
     ensures input { input_answered result.status ≡ Ok tt }
     ensures output { HasCause (K.faults output.old) (K.faults output.new) (output_answered result.status) }
 {
-    match put_listing(image, output) {
+    match put_listing(alloc, image, output) {
         Ok(()) => done(),
         Err(ListErr::Refused(error)) => no_program(error),
+        Err(ListErr::NoMemory) => no_memory(),
         Err(ListErr::Failed) => write_fault(),
     }
 }
@@ -82,7 +87,7 @@ pub fn list_program<F: Files, K: Sink>(
     ensures output { HasCause (K.faults output.old) (K.faults output.new) (output_answered result.status) }
 {
     match files.read(alloc, program, MOST_BYTES + 1) {
-        Ok(image) => list_image(image.as_slice(), output),
+        Ok(image) => list_image(alloc, image.as_slice(), output),
         Err(FilesErr::Failed) => unread(Which::Program),
         Err(FilesErr::NoMemory) => no_memory(),
     }

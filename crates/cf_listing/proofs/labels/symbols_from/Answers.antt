@@ -1,4 +1,4 @@
-use Rattle.std.proofs.Common.{◌≡◌, ltb, sym, rules}
+use Rattle.std.proofs.Common.{ltb, rules}
 use Rattle.std.proofs.lemmas.List.Sorted.{IsPartitionPoint-from_clause, IsPartitionedBy-ltb, IsNonDecreasingBy-drop}
 use Rattle.cf_listing.proofs.Values.{passed, from_value}
 use Rattle.cf_listing.proofs.labels.symbols_from.Goals as goal

@@ -1,4 +1,4 @@
-use Rattle.std.proofs.Common.{◌≡◌, List, ap, map}
+use Rattle.std.proofs.Common.{List, ap, map}
 use Rattle.std.specs.List.{flat_map}
 use Rattle.elf_view.specs.Segments.{LoadSegment}
 use Rattle.elf_view.specs.Symbols.{shown_lazy}
