@@ -7,11 +7,10 @@ use Rattle.cli_files.specs.declared.status.Status.TheVariants as status
 use Rattle.cli_files.specs.declared.status.TraceFault.TheVariants as fault
 use Rattle.cli_files.specs.declared.status.Which.TheVariants as which
 use Rattle.cli_audit.specs.Reports.{bad_trace}
-use Rattle.cli_audit.specs.declared.traces.TheConstants.{MOST_BYTES}
 
--- the greatest length of a trace
+-- the greatest length of a trace, in bytes
 abbrev pub most_trace : ℕ
-most_trace = MOST_BYTES
+most_trace = 16777216
 
 -- the file's first bytes, one more than a trace may have, are not too many, and are this text
 pub record IsTraceAt (name : List ℕ) (before after : Option Told) (text : List ℕ) : Type 0 where
