@@ -1,7 +1,8 @@
--- The moves that leave what holds of each stage as it is: those of a passenger that is spent, and those of a packet.
-use Rattle.std.proofs.Common.{◌≡◌, ◌≢◌, ◌∙◌, ℕ, suc, ◌+◌, ◌-◌, ◌<◌, ◌≤◌, List, [], ◌∷◌, Option, Some, None, Bool, true, false, refl, sym, ap, arith}
-use Rattle.std.specs.Prelude.{◌&&◌, ◌||◌, nat_eq, not, if◌then◌else◌}
+-- The moves that leave what holds of each stage as it is: those of a passenger that is spent, meetings that leave the passenger as it was, and those of a packet.
+use Rattle.std.proofs.Common.{◌≡◌, ◌≢◌, ◌∙◌, ℕ, suc, ◌+◌, ◌-◌, ◌<◌, ◌≤◌, List, [], ◌∷◌, Option, Some, None, Bool, true, false, refl, sym, ap, subst, arith}
+use Rattle.std.specs.Prelude.{◌&&◌, ◌||◌, ◌==◌, nat_eq, not, if◌then◌else◌}
 use Rattle.std.proofs.lemmas.Bool.Decides.{nat_tests}
+use Rattle.cf_bind.specs.declared.binding.Binding.{Binding}
 use Rattle.cf_bind.specs.declared.cell.Cell.{Cell}
 use Rattle.cf_bind.specs.declared.moves.Bar.{Bar}
 use Rattle.cf_bind.specs.declared.moves.Bar.TheVariants.{AlreadyDone, Dead, NoPassenger, NoPacket, NoSuchSite, NotDone, NotMet, NoUnit, Occupied, Owes}
@@ -11,12 +12,12 @@ use Rattle.cf_bind.specs.declared.packet.Packet.{Packet}
 use Rattle.cf_bind.specs.declared.packet.Packet.TheVariants.{Value, Turn, Halt}
 use Rattle.cf_bind.specs.declared.passenger.End.{End}
 use Rattle.cf_bind.specs.declared.passenger.Passenger.{Passenger}
-use Rattle.cf_bind.specs.Meeting.{Met, meeting, packet_met, passenger_met}
+use Rattle.cf_bind.specs.Meeting.{Met, garnered, meeting, or_else, packet_met, passenger_met}
 use Rattle.cf_layout.specs.Layout.{Plan}
 use Rattle.cf_layout.specs.Words.{has_bit}
-use Rattle.cf_semantics.specs.Bars.{climb_bar, emit_bar, entry_bar, exit_bar, fall_bar, first, first_of, is_full, launch_bar, leave_bar, row_bar, source_bar}
+use Rattle.cf_semantics.specs.Bars.{climb_bar, emit_bar, entry_bar, exit_bar, fall_bar, first, first_of, is_full, launch_bar, leave_bar, row_bar, source_bar, stops_at}
 use Rattle.cf_semantics.specs.Instructions.{is_memory}
-use Rattle.cf_semantics.specs.Layouts.{launches}
+use Rattle.cf_semantics.specs.Layouts.{ends_units, launches, recovers}
 use Rattle.cf_semantics.specs.Moves.{cell_met, climbed, emitted, exited, fallen, left, left_live, moved, without_packet, without_passenger}
 use Rattle.cf_semantics.specs.Options.{on, is_some}
 use Rattle.cf_semantics.specs.Passengers.{kind}
@@ -24,8 +25,9 @@ use Rattle.cf_semantics.specs.State.{State, cell_at, put_cell, with_cell}
 use Rattle.cf_stages.specs.Changes.{passenger_at}
 use Rattle.cf_stages.proofs.Bits.{word-bit}
 use Rattle.cf_stages.proofs.Parts.{cell-put, cell-put-other, stage-high, stage-low}
-use Rattle.cf_core.specs.Marks.{is_free, keeps_marks, mark_at, marks_of, no_mark}
-use Rattle.cf_core.specs.Riders.{is_idle, is_out, is_spent, is_undone}
+use Rattle.cf_core.specs.Marks.{is_free, keeps_marks, mark_at, marks_of, no_mark, passes_by}
+use Rattle.cf_core.specs.Masks.{rides, stops_there}
+use Rattle.cf_core.specs.Riders.{awaits, is_idle, is_out, is_passed_by, is_spent, is_undone}
 use Rattle.cf_core.specs.declared.marks.Marks.{Marks}
 use Rattle.cf_core.proofs.Bits.{SameBut}
 use Rattle.cf_core.proofs.Rides.{mark-idle, mark-none}
@@ -272,6 +274,91 @@ meet_keeps plan s i spent = by_cell (cell_at s.cells i) refl spent
     by_cell None e spent = unchanged plan s
     by_cell (Some c) e spent = by_rider c c.passenger e refl spent
 
+-- Meetings that leave the passenger as it was --
+
+kept_value : (same : Bool) (w : Option ℕ) (v : ℕ) → (not (is_some w) && same) ≡ false → (if same then or_else w v else w) ≡ w
+kept_value true None v e = absurd (cc)
+kept_value true (Some x) v e = refl
+kept_value false None v e = refl
+kept_value false (Some x) v e = refl
+
+kept_source : (r v : ℕ) (o : Option Binding) → awaits r o ≡ false → garnered r v o ≡ o
+kept_source r v None e = refl
+kept_source r v (Some b) e = ap (λ (w : Option ℕ). Some (record b { value = w })) (kept_value (b.reg == r) b.value v e)
+
+neither : (a b : Bool) → (not a && not b) ≡ true → (a ≡ false) × (b ≡ false)
+neither true b e = absurd (cc)
+neither false true e = absurd (cc)
+neither false false e = (refl, refl)
+
+abbrev KeepsRider : Passenger → Met → Type 0
+KeepsRider p m = m.passenger ≡ p
+
+met_passing : (p : Passenger) (k : Packet) → is_passed_by p k ≡ true → (meeting p k).passenger ≡ p
+unfolding meeting
+met_passing p (Turn pc) passed = absurd (cc)
+met_passing p Halt passed = absurd (cc)
+met_passing p (Value r v) passed = by_dead p.dead
+  where
+    garners : record p { src1 = garnered r v p.src1; src2 = garnered r v p.src2 } ≡ p
+    garners =
+        let none = neither (awaits r p.src1) (awaits r p.src2) passed in
+        ap (λ (o : Option Binding). record p { src1 = o; src2 = garnered r v p.src2 }) (kept_source r v p.src1 none.0)
+        ∙ ap (λ (o : Option Binding). record p { src2 = o }) (kept_source r v p.src2 none.1)
+
+    by_dead : (dead : Bool) → KeepsRider p (if dead then record { passenger = p; packet = Some (Value r v) } else record { passenger = passenger_met (Value r v) p; packet = packet_met (Value r v) p })
+    by_dead true = refl
+    by_dead false = garners
+
+-- what does not stop cannot be launched
+unlaunched : (dead done launched out ends site memory full : Bool) (rest : Option Bar) → (out || (not dead && not done && not launched && (ends || site))) ≡ false →
+    not (is_some (first_of ((dead, Dead) ∷ (done || launched, AlreadyDone) ∷ (not site, NoUnit) ∷ (memory && full, NotMet) ∷ []) rest)) ≡ false
+unlaunched true done launched out ends site memory full rest e = refl
+unlaunched false true launched out ends site memory full rest e = refl
+unlaunched false false true out ends site memory full rest e = refl
+unlaunched false false false out ends false memory full rest e = refl
+unlaunched false false false true ends true memory full rest e = absurd (cc)
+unlaunched false false false false true true memory full rest e = absurd (cc)
+unlaunched false false false false false true memory full rest e = absurd (cc)
+
+rider_unlaunched : (plan : Plan) (s : State) (i : ℕ) (p : Passenger) (full : Bool) → stops_at plan p i ≡ false → not (is_some (entry_row plan s full i p)) ≡ false
+rider_unlaunched plan s i p full stays =
+    unlaunched p.dead p.done p.launched (p.launched && not p.recovered && recovers plan (kind p) i) (ends_units plan (kind p) i) (launches plan (kind p) i) (is_memory (kind p)) full (source_bar p (entry_bar plan s p)) stays
+
+passing_keeps : (plan : Plan) (s : State) (i : ℕ) → stops_there plan s i ≡ false → passes_by s i ≡ true → Same plan s (moved plan s (Meet i))
+unfolding moved
+passing_keeps plan s i stays passed = by_cell (cell_at s.cells i) refl stays passed
+  where
+    by_packet : (c : Cell) (p : Passenger) (o : Option Packet) → cell_at s.cells i ≡ Some c → c.passenger ≡ Some p → stops_at plan p i ≡ false → on o false (is_passed_by p) ≡ true →
+        Same plan s (on o s (λ k. with_cell s i (cell_met c p k)))
+    by_packet c p None e rides stays passed = unchanged plan s
+    by_packet c p (Some k) e rides stays passed =
+        let m = meeting p k in
+        let other : Cell = record c { packet = m.packet; met = is_some m.packet } in
+        let is : cell_met c p k ≡ other = ap (λ (o : Option Passenger). record other { passenger = o }) (ap Some (met_passing p k passed) ∙ sym rides) in
+        let before = riding (is_full c) c.passenger rides in
+        let after = riding (is_full other) c.passenger rides in
+        subst (λ (d : Cell). Same plan s (with_cell s i d)) (sym is) (put_same plan s i c other e (packet_mark plan s i c m.packet (is_some m.packet) (after ∙ sym before)))
+      where
+        riding : (full : Bool) (o : Option Passenger) → o ≡ Some p → not (is_some (on o (Some NoPassenger) (entry_row plan s full i))) ≡ false
+        riding full o is = rw is (rider_unlaunched plan s i p full stays)
+
+    by_rider : (c : Cell) (o : Option Passenger) → cell_at s.cells i ≡ Some c → c.passenger ≡ o → on o false (λ p. stops_at plan p i) ≡ false → on o false (λ p. on c.packet false (is_passed_by p)) ≡ true →
+        Same plan s (on o s (λ p. on c.packet s (λ k. with_cell s i (cell_met c p k))))
+    by_rider c None e rides stays passed = unchanged plan s
+    by_rider c (Some p) e rides stays passed = by_packet c p c.packet e rides stays passed
+
+    by_cell : (o : Option Cell) → cell_at s.cells i ≡ o → on o false (λ c. on c.passenger false (λ p. stops_at plan p i)) ≡ false →
+        on (on o None (λ c. c.passenger)) false (λ p. on (on o None (λ c. c.packet)) false (is_passed_by p)) ≡ true →
+        Same plan s (on o s (λ c. on c.passenger s (λ p. on c.packet s (λ k. with_cell s i (cell_met c p k)))))
+    by_cell None e stays passed = unchanged plan s
+    by_cell (Some c) e stays passed = by_rider c c.passenger e refl stays passed
+
+meeting_keeps : (plan : Plan) (s : State) (i : ℕ) (spent stops : Bool) → rides s i is_spent ≡ spent → stops_there plan s i ≡ stops → (spent || (not stops && passes_by s i)) ≡ true → Same plan s (moved plan s (Meet i))
+meeting_keeps plan s i true stops e f keeps = meet_keeps plan s i e
+meeting_keeps plan s i false true e f keeps = absurd (cc)
+meeting_keeps plan s i false false e f keeps = passing_keeps plan s i f keeps
+
 -- what leaves is spent
 leave_spent : (c : Cell) (p : Passenger) → c.passenger ≡ Some p → leave_bar c ≡ None → is_spent p ≡ true
 leave_spent c p rides free = tests (is_some c.packet && not c.met) (is_some p.owes) (is_undone p) (is_out p) (rw rides at free)
@@ -312,7 +399,7 @@ leave_keeps plan s free = by_cell (cell_at s.cells plan.stages) refl free
 pub moved-same : (plan : Plan) (s : State) (mv : Move) → row_bar plan s mv ≡ None → keeps_marks plan s mv ≡ true → Same plan s (moved plan s mv)
 unfolding keeps_marks
 moved-same plan s (Climb i) free keeps = climb_keeps plan s i free keeps
-moved-same plan s (Meet i) free keeps = meet_keeps plan s i keeps
+moved-same plan s (Meet i) free keeps = meeting_keeps plan s i (rides s i is_spent) (stops_there plan s i) refl refl keeps
 moved-same plan s (Fall i) free keeps = fall_keeps plan s i free (unset (is_free plan s (Launch (i - 1))) keeps)
 moved-same plan s Emit free keeps = emit_keeps plan s free (unset (is_free plan s (Launch plan.stages)) keeps)
 moved-same plan s Leave free keeps = leave_keeps plan s free
@@ -334,4 +421,14 @@ launch-bit plan s marks i is low within =
     let z : suc (i - 1) ≡ i = omega (arith, low) in
     rw is (bit ∙ ap (λ (n : ℕ). (mark_at plan s n).launch) z)
 
+-- and whether the passenger stops there
+pub stop-bit : (plan : Plan) (s : State) (marks : Marks) (i : ℕ) → marks ≡ marks_of plan s → 0 < i → i ≤ plan.stages → has_bit marks.stops (i - 1) ≡ stops_there plan s i
+unfolding marks_of mark_at
+stop-bit plan s marks i is low within =
+    let bit = word-bit (λ k. (mark_at plan s k).stops) plan.stages (i - 1) (omega (arith, low, within)) in
+    let z : suc (i - 1) ≡ i = omega (arith, low) in
+    rw is (bit ∙ ap (λ (n : ℕ). (mark_at plan s n).stops) z)
+
 pub ruleset launch_bits = (launch-bit)
+
+pub ruleset stop_bits = (stop-bit)

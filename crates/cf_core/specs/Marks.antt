@@ -1,5 +1,5 @@
 -- What is kept of each stage from one move to the next, and which stages a move can change.
-use Rattle.std.specs.Prelude.{ℕ, ◌+◌, ◌-◌, ◌<◌, ◌≤◌, Bool, true, false, Option, None, not}
+use Rattle.std.specs.Prelude.{ℕ, ◌+◌, ◌-◌, ◌<◌, ◌≤◌, Bool, true, false, Option, None, not, ◌&&◌, ◌||◌}
 use Rattle.cf_layout.specs.Layout.{Plan, launch_stage, recover_stage, siding_of}
 use Rattle.cf_bind.specs.declared.moves.Move.{Move}
 use Rattle.cf_bind.specs.declared.moves.Move.TheVariants.{Issue, Emit, Climb, Fall, Meet, Execute, Send, Launch, Slide, Access, Recover, Leave, Exit, Serve}
@@ -8,10 +8,10 @@ use Rattle.cf_semantics.specs.State.{State}
 use Rattle.cf_semantics.specs.Bars.{row_bar}
 use Rattle.cf_semantics.specs.Layouts.{port}
 use Rattle.cf_semantics.specs.Passengers.{kind}
-use Rattle.cf_stages.specs.Changes.{passenger_at}
+use Rattle.cf_stages.specs.Changes.{packet_at, passenger_at}
 use Rattle.cf_stages.specs.Words.{with_bit, word_of}
 use Rattle.cf_core.specs.Masks.{owes_at, rides, stops_there}
-use Rattle.cf_core.specs.Riders.{is_spent}
+use Rattle.cf_core.specs.Riders.{is_passed_by, is_spent}
 use Rattle.cf_core.specs.declared.marks.Mark.{Mark}
 use Rattle.cf_core.specs.declared.marks.Marks.{Marks}
 use Rattle.cf_core.specs.declared.touching.Touched.{Touched}
@@ -94,10 +94,14 @@ pub record Within (plan : Plan) (t : Touched) : Type 0 where
 abbrev pub remarked : Plan → State → Marks → Touched → Marks
 remarked plan s marks t = marked (marked marks t.low (mark_at plan s t.low)) t.high (mark_at plan s t.high)
 
--- the moves after which the same holds of each stage: those of a passenger that is spent, and those of a packet, unless it comes to where an operation can be launched, which it may bar
+-- a passenger that does not stop there stands beside a value that it does not await
+abbrev pub passes_by : State → ℕ → Bool
+passes_by s i = on (passenger_at s.cells i) false (λ p. on (packet_at s.cells i) false (is_passed_by p))
+
+-- the moves after which the same holds of each stage: those of a passenger that is spent, a meeting with a value that is not awaited where the passenger does not stop, and those of a packet, unless it comes to where an operation can be launched, which it may bar
 unfoldable pub keeps_marks : Plan → State → Move → Bool
 keeps_marks plan s (Climb i) = rides s i is_spent
-keeps_marks plan s (Meet i) = rides s i is_spent
+keeps_marks plan s (Meet i) = rides s i is_spent || (not (stops_there plan s i) && passes_by s i)
 keeps_marks plan s (Fall i) = not (is_free plan s (Launch (i - 1)))
 keeps_marks plan s Emit = not (is_free plan s (Launch plan.stages))
 keeps_marks plan s Leave = true

@@ -1,5 +1,8 @@
 -- What is told of an instruction in a stage ("Counterflow Pipeline Processor Architecture", 1994).
-use Rattle.std.specs.Prelude.{Bool, ◌&&◌, not}
+use Rattle.std.specs.Prelude.{ℕ, Bool, false, ◌&&◌, ◌==◌, not, Option, Some, None}
+use Rattle.cf_bind.specs.declared.binding.Binding.{Binding}
+use Rattle.cf_bind.specs.declared.packet.Packet.{Packet}
+use Rattle.cf_bind.specs.declared.packet.Packet.TheVariants.{Value, Turn, Halt}
 use Rattle.cf_bind.specs.declared.passenger.Passenger.{Passenger}
 use Rattle.cf_semantics.specs.Options.{is_some}
 use Rattle.cf_passengers.specs.Waiting.{first_unknown}
@@ -23,3 +26,14 @@ is_spent p = is_idle p && not (is_some p.owes)
 -- it has the values of its sources
 abbrev pub has_sources : Passenger → Bool
 has_sources p = not (is_some (first_unknown p))
+
+-- the source is this register, and has no value yet
+abbrev pub awaits : ℕ → Option Binding → Bool
+awaits r None = false
+awaits r (Some b) = not (is_some b.value) && b.reg == r
+
+-- the packet is a value that it does not await
+abbrev pub is_passed_by : Passenger → Packet → Bool
+is_passed_by p (Value r v) = not (awaits r p.src1) && not (awaits r p.src2)
+is_passed_by p (Turn pc) = false
+is_passed_by p Halt = false

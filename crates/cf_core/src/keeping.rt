@@ -3,14 +3,14 @@
 ghost use Rattle.std.specs.Prelude.{◌≡◌, ◌<◌, ◌≤◌, None};
 ghost use Rattle.cf_bind.specs.declared.moves.Move.TheVariants as mv;
 ghost use Rattle.cf_semantics.specs.Bars.{row_bar};
-ghost use Rattle.cf_core.specs.Marks.{is_free, keeps_marks as keeps_all, marks_of};
-ghost use Rattle.cf_core.specs.Masks.{rides};
+ghost use Rattle.cf_core.specs.Marks.{is_free, keeps_marks as keeps_all, marks_of, passes_by as stands_by};
+ghost use Rattle.cf_core.specs.Masks.{rides, stops_there};
 ghost use Rattle.cf_core.specs.Processors.{IsProcessor};
 ghost use Rattle.cf_core.specs.Riders.{is_spent as has_done_all};
 
 use crate::marks::Marks;
 use crate::processor::Processor;
-use crate::riding::is_spent;
+use crate::riding::{is_passed_by, is_spent};
 use cf_bind::Move;
 use cf_stages::has_bit;
 
@@ -43,8 +43,37 @@ impl Processor {
         has_bit(marks.launch, i)
     }
 
+    /// Whether the instruction of the stage stops there, by the words that are kept.
+    #[inline(always)]
+    #[tactic(auto, using(crate::proofs::StillMarks::stop_bits))]
+    fn stops_by(&self, marks: Marks, i: u32) -> bool
+        requires above { 0 < i }
+        requires within { i ≤ self.now.plan.stages }
+        requires marks { marks ≡ marks_of self.now.plan self.now.state }
+        ensures { result ≡ stops_there self.now.plan self.now.state i }
+    {
+        let _stages = self.layout.stages();
+        has_bit(marks.stops, i)
+    }
+
+    /// Whether an instruction is in the stage beside the value of a register that it does not await.
+    #[inline(always)]
+    fn passes_by(&self, i: u32) -> bool
+        requires above { 0 < i }
+        requires within { i ≤ self.now.plan.stages }
+        requires facts { IsProcessor self.now.plan self.now.state }
+        ensures { result ≡ stands_by self.now.state i }
+    {
+        let _stages = self.layout.stages();
+        match self.stages.passenger(i) {
+            Some(passenger) => is_passed_by(passenger, self.stages.packet(i)),
+            None => false,
+        }
+    }
+
     /// Whether an allowed move leaves what is kept of all stages as it is, as most moves do: those of an instruction that has
-    /// nothing left to do, and those of a result, unless it comes to where an operation can be launched, which it may bar.
+    /// nothing left to do, a meeting with a value that the instruction does not await, where it does not stop, and those of a
+    /// result, unless it comes to where an operation can be launched, which it may bar.
     #[inline(always)]
     #[tactic(auto, using(crate::proofs::Sites::moving), unfolding(crate::specs::Marks::keeps_marks))]
     pub(crate) fn keeps_marks(&self, marks: Marks, m: Move) -> bool
@@ -54,7 +83,10 @@ impl Processor {
         ensures { result ≡ keeps_all self.now.plan self.now.state m }
     {
         match m {
-            Move::Climb(i) | Move::Meet(i) => self.is_spent_at(i),
+            Move::Climb(i) => self.is_spent_at(i),
+            Move::Meet(i) => {
+                self.is_spent_at(i) || (!self.stops_by(marks, i) && self.passes_by(i))
+            }
             Move::Fall(i) => !self.launches_at(marks, i - 1),
             Move::Emit => !self.launches_at(marks, self.stages.count()),
             Move::Leave | Move::Exit => true,

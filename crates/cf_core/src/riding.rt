@@ -1,22 +1,22 @@
 //! What holds of a stage in which an instruction stands.
 
-ghost use Rattle.std.specs.Prelude.{◌≡◌, ◌==◌, ◌<◌, ◌≤◌, ◌&&◌, None, Some, length, not};
+ghost use Rattle.std.specs.Prelude.{◌≡◌, ◌==◌, ◌<◌, ◌≤◌, ◌&&◌, None, Some, false, length, not};
 ghost use Rattle.cf_bind.specs.declared.moves.Move.TheVariants as mv;
 ghost use Rattle.cf_layout.specs.Layout.{launch_stage, recover_stage, siding_of};
 ghost use Rattle.cf_semantics.specs.Bars.{entry_bar};
 ghost use Rattle.cf_semantics.specs.Instructions.{is_memory as loads_or_stores};
-ghost use Rattle.cf_semantics.specs.Options.{is_some};
+ghost use Rattle.cf_semantics.specs.Options.{on, is_some};
 ghost use Rattle.cf_semantics.specs.Passengers.{kind as kind_of_passenger};
 ghost use Rattle.cf_stages.specs.Changes.{is_full_at, passenger_at};
 ghost use Rattle.cf_core.specs.Marks.{is_free, mark_at};
 ghost use Rattle.cf_core.specs.Masks.{stops_there};
 ghost use Rattle.cf_core.specs.Processors.{IsProcessor};
-ghost use Rattle.cf_core.specs.Riders.{has_sources as knows_sources, is_idle as idles, is_out as is_beside, is_spent as has_done_all, is_undone as is_not_done};
+ghost use Rattle.cf_core.specs.Riders.{awaits as waits_for, has_sources as knows_sources, is_idle as idles, is_out as is_beside, is_passed_by as passed_by, is_spent as has_done_all, is_undone as is_not_done};
 
 use crate::beside::is_memory;
 use crate::marks::Mark;
 use crate::processor::Processor;
-use cf_bind::Passenger;
+use cf_bind::{Binding, Packet, Passenger};
 use cf_passengers::{first_missing, kind};
 use rv_inst::Class;
 
@@ -50,6 +50,32 @@ pub(crate) fn is_spent(passenger: &Passenger) -> bool
     ensures { result ≡ has_done_all passenger.now }
 {
     is_idle(passenger) && passenger.owes.is_none()
+}
+
+/// Whether the source is this register, and has no value yet.
+#[inline(always)]
+fn awaits(source: Option<Binding>, register: u8) -> bool
+    ensures { result ≡ waits_for register source }
+{
+    match source {
+        Some(binding) => binding.value.is_none() && binding.reg == register,
+        None => false,
+    }
+}
+
+/// Whether the result is a value that it does not await.
+#[inline(always)]
+pub(crate) fn is_passed_by(passenger: &Passenger, packet: Option<Packet>) -> bool
+    ensures { result ≡ on packet false (passed_by passenger.now) }
+{
+    match packet {
+        Some(Packet::Value { reg, .. }) => {
+            !awaits(passenger.src1, reg) && !awaits(passenger.src2, reg)
+        }
+        Some(Packet::Turn(_)) => false,
+        Some(Packet::Halt) => false,
+        None => false,
+    }
 }
 
 /// Whether it has the values of its sources.
