@@ -5,5 +5,6 @@ pub mod Chains
 pub mod Exchanges
 pub mod Clocks
 pub mod Earliest
+pub mod Seeking
 pub mod Timings
 pub mod TimedRuns
