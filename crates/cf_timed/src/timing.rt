@@ -55,8 +55,10 @@ impl Clock {
             time: u64::MAX,
             mv: Move::Exit,
         };
+        // Their number fits, so that no place is counted wrongly.
         let _count = candidates.len();
         candidates.visit(&mut least);
+        // Where no time is below the greatest, all are equal.
         if least.time < u64::MAX {
             (least.place, least.mv)
         } else {
