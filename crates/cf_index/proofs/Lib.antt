@@ -1,5 +1,6 @@
 pub mod Counted
 pub mod Places
+pub mod Shown
 pub mod Parts
 pub mod Held
 pub mod Setting

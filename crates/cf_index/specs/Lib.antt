@@ -3,5 +3,6 @@ pub mod Listed
 pub mod Order
 pub mod Allowed
 pub mod Words
+pub mod Spread
 pub mod Sites
 pub mod Alone

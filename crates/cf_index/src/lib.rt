@@ -12,10 +12,12 @@ mod passing;
 mod sharing;
 mod soon;
 mod stages;
+mod visiting;
 mod words;
 
 pub use candidates::Candidates;
 pub use sharing::shares;
+pub use visiting::Visitor;
 
 #[cfg(test)]
 mod tests;

@@ -4,9 +4,11 @@ ghost use Rattle.std.specs.Prelude.{◌≡◌, None};
 ghost use Rattle.cf_ledger.specs.Watchings.{behind_watched, ledger_behind, ledger_told, watched_pick};
 
 use crate::ledger::Ledger;
+use cf_bind::Move;
+use cf_core::Core;
 use cf_index::Candidates;
 use cf_run::Ran;
-use cf_sched::Policy;
+use cf_sched::{Pace, Policy};
 use cf_timed::{Clock, Timing};
 use std::marker::Model;
 
@@ -81,5 +83,11 @@ impl Policy for Watching {
     fn pick(&mut self, candidates: &Candidates) -> usize {
         self.tell();
         self.timing.pick(candidates)
+    }
+
+    #[inline(always)]
+    fn choose(&mut self, core: &Core, candidates: &mut Candidates, pace: &Pace) -> Move {
+        self.tell();
+        self.timing.choose(core, candidates, pace)
     }
 }

@@ -1,67 +1,22 @@
 -- The first of the moves with the least time.
-use Rattle.std.proofs.Common.{◌≡◌, ◌∙◌, refl, sym, ap, ℕ, ◌+◌, ◌<◌, ◌≤◌, List, [], ◌∷◌, length, get_or, Bool, true, false, cond, Some, nat_eq, nat_lt, arith}
-use Rattle.std.specs.Prelude.{nat_le, slice_get}
+use Rattle.std.proofs.Common.{◌≡◌, refl, sym, ℕ, ◌<◌, ◌≤◌, List, [], ◌∷◌, length, get_or, Bool, true, false, arith}
+use Rattle.std.specs.Prelude.{nat_le}
 use Rattle.std.specs.List.{AllByRecursion, list_all, position_or_len}
 use Rattle.std.proofs.lemmas.Bool.Decides.{nat_tests}
 use Rattle.std.proofs.lemmas.List.Folds.{list_all_at}
 use Rattle.std.proofs.lemmas.List.Sums.{list_all-from_AllPass, position_or_len_is}
-use Rattle.std.proofs.lemmas.Option.{get_or_from_slice_get}
 use Rattle.cf_bind.specs.declared.moves.Move.{Move}
 use Rattle.cf_timed.specs.Earliest.{first_least}
 
--- among the first moves, so many of them, the one at this place is the first that has the least time
-pub record IsLeast (time : Move → ℕ) (moves : List Move) (upto place least : ℕ) : Type 0 where
-  pub within : place < upto
-  pub is : (d : Move) → time (get_or moves place d) ≡ least
-  pub most : (k : ℕ) (d : Move) → k < upto → least ≤ time (get_or moves k d)
+-- the move at this place is the first whose time is no greater than a number, and that of none is less
+pub record IsLeast (time : Move → ℕ) (moves : List Move) (place least : ℕ) : Type 0 where
+  pub within : place < length moves
+  pub is : (d : Move) → time (get_or moves place d) ≤ least
+  pub most : (k : ℕ) (d : Move) → k < length moves → least ≤ time (get_or moves k d)
   pub first : (k : ℕ) (d : Move) → k < place → least < time (get_or moves k d)
 
--- the first move alone
-pub least-start : (time : Move → ℕ) (moves : List Move) (mv : Move) (least : ℕ) → Some mv ≡ slice_get moves 0 → least ≡ time mv → IsLeast time moves 1 0 least
-least-start time moves mv least e t =
-    let here : (d : Move) → time (get_or moves 0 d) ≡ least = λ d. ap time (get_or_from_slice_get moves 0 mv d (sym e)) ∙ sym t in
-    record {
-      within = omega arith;
-      is = here;
-      most = λ k d below. let z : k ≡ 0 = omega arith in let h = here d in rw z (omega (arith, h));
-      first = λ k d below. absurd (omega arith);
-    }
-
--- one move more
-pub least-next : (time : Move → ℕ) (moves : List Move) (upto : ℕ) (least next : ℕ × ℕ) (mv : Move) → IsLeast time moves upto least.0 least.1 → Some mv ≡ slice_get moves upto → next.0 ≡ upto → next.1 ≡ time mv → IsLeast time moves (upto + 1) (cond (nat_lt next.1 least.1) next least).0 (cond (nat_lt next.1 least.1) next least).1
-least-next time moves upto least next mv h e p t = by (nat_lt next.1 least.1) refl
-  where
-    here : (d : Move) → time (get_or moves upto d) ≡ next.1
-    here d = ap time (get_or_from_slice_get moves upto mv d (sym e)) ∙ sym t
-
-    by : (sooner : Bool) → nat_lt next.1 least.1 ≡ sooner → IsLeast time moves (upto + 1) (cond sooner next least).0 (cond sooner next least).1
-    by true s =
-        let less : next.1 < least.1 = grind (arith, nat_tests) in
-        record {
-          within = omega (arith, p);
-          is = λ d. rw p (here d);
-          most = λ k d below. more k d below less (nat_eq k upto) refl;
-          first = λ k d before. let g = h.most k d (omega (arith, p, before)) in omega (arith, g, less);
-        }
-      where
-        more : (k : ℕ) (d : Move) → k < upto + 1 → next.1 < least.1 → (same : Bool) → nat_eq k upto ≡ same → next.1 ≤ time (get_or moves k d)
-        more k d below less true q = let z : k ≡ upto = grind (arith, nat_tests) in let g = here d in rw z (omega (arith, g))
-        more k d below less false q = let under : k < upto = grind (arith, nat_tests) in let g = h.most k d under in omega (arith, g, less)
-    by false s =
-        let less : least.1 ≤ next.1 = grind (arith, nat_tests) in
-        record {
-          within = let w = h.within in omega (arith, w);
-          is = h.is;
-          most = λ k d below. more k d below less (nat_eq k upto) refl;
-          first = h.first;
-        }
-      where
-        more : (k : ℕ) (d : Move) → k < upto + 1 → least.1 ≤ next.1 → (same : Bool) → nat_eq k upto ≡ same → least.1 ≤ time (get_or moves k d)
-        more k d below less true q = let z : k ≡ upto = grind (arith, nat_tests) in let g = here d in rw z (omega (arith, g, less))
-        more k d below less false q = let under : k < upto = grind (arith, nat_tests) in h.most k d under
-
--- of all moves
-pub least-of_all : (time : Move → ℕ) (moves : List Move) (place least : ℕ) (d : Move) → IsLeast time moves (length moves) place least → place ≡ first_least time moves
+-- it is the first of the least
+pub least-of_all : (time : Move → ℕ) (moves : List Move) (place least : ℕ) (d : Move) → IsLeast time moves place least → place ≡ first_least time moves
 unfolding first_least
 least-of_all time moves place least d h =
     let w = h.within in

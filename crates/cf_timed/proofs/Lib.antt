@@ -5,6 +5,7 @@ pub mod Following
 pub mod Chaining
 pub mod Swapping
 pub mod Leasts
+pub mod Sought
 pub mod Room
 pub mod Simulated
 pub mod Rightly

@@ -5,6 +5,7 @@ pub mod Chains
 pub mod Exchanges
 pub mod Clocks
 pub mod Earliest
+pub mod Seeking
 pub mod Timings
 pub mod TimedRuns
 pub mod Limits

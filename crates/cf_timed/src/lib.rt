@@ -5,6 +5,7 @@ mod answer;
 mod clock;
 mod delays;
 pub mod laws;
+mod least;
 mod putting;
 mod reaching;
 mod reading;

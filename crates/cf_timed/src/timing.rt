@@ -1,14 +1,16 @@
 //! The policy that picks what is done first.
 
-ghost use Rattle.std.specs.Prelude.{◌≡◌, ◌<◌, None, if◌then◌else◌, length, nat_lt};
+ghost use Rattle.std.specs.Prelude.{◌≡◌, ◌<◌, None, Some, length, slice_get};
 ghost use Rattle.cf_timed.specs.Clocks.{capped};
 ghost use Rattle.cf_timed.specs.Earliest.{first_least};
 ghost use Rattle.cf_timed.specs.Timings.{behind_pick, marked, pending_pick, told};
 
 use crate::clock::Clock;
+use crate::least::Least;
 use cf_bind::Move;
+use cf_core::Core;
 use cf_index::Candidates;
-use cf_sched::Policy;
+use cf_sched::{Pace, Policy};
 use std::marker::Model;
 
 /// Picks the candidate that is done first, and the first in the order of all moves where several are. The clock is told a move once
@@ -27,14 +29,6 @@ impl Model for Timing {
     ghost view = { λ t. record { clock = t.clock; last = t.last } };
 }
 
-/// The second place with its time where that is less, and else the first.
-#[inline(always)]
-fn sooner(least: (usize, u64), next: (usize, u64)) -> (usize, u64)
-    ensures { result ≡ (if nat_lt next.1 least.1 then next else least) }
-{
-    if next.1 < least.1 { next } else { least }
-}
-
 impl Clock {
     /// Takes note of a move that is made now; its time is at most the greatest u64.
     #[inline(always)]
@@ -46,18 +40,30 @@ impl Clock {
         self.stamp(mv, time);
     }
 
-    /// The place of the first candidate that is done no later than any.
+    /// The first of the candidates that are done no later than any, and its place.
     #[inline(always)]
-    fn first_least(&self, candidates: &Candidates) -> usize
+    fn first_least(&self, candidates: &Candidates) -> (usize, Move)
         requires { 0 < length candidates.now }
-        ensures place { result ≡ first_least (capped self.now) candidates.now }
-        ensures within { result < length candidates.now }
+        ensures place { result.0 ≡ first_least (capped self.now) candidates.now }
+        ensures within { result.0 < length candidates.now }
+        ensures mv { Some result.1 ≡ slice_get candidates.now result.0 }
     {
-        let mut least = (0, self.capped(candidates.pick(0)));
-        for i in 1..candidates.len() {
-            least = sooner(least, (i, self.capped(candidates.pick(i))));
+        let mut least = Least {
+            clock: self,
+            shown: 0,
+            place: 0,
+            time: u64::MAX,
+            mv: Move::Exit,
+        };
+        // Their number fits, so that no place is counted wrongly.
+        let _count = candidates.len();
+        candidates.visit(&mut least);
+        // Where no time is below the greatest, all are equal.
+        if least.time < u64::MAX {
+            (least.place, least.mv)
+        } else {
+            (0, candidates.pick(0))
         }
-        least.0
     }
 }
 
@@ -108,6 +114,22 @@ impl Timing {
             self.last = None;
         }
     }
+
+    /// Tells the clock of the last pick, and picks one of the candidates: its place, and the move.
+    #[inline(always)]
+    #[tactic(auto, unfolding(crate::specs::Timings::pending_pick, crate::specs::Timings::behind_pick))]
+    fn least(&mut self, candidates: &Candidates) -> (usize, Move)
+        requires { 0 < length candidates.now }
+        ensures place { result.0 ≡ pending_pick self.old candidates.now }
+        ensures within { result.0 < length candidates.now }
+        ensures mv { Some result.1 ≡ slice_get candidates.now result.0 }
+        ensures onward { self.new ≡ behind_pick self.old candidates.now }
+    {
+        self.tell();
+        let least = self.clock.first_least(candidates);
+        self.last = Some(least.1);
+        least
+    }
 }
 
 impl Policy for Timing {
@@ -116,11 +138,13 @@ impl Policy for Timing {
     ghost onward = { behind_pick };
 
     #[inline(always)]
-    #[tactic(auto, unfolding(crate::specs::Timings::pending_pick, crate::specs::Timings::behind_pick))]
     fn pick(&mut self, candidates: &Candidates) -> usize {
-        self.tell();
-        let place = self.clock.first_least(candidates);
-        self.last = Some(candidates.pick(place));
-        place
+        self.least(candidates).0
+    }
+
+    #[inline(always)]
+    fn choose(&mut self, core: &Core, candidates: &mut Candidates, pace: &Pace) -> Move {
+        pace.offer(core, candidates);
+        self.least(candidates).1
     }
 }

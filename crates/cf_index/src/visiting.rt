@@ -1,0 +1,138 @@
+//! The candidates are shown one after another, each kind from number to number of its word.
+
+ghost use Rattle.std.specs.Prelude.{◌≡◌, ◌<◌, fold, map};
+ghost use Rattle.cf_bind.specs.declared.moves.Move.{Move as Step};
+ghost use Rattle.cf_index.specs.Listed.{entering_moves, flagged, leaving_moves, passing_moves, slides_of};
+ghost use Rattle.cf_index.specs.Places.{places};
+ghost use Rattle.cf_index.specs.Spread.{numbered};
+
+use crate::candidates::Candidates;
+use crate::entering::Entering;
+use crate::leaving::Leaving;
+use crate::passing::Passing;
+use cf_bind::{Guess, Move};
+
+/// What is shown moves, one after another. What it is behind a move depends on nothing but what it was and on the move.
+pub trait Visitor {
+    /// The visitor behind a move.
+    ghost behind: { Self → Step → Self };
+
+    /// It is shown a move.
+    fn visit(&mut self, mv: Move)
+        ensures { self.new ≡ behind self.old mv };
+}
+
+/// The kinds of moves for which there is a word: a move at each stage, or at each cell of the sidings.
+#[derive(Clone, Copy)]
+pub(crate) enum Spread {
+    Climb,
+    Fall,
+    Meet,
+    Execute,
+    Send,
+    Launch,
+    Slide,
+    Recover,
+}
+
+impl Spread {
+    /// The move of a number in the word: at the stage behind it, or in cell 8k + c where it is from cell c of siding k.
+    #[inline(always)]
+    fn numbered(self, number: u32) -> Move
+        requires { number < 64 }
+        ensures { result ≡ numbered self number }
+    {
+        match self {
+            Spread::Climb => Move::Climb(number + 1),
+            Spread::Fall => Move::Fall(number + 1),
+            Spread::Meet => Move::Meet(number + 1),
+            Spread::Execute => Move::Execute(number + 1),
+            Spread::Send => Move::Send(number + 1),
+            Spread::Launch => Move::Launch(number + 1),
+            Spread::Slide => Move::Slide(number / 8, number % 8),
+            Spread::Recover => Move::Recover(number + 1),
+        }
+    }
+}
+
+/// Shows a move where it is there.
+#[inline(always)]
+fn visit_if<V: Visitor>(visitor: &mut V, there: bool, mv: Move)
+    ensures { visitor.new ≡ fold V.behind visitor.old (flagged there mv) }
+{
+    if there {
+        visitor.visit(mv);
+    }
+}
+
+/// Shows the moves of a word.
+#[inline(always)]
+#[tactic(auto, using(crate::proofs::Shown::shown_next, crate::proofs::Shown::shown_none, crate::proofs::Shown::lowest_within, crate::proofs::Shown::less_word))]
+fn visit_word<V: Visitor>(visitor: &mut V, kind: Spread, word: u64)
+    ensures { visitor.new ≡ fold V.behind visitor.old (map (numbered kind) (places 64 word)) }
+{
+    let mut rest = word;
+    while rest != 0 {
+        visitor.visit(kind.numbered(rest.trailing_zeros()));
+        rest &= rest - 1;
+    }
+}
+
+impl Entering {
+    /// Shows each of them.
+    #[inline(always)]
+    #[tactic(auto, using(crate::proofs::Shown::shown_parts), unfolding(crate::specs::Listed::entering_moves))]
+    fn visit<V: Visitor>(&self, visitor: &mut V)
+        ensures { visitor.new ≡ fold V.behind visitor.old (entering_moves self.now) }
+    {
+        visit_if(visitor, self.next, Move::Issue(Guess::Next));
+        visit_if(visitor, self.taken, Move::Issue(Guess::Taken));
+        visit_if(visitor, self.wait, Move::Issue(Guess::Wait));
+        visit_if(visitor, self.emit, Move::Emit);
+    }
+}
+
+impl Passing {
+    /// Shows each of them.
+    #[inline(always)]
+    #[tactic(auto, using(crate::proofs::Shown::shown_parts), unfolding(crate::specs::Listed::passing_moves, crate::specs::Listed::at_word))]
+    fn visit<V: Visitor>(&self, visitor: &mut V)
+        ensures { visitor.new ≡ fold V.behind visitor.old (passing_moves self.now) }
+    {
+        visit_word(visitor, Spread::Climb, self.climb as u64);
+        visit_word(visitor, Spread::Fall, self.fall as u64);
+        visit_word(visitor, Spread::Meet, self.meet as u64);
+        visit_word(visitor, Spread::Execute, self.execute as u64);
+        visit_word(visitor, Spread::Send, self.send as u64);
+        visit_word(visitor, Spread::Launch, self.launch as u64);
+    }
+}
+
+impl Leaving {
+    /// Shows each of them.
+    #[inline(always)]
+    #[tactic(auto, using(crate::proofs::Shown::shown_parts), unfolding(crate::specs::Listed::leaving_moves, crate::specs::Listed::at_word))]
+    fn visit<V: Visitor>(&self, visitor: &mut V)
+        ensures { visitor.new ≡ fold V.behind visitor.old (leaving_moves self.now) }
+    {
+        visit_if(visitor, self.access, Move::Access);
+        visit_word(visitor, Spread::Recover, self.recover as u64);
+        visit_if(visitor, self.leave, Move::Leave);
+        visit_if(visitor, self.exit, Move::Exit);
+        visit_if(visitor, self.serve, Move::Serve);
+    }
+}
+
+impl Candidates {
+    /// Shows each of them, in the order of all moves.
+    #[inline(always)]
+    #[tactic(auto, using(crate::proofs::Shown::shown_parts), unfolding(crate::specs::Listed::slides_of))]
+    pub fn visit<V: Visitor>(&self, visitor: &mut V)
+        ensures { visitor.new ≡ fold V.behind visitor.old self.now }
+    {
+        self.entering.visit(visitor);
+        self.passing.visit(visitor);
+        visit_word(visitor, Spread::Slide, self.slides);
+        self.leaving.visit(visitor);
+    }
+}

@@ -1,0 +1,128 @@
+-- What was found behind some moves that were shown: the first that has the least time.
+use Rattle.std.proofs.Common.{◌≡◌, refl, sym, ap, ℕ, zero, suc, ◌+◌, ◌-◌, ◌^◌, ◌<◌, ◌≤◌, List, [], ◌∷◌, drop, fold, length, get_or, min, Bool, true, false, cond, Some, nat_eq, nat_lt, arith}
+use Rattle.std.specs.Prelude.{slice_get}
+use Rattle.std.proofs.lemmas.Bool.Decides.{nat_tests}
+use Rattle.std.proofs.lemmas.Option.{get_or_from_slice_get}
+use Rattle.cf_bind.specs.declared.moves.Move.{Move}
+use Rattle.cf_timed.specs.Clocks.{SiteTimes, capped}
+use Rattle.cf_timed.specs.Earliest.{first_least}
+use Rattle.cf_timed.specs.Seeking.{Seeking, counted, shown}
+use Rattle.cf_timed.proofs.Leasts.{IsLeast, least-of_all}
+
+-- of the moves that were shown the first with the least time is known, or none has a time below the greatest number
+record Found (clock : SiteTimes) (moves : List Move) (s : Seeking) : Type 0 where
+  same : s.clock ≡ clock
+  least : (k : ℕ) (d : Move) → k < s.shown → s.time ≤ capped clock (get_or moves k d)
+  first : (k : ℕ) (d : Move) → k < s.place → s.time < capped clock (get_or moves k d)
+  some : s.time < 2 ^ 64 - 1 → (s.place < s.shown) × (slice_get moves s.place ≡ Some s.move) × (capped clock s.move ≡ s.time)
+  none : 2 ^ 64 - 1 ≤ s.time → s.place ≡ 0
+  within : s.time ≤ 2 ^ 64 - 1
+
+-- one move more
+found-next : (clock : SiteTimes) (moves : List Move) (s : Seeking) (mv : Move) → s.shown < 2 ^ 64 - 1 → slice_get moves s.shown ≡ Some mv → Found clock moves s → Found clock moves (shown s mv)
+found-next clock moves s mv few at h = by (nat_lt (capped s.clock mv) s.time) refl
+  where
+    one : min (s.shown + 1) (2 ^ 64 - 1) ≡ s.shown + 1
+    one = grind arith
+
+    here : (d : Move) → get_or moves s.shown d ≡ mv
+    here d = get_or_from_slice_get moves s.shown mv d at
+
+    by : (sooner : Bool) → nat_lt (capped s.clock mv) s.time ≡ sooner → Found clock moves (counted (cond sooner (record s { place = s.shown; time = capped s.clock mv; move = mv }) s))
+    by true t =
+        let e = h.same in
+        let less : capped s.clock mv < s.time = grind (arith, nat_tests) in
+        record {
+          same = e;
+          least = λ k d below. more k d (rw one at below) less (nat_eq k s.shown) refl;
+          first = λ k d before. let g = h.least k d before in omega (arith, g, less);
+          some = λ below. (omega (arith, one), at, ap (λ (c : SiteTimes). capped c mv) (sym e));
+          none = λ above. let w = h.within in absurd (omega (arith, above, less, w));
+          within = let w = h.within in omega (arith, less, w);
+        }
+      where
+        more : (k : ℕ) (d : Move) → k < s.shown + 1 → capped s.clock mv < s.time → (last : Bool) → nat_eq k s.shown ≡ last → capped s.clock mv ≤ capped clock (get_or moves k d)
+        more k d below less true q = let z : k ≡ s.shown = grind (arith, nat_tests) in let e = h.same in rw (z, here d, e) (omega arith)
+        more k d below less false q = let under : k < s.shown = grind (arith, nat_tests) in let g = h.least k d under in omega (arith, g, less)
+    by false t =
+        let e = h.same in
+        let less : s.time ≤ capped s.clock mv = grind (arith, nat_tests) in
+        record {
+          same = e;
+          least = λ k d below. more k d (rw one at below) less (nat_eq k s.shown) refl;
+          first = h.first;
+          some = λ below. let g = h.some below in (let w = g.0 in omega (arith, one, w), g.1, g.2);
+          none = h.none;
+          within = h.within;
+        }
+      where
+        more : (k : ℕ) (d : Move) → k < s.shown + 1 → s.time ≤ capped s.clock mv → (last : Bool) → nat_eq k s.shown ≡ last → s.time ≤ capped clock (get_or moves k d)
+        more k d below less true q = let z : k ≡ s.shown = grind (arith, nat_tests) in let e = h.same in rw (z, here d, ← e) less
+        more k d below less false q = let under : k < s.shown = grind (arith, nat_tests) in h.least k d under
+
+-- the first of those that are left
+next_at : (n : ℕ) (moves rest : List Move) (mv : Move) → drop n moves ≡ mv ∷ rest → (slice_get moves n ≡ Some mv) × (drop (suc n) moves ≡ rest)
+next_at zero [] rest mv e = absurd (cc)
+next_at zero (x ∷ moves) rest mv e = (cc, cc)
+next_at (suc n) [] rest mv e = absurd (cc)
+next_at (suc n) (x ∷ moves) rest mv e = next_at n moves rest mv e
+
+-- all that are left
+found-rest : (clock : SiteTimes) (moves : List Move) (s : Seeking) (rest : List Move) → length moves ≤ 2 ^ 64 - 1 → s.shown + length rest ≡ length moves → drop s.shown moves ≡ rest → Found clock moves s → Found clock moves (fold shown s rest) × ((fold shown s rest).shown ≡ length moves)
+found-rest clock moves s [] few count left h = (h, omega (arith, count))
+found-rest clock moves s (mv ∷ rest) few count left h =
+    let n = next_at s.shown moves rest mv left in
+    let below : s.shown < 2 ^ 64 - 1 = omega (arith, count, few) in
+    let one = counts (nat_lt (capped s.clock mv) s.time) below in
+    let e : s.shown + 1 ≡ suc s.shown = omega arith in
+    found-rest clock moves (shown s mv) rest few (omega (arith, one, count)) (rw (one, e) (n.1)) (found-next clock moves s mv below (n.0) h)
+  where
+    counts : (sooner : Bool) → s.shown < 2 ^ 64 - 1 → (counted (cond sooner (record s { place = s.shown; time = capped s.clock mv; move = mv }) s)).shown ≡ s.shown + 1
+    counts true below = grind arith
+    counts false below = grind arith
+
+-- nothing was shown
+abbrev nothing : SiteTimes → Move → Seeking
+nothing clock mv = record { clock = clock; shown = 0; place = 0; time = 2 ^ 64 - 1; move = mv }
+
+found-nothing : (clock : SiteTimes) (moves : List Move) (mv : Move) → Found clock moves (nothing clock mv)
+found-nothing clock moves mv = record {
+  same = refl;
+  least = λ k d below. absurd (omega arith);
+  first = λ k d before. absurd (omega arith);
+  some = λ below. absurd (omega arith);
+  none = λ above. refl;
+  within = omega arith;
+}
+
+-- where all were shown and one has a time below the greatest number, the first of the least is found
+pub found-first : (clock : SiteTimes) (moves : List Move) (mv : Move) (s : Seeking) → length moves ≤ 2 ^ 64 - 1 → s ≡ fold shown (nothing clock mv) moves → s.time < 2 ^ 64 - 1 →
+    (s.place ≡ first_least (capped clock) moves) × (s.place < length moves) × (Some s.move ≡ slice_get moves s.place)
+found-first clock moves mv s few e below =
+    let f = found-rest clock moves (nothing clock mv) moves few (omega arith) refl (found-nothing clock moves mv) in
+    let h : Found clock moves s = rw e (f.0) in
+    let all : s.shown ≡ length moves = rw e (f.1) in
+    let g = h.some below in
+    let within : s.place < length moves = let w = g.0 in omega (arith, all, w) in
+    let is : IsLeast (capped clock) moves s.place s.time = record {
+      within = within;
+      is = λ d. let p = get_or_from_slice_get moves s.place s.move d (g.1) in let t = g.2 in rw p (omega (arith, t));
+      most = λ k d low. h.least k d (rw all low);
+      first = h.first;
+    } in
+    (least-of_all (capped clock) moves s.place s.time s.move is, within, sym (g.1))
+
+-- and where none has, it is the first of all
+pub first-found : (clock : SiteTimes) (moves : List Move) (mv : Move) (s : Seeking) → length moves ≤ 2 ^ 64 - 1 → 0 < length moves → s ≡ fold shown (nothing clock mv) moves → 2 ^ 64 - 1 ≤ s.time →
+    0 ≡ first_least (capped clock) moves
+first-found clock moves mv s few some e above =
+    let f = found-rest clock moves (nothing clock mv) moves few (omega arith) refl (found-nothing clock moves mv) in
+    let h : Found clock moves s = rw e (f.0) in
+    let all : s.shown ≡ length moves = rw e (f.1) in
+    let is : IsLeast (capped clock) moves 0 s.time = record {
+      within = some;
+      is = λ d. let c : capped clock (get_or moves 0 d) ≤ 2 ^ 64 - 1 = grind arith in omega (arith, c, above);
+      most = λ k d low. h.least k d (rw all low);
+      first = λ k d before. absurd (omega arith);
+    } in
+    least-of_all (capped clock) moves 0 s.time mv is

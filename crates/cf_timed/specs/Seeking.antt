@@ -1,0 +1,20 @@
+-- The first of the moves with the least time, sought while one after another is shown.
+use Rattle.std.specs.Prelude.{ℕ, ◌+◌, ◌-◌, ◌^◌, min, nat_lt, if◌then◌else◌}
+use Rattle.cf_bind.specs.declared.moves.Move.{Move}
+use Rattle.cf_timed.specs.Clocks.{SiteTimes, capped}
+
+-- how many moves were shown, and the first of those with the least time: its place, its time and itself
+pub record Seeking : Type 0 where
+  pub clock : SiteTimes
+  pub shown : ℕ
+  pub place : ℕ
+  pub time : ℕ
+  pub move : Move
+
+-- one move more was counted
+abbrev pub counted : Seeking → Seeking
+counted s = record s { shown = min (s.shown + 1) (2 ^ 64 - 1) }
+
+-- it is taken where it has a lesser time than those before it
+abbrev pub shown : Seeking → Move → Seeking
+shown s mv = counted (if nat_lt (capped s.clock mv) s.time then record s { place = s.shown; time = capped s.clock mv; move = mv } else s)

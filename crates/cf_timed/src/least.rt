@@ -1,0 +1,42 @@
+//! The first of the moves that are done no later than any, found while they are shown.
+
+ghost use Rattle.std.specs.Prelude.{◌≡◌};
+ghost use Rattle.cf_timed.specs.Seeking.{shown};
+
+use crate::clock::Clock;
+use cf_bind::Move;
+use cf_index::Visitor;
+use std::marker::Model;
+
+/// How many moves were shown, and of these the first that is done no later than any, with its place and its time.
+#[derive(Drop)]
+pub(crate) struct Least<'a> {
+    pub(crate) clock: &'a Clock,
+    pub(crate) shown: usize,
+    pub(crate) place: usize,
+    pub(crate) time: u64,
+    pub(crate) mv: Move,
+}
+
+impl<'a> Model for Least<'a> {
+    ghost use Rattle.cf_timed.specs.Seeking.{Seeking};
+
+    ghost Value = { Seeking };
+
+    ghost view = { λ l. record { clock = l.clock.now; shown = l.shown; place = l.place; time = l.time; move = l.mv } };
+}
+
+impl<'a> Visitor for Least<'a> {
+    ghost behind = { shown };
+
+    #[inline(always)]
+    fn visit(&mut self, mv: Move) {
+        let time = self.clock.capped(mv);
+        if time < self.time {
+            self.time = time;
+            self.place = self.shown;
+            self.mv = mv;
+        }
+        self.shown = self.shown.saturating_add(1);
+    }
+}
