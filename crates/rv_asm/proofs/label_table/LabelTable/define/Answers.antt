@@ -1,6 +1,4 @@
-use Rattle.std.proofs.Common.{map, arith, refl, ◌∙◌, sym, ap}
-use Rattle.rv_asm.specs.LabelTables.{names_of}
-use Rattle.rv_asm.specs.Labels.{named, value_of}
+use Rattle.std.proofs.Common.{arith}
 use Rattle.rv_asm.proofs.Found.{defined, same_entries}
 use Rattle.rv_asm.proofs.label_table.LabelTable.define.Goals as goal
 
