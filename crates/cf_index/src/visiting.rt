@@ -36,7 +36,7 @@ pub(crate) enum Spread {
 }
 
 impl Spread {
-    /// The move of a number in the word: at the stage behind it, or in cell 8k + c where it is from cell c of siding k.
+    /// The move of a number in the word: k is for stage k + 1, and 8k + c for cell c of siding k.
     #[inline(always)]
     fn numbered(self, number: u32) -> Move
         requires { number < 64 }
