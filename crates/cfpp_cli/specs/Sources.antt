@@ -9,7 +9,6 @@ use Rattle.elf_make.specs.Files.{elf_file}
 use Rattle.elf_make.specs.Viewed.{IsView}
 use Rattle.asm_texts.specs.Refusals.{bad_source}
 use Rattle.cfpp_cli.specs.FileCommands.{FileSide, PutsOrFails, ComesOfFile, RefusesFile}
-use Rattle.cfpp_cli.specs.declared.asm.TheConstants.{MOST_SOURCE}
 use Rattle.cli_files.specs.Memory.{SaysNoMemory}
 use Rattle.cli_files.specs.declared.status.Status.{Status}
 use Rattle.cli_files.specs.declared.status.Status.TheVariants as status
@@ -17,7 +16,7 @@ use Rattle.cli_files.specs.declared.status.Which.TheVariants as which
 
 -- the greatest length that is read of a source: one byte more than a source may have
 abbrev pub most_source : ℕ
-most_source = MOST_SOURCE
+most_source = 1048577
 
 -- the file is that of the object that the source stands for, and is seen as it
 pub record IsAssembly (source file : List ℕ) : Type 0 where
