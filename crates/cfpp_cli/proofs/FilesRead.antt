@@ -80,7 +80,7 @@ answers-read (Ok (rounds layout program limit)) before after blank answer shown 
 answers-read (Ok (debug layout program)) before after blank answer shown closing h =
     debugged-read layout program before after answer (shown ++ closing) h
 answers-read (Ok (time delays program layouts limit sites)) before after blank answer shown closing h =
-    timed-read (time_asked delays program layouts limit) before.files after.files answer (shown ++ closing) h.0
+    timed-read (time_asked delays program layouts (record { limit = limit; sites = sites })) before.files after.files answer (shown ++ closing) h.0
 answers-read (Ok (audit layout program trace)) before after blank answer shown closing h =
     audited-read (audit_asked layout program trace) (audit_side before) (audit_side after) answer (shown ++ closing) h.0
 answers-read (Ok (check layout)) before after blank answer shown closing h =
@@ -107,7 +107,7 @@ breaks-read (Ok (rounds layout program limit)) before after blank full h = absur
 breaks-read (Ok (debug layout program)) before after blank full h = broken-read layout program before after blank full h
 breaks-read (Ok (gen number true)) before after blank full h = were-none [] before.files after.files h.1
 breaks-read (Ok (time delays program layouts limit sites)) before after blank full h =
-    time-broken (time_asked delays program layouts limit) before.files after.files blank full h.0
+    time-broken (time_asked delays program layouts (record { limit = limit; sites = sites })) before.files after.files blank full h.0
 breaks-read (Ok (audit layout program trace)) before after blank full h = absurd h
 breaks-read (Ok (check layout)) before after blank full h = absurd h
 breaks-read (Ok (asm source)) before after blank full h = absurd h

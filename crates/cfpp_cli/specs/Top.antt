@@ -60,7 +60,7 @@ Answers (Ok (rounds layout program limit)) before after blank answer shown closi
     AnswersRounds (rounds_asked layout program limit) before after answer (shown ++ closing)
 Answers (Ok (debug layout program)) before after blank answer shown closing = AnswersDebug layout program before after answer (shown ++ closing)
 Answers (Ok (time delays program layouts limit sites)) before after blank answer shown closing =
-    AnswersTime (time_asked delays program layouts limit) before.files after.files answer (shown ++ closing)
+    AnswersTime (time_asked delays program layouts (record { limit = limit; sites = sites })) before.files after.files answer (shown ++ closing)
     × (after.streams ≡ before.streams)
 Answers (Ok (audit layout program trace)) before after blank answer shown closing =
     AnswersAudit (audit_asked layout program trace) (audit_side before) (audit_side after) answer (shown ++ closing)
@@ -94,7 +94,7 @@ Breaks (Ok (debug layout program)) before after blank full = BreaksDebug layout 
 Breaks (Ok (gen number true)) before after blank full =
     BreaksDrawn number before.streams after.streams blank full × (after.files ≡ before.files)
 Breaks (Ok (time delays program layouts limit sites)) before after blank full =
-    BreaksTime (time_asked delays program layouts limit) before.files after.files blank full
+    BreaksTime (time_asked delays program layouts (record { limit = limit; sites = sites })) before.files after.files blank full
     × (after.streams ≡ before.streams)
 Breaks (Ok asked) before after blank full = ⊥
 Breaks (Err index) before after blank full = ⊥

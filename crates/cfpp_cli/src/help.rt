@@ -35,6 +35,7 @@ Options stand behind the names in any order, each once:
   --show report   shows the closing report alone, as without it (run, machine)
   --show retired  shows each instruction as it retires (run, machine)
   --show moves    shows each move with the picture behind it (run)
+  --show sites    shows what each time is made of (time)
   --mul           multiplies and divides (machine)
   --run           runs the drawn program, by moves drawn from N (gen)
 
@@ -55,4 +56,4 @@ docs/ASSEMBLY.md the assembler's language.
 ";
 
 /// What `--version` writes: the version, and the logic that the proofs were made with.
-pub const VERSION: &[u8] = b"cfpp 0.9.0 (rattle-kit-13f logic dac8208d650f15bf)\n";
+pub const VERSION: &[u8] = b"cfpp 0.9.0 (rattle-kit-13b logic dac8208d650f15bf)\n";

@@ -145,7 +145,7 @@ fn decide<F: Files, S: Source, K: Sink, R: Sink>(
                 delays,
                 program,
                 layouts,
-                options.limit,
+                options,
                 files,
                 report,
             );
@@ -167,7 +167,8 @@ fn decide<F: Files, S: Source, K: Sink, R: Sink>(
 /// moves can be made where the script ends. `rounds LAYOUT PROGRAM` runs the processor in rounds of moves that share no
 /// place, as a clocked one would, `debug LAYOUT PROGRAM` answers commands of the input, which make moves, show the
 /// processor and take moves back, `audit LAYOUT PROGRAM TRACE` tells whether a recorded trace is that of a run, and
-/// `time DELAYS PROGRAM LAYOUT ..` compares how long the program takes on up to eight layouts.
+/// `time DELAYS PROGRAM LAYOUT ..` compares how long the program takes on up to eight layouts, and tells with `--show sites` what
+/// each of these times is made of.
 /// `check LAYOUT` writes a layout's one text to the output, `asm SOURCE` the ELF file that an assembly source stands
 /// for, `list PROGRAM` a program's listing, and `gen N` the text of a program that is drawn from a number, which `gen N
 /// --run` assembles and runs. `help`, `--help` and `--version` write what their names say.

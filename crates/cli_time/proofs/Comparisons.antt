@@ -11,6 +11,7 @@ use Rattle.std.proofs.lemmas.Bool.{false≢true}
 use Rattle.cf_report.specs.Putting.{PutsText}
 use Rattle.cf_report.proofs.Puttings.{writes-again}
 use Rattle.cf_texts.specs.Texts.{line}
+use Rattle.cf_words.specs.declared.command.TimeOptions.{TimeOptions}
 use Rattle.cf_words.specs.Words.{Layout}
 use Rattle.cli_files.specs.Deciding.{Decides}
 use Rattle.cli_files.specs.declared.answer.Answer.{Answer}
@@ -23,10 +24,10 @@ use Rattle.cli_time.specs.Runs.{PutsAll, PutsFewer}
 use Rattle.cli_time.specs.Times.{AnswersTime, BreaksAtLeast, BreaksTime, BreaksTimes, MeasuresAll, TimesOf}
 
 -- the layout that is named is the first with the least time
-measures-all : (words : List Layout) (limit : ℕ) (delays : List ℕ) (plans : List Plan) (hart : Hart) (blank told : Option (List ℕ))
-    (times : List ℕ) (place : ℕ) (named : Layout) → (h : PutsAll words limit delays plans hart blank told times) →
-    IsFirstLeast times place → slice_get words place ≡ Some named → MeasuresAll words limit delays plans hart h.measured named
-measures-all words limit delays plans hart blank told times place named h least is = record {
+measures-all : (words : List Layout) (options : TimeOptions) (delays : List ℕ) (plans : List Plan) (hart : Hart) (blank told : Option (List ℕ))
+    (times : List ℕ) (place : ℕ) (named : Layout) → (h : PutsAll words options delays plans hart blank told times) →
+    IsFirstLeast times place → slice_get words place ≡ Some named → MeasuresAll words options delays plans hart h.measured named
+measures-all words options delays plans hart blank told times place named h least is = record {
   each = h.each;
   all = h.all;
   place = place;
@@ -35,67 +36,67 @@ measures-all words limit delays plans hart blank told times place named h least 
 }
 
 -- it was named
-pub times-all : (words : List Layout) (limit : ℕ) (delays : List ℕ) (plans : List Plan) (hart : Hart) (blank told full : Option (List ℕ))
-    (times : List ℕ) (place : ℕ) (named : Layout) (answer : Answer) → PutsAll words limit delays plans hart blank told times →
+pub times-all : (words : List Layout) (options : TimeOptions) (delays : List ℕ) (plans : List Plan) (hart : Hart) (blank told full : Option (List ℕ))
+    (times : List ℕ) (place : ℕ) (named : Layout) (answer : Answer) → PutsAll words options delays plans hart blank told times →
     IsFirstLeast times place → slice_get words place ≡ Some named → Writes told full (least_line named) →
     answer.status ≡ status.Done → answer.closing ≡ [] →
-    Decides (TimesOf words limit delays plans hart) (BreaksTimes words limit delays plans hart blank full) blank full (Ok answer)
-times-all words limit delays plans hart blank told full times place named answer h least is put done closed =
-    let text : List ℕ = time_lines limit words h.measured ++ least_line named in (
+    Decides (TimesOf words options delays plans hart) (BreaksTimes words options delays plans hart blank full) blank full (Ok answer)
+times-all words options delays plans hart blank told full times place named answer h least is put done closed =
+    let text : List ℕ = time_lines options.limit words h.measured ++ least_line named in (
       text,
-      writes-again blank told full (time_lines limit words h.measured) (least_line named) h.put put,
+      writes-again blank told full (time_lines options.limit words h.measured) (least_line named) h.put put,
       inl (record {
         measured = h.measured;
         named = named;
-        all = measures-all words limit delays plans hart blank told times place named h least is;
+        all = measures-all words options delays plans hart blank told times place named h least is;
         status_is = done;
         reports = ap (λ (rest : List ℕ). text ++ rest) closed ∙ append-nil text;
       }),
     )
 
 -- the report failed at that
-pub times-break : (words : List Layout) (limit : ℕ) (delays : List ℕ) (plans : List Plan) (hart : Hart) (blank told full : Option (List ℕ))
-    (times : List ℕ) (place : ℕ) (named : Layout) → PutsAll words limit delays plans hart blank told times →
+pub times-break : (words : List Layout) (options : TimeOptions) (delays : List ℕ) (plans : List Plan) (hart : Hart) (blank told full : Option (List ℕ))
+    (times : List ℕ) (place : ℕ) (named : Layout) → PutsAll words options delays plans hart blank told times →
     IsFirstLeast times place → slice_get words place ≡ Some named → WritesFront told full (least_line named) →
-    BreaksTimes words limit delays plans hart blank full
-times-break words limit delays plans hart blank told full times place named h least is front =
+    BreaksTimes words options delays plans hart blank full
+times-break words options delays plans hart blank told full times place named h least is front =
     inr (record {
       measured = h.measured;
       named = named;
-      all = measures-all words limit delays plans hart blank told times place named h least is;
+      all = measures-all words options delays plans hart blank told times place named h least is;
       told = told;
       put = h.put;
       front = front;
     })
 
-pub times-broken : {T E : Type 0} (words : List Layout) (limit : ℕ) (delays : List ℕ) (plans : List Plan) (hart : Hart)
+pub times-broken : {T E : Type 0} (words : List Layout) (options : TimeOptions) (delays : List ℕ) (plans : List Plan) (hart : Hart)
     (blank told full : Option (List ℕ)) (i j : ℕ) (times : List ℕ) (place : ℕ) (named : Layout) (r : Result T E) (e : E) (result : Result Answer Failed) →
-    PutsAll words limit delays plans hart blank told times → IsFirstLeast times place → slice_get words place ≡ Some named →
+    PutsAll words options delays plans hart blank told times → IsFirstLeast times place → slice_get words place ≡ Some named →
     PutsText told full i j (least_line named) r → r ≡ Err e → IsErr result →
-    Decides (TimesOf words limit delays plans hart) (BreaksTimes words limit delays plans hart blank full) blank full result
-times-broken words limit delays plans hart blank told full i j times place named r e (Ok answer) h least is puts was failed =
+    Decides (TimesOf words options delays plans hart) (BreaksTimes words options delays plans hart blank full) blank full result
+times-broken words options delays plans hart blank told full i j times place named r e (Ok answer) h least is puts was failed =
     absurd (false≢true failed)
-times-broken {T = T} {E = E} words limit delays plans hart blank told full i j times place named r e (Err f) h least is puts was failed =
+times-broken {T = T} {E = E} words options delays plans hart blank told full i j times place named r e (Err f) h least is puts was failed =
     let q : PutsText {T = T} {E = E} told full i j (least_line named) (Err e) = rw was at puts in
-    times-break words limit delays plans hart blank told full times place named h least is q.front
+    times-break words options delays plans hart blank told full times place named h least is q.front
 
 -- it was named, and that is all
-pub times-named : {T E : Type 0} (words : List Layout) (limit : ℕ) (delays : List ℕ) (plans : List Plan) (hart : Hart)
+pub times-named : {T E : Type 0} (words : List Layout) (options : TimeOptions) (delays : List ℕ) (plans : List Plan) (hart : Hart)
     (blank told full : Option (List ℕ)) (i j : ℕ) (times : List ℕ) (place : ℕ) (named : Layout) (r : Result T E) (t : T) (answer : Answer) →
-    PutsAll words limit delays plans hart blank told times → IsFirstLeast times place → slice_get words place ≡ Some named →
+    PutsAll words options delays plans hart blank told times → IsFirstLeast times place → slice_get words place ≡ Some named →
     PutsText told full i j (least_line named) r → r ≡ Ok t → answer.status ≡ status.Done → answer.closing ≡ [] →
-    Decides (TimesOf words limit delays plans hart) (BreaksTimes words limit delays plans hart blank full) blank full (Ok answer)
-times-named {T = T} {E = E} words limit delays plans hart blank told full i j times place named r t answer h least is puts was done closed =
+    Decides (TimesOf words options delays plans hart) (BreaksTimes words options delays plans hart blank full) blank full (Ok answer)
+times-named {T = T} {E = E} words options delays plans hart blank told full i j times place named r t answer h least is puts was done closed =
     let q : PutsText {T = T} {E = E} told full i j (least_line named) (Ok t) = rw was at puts in
-    times-all words limit delays plans hart blank told full times place named answer h least is q.all done closed
+    times-all words options delays plans hart blank told full times place named answer h least is q.all done closed
 
 -- memory was refused before that
-pub times-fewer : (words : List Layout) (limit : ℕ) (delays : List ℕ) (plans : List Plan) (hart : Hart) (blank full : Option (List ℕ))
-    (answer : Answer) → PutsFewer words limit delays plans hart blank full →
+pub times-fewer : (words : List Layout) (options : TimeOptions) (delays : List ℕ) (plans : List Plan) (hart : Hart) (blank full : Option (List ℕ))
+    (answer : Answer) → PutsFewer words options delays plans hart blank full →
     answer.status ≡ status.NoMemory → answer.closing ≡ line (codes "no memory") →
-    Decides (TimesOf words limit delays plans hart) (BreaksTimes words limit delays plans hart blank full) blank full (Ok answer)
-times-fewer words limit delays plans hart blank full answer h is closed =
-    let text : List ℕ = time_lines limit words h.measured in (
+    Decides (TimesOf words options delays plans hart) (BreaksTimes words options delays plans hart blank full) blank full (Ok answer)
+times-fewer words options delays plans hart blank full answer h is closed =
+    let text : List ℕ = time_lines options.limit words h.measured in (
       text,
       h.put,
       inr (record {
@@ -110,7 +111,7 @@ times-fewer words limit delays plans hart blank full answer h is closed =
 -- what comes of the files is what the command answers
 pub answers-time : (asked : TimeAsked) (before after : Option Told) (delays : List ℕ) (plans : List Plan) (hart : Hart)
     (blank full : Option (List ℕ)) (result : Result Answer Failed) → IsReady asked before after delays plans hart →
-    Decides (TimesOf asked.layouts asked.limit delays plans hart) (BreaksTimes asked.layouts asked.limit delays plans hart blank full) blank full result →
+    Decides (TimesOf asked.layouts asked.options delays plans hart) (BreaksTimes asked.layouts asked.options delays plans hart blank full) blank full result →
     Decides (AnswersTime asked before after) (BreaksTime asked before after blank full) blank full result
 answers-time asked before after delays plans hart blank full (Ok answer) ready (lines, put, comes) =
     (lines, put, inl (record { delays = delays; plans = plans; hart = hart; ready = ready; comes = comes }))

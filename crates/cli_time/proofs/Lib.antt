@@ -1,5 +1,7 @@
 pub mod Comparisons
+pub mod Counts
 pub mod DelaysFound
+pub mod Listed
 pub mod Lists
 pub mod LayoutLists
 pub mod Measured

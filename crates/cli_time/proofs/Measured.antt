@@ -1,5 +1,5 @@
 -- What a timed run measures.
-use Rattle.std.proofs.Common.{◌≡◌, ◌∙◌, ◌≤◌, ◌+◌, sym, ap, subst, refl, ℕ, List, [], Some, None, Result, Ok, Err, min, arith}
+use Rattle.std.proofs.Common.{◌≡◌, ◌∙◌, ◌≤◌, ◌+◌, sym, ap, subst, refl, ℕ, List, [], Some, None, Result, Ok, Err, Bool, true, min, arith}
 use Rattle.cf_io.specs.Causes.{HasCause}
 use Rattle.rv_machine.specs.Hart.{Hart}
 use Rattle.rv_machine.specs.Streams.{Streams}
@@ -13,9 +13,13 @@ use Rattle.cf_timed.specs.declared.answer.Timed.{Timed}
 use Rattle.cf_timed.specs.declared.answer.Timed.TheVariants as timed
 use Rattle.cf_timed.specs.Clocks.{SiteTimes, started}
 use Rattle.cf_timed.specs.TimedRuns.{RunsTimed, answer_of, begins}
-use Rattle.cf_timed.specs.Times.{greatest_time, times}
 use Rattle.cf_timed.proofs.Chaining.{longest}
-use Rattle.cli_time.specs.Measures.{Measures, quiet}
+use Rattle.cf_ledger.specs.Ledgers.{opened as opened_ledger, told_by}
+use Rattle.cf_ledger.specs.NotedRuns.{RunsNoted}
+use Rattle.cf_ledger.specs.declared.breakdown.Breakdown.{Breakdown}
+use Rattle.cf_ledger.specs.declared.ledger.Ledger.{Ledger}
+use Rattle.cf_words.specs.declared.command.TimeOptions.{TimeOptions}
+use Rattle.cli_time.specs.Measures.{Measures, Takes, made_of, quiet}
 use Rattle.cli_time.specs.declared.measuring.Measured.{Measured}
 
 -- a count that is always 0 does not rise
@@ -33,36 +37,59 @@ as-machine limit hart begin new timed.Limit input output h = h
 as-machine limit hart begin new timed.ReadFault input output h = absurd (never-rises tt (Err tt) refl input)
 as-machine limit hart begin new timed.WriteFault input output h = absurd (never-rises tt (Err tt) refl output)
 
--- so this is measured of it
-of-opened : (delays : List ℕ) (limit : ℕ) (plan : Plan) (hart : Hart) (last : Processor) (clock : SiteTimes) (measured : Measured) →
-    RunsTimed delays limit (begins (opened plan hart) quiet) last quiet clock measured.moves measured.answer →
-    HasCause 0 0 (input_stopped (Some (answer_of measured.answer))) → HasCause 0 0 (output_stopped (Some (answer_of measured.answer))) →
-    measured.time ≡ clock.latest → measured.retired ≡ last.state.retired → Measures delays limit plan hart measured
-unfolding EndsSequentially opened
-of-opened delays limit plan hart last clock measured runs input output time retired =
-    let is : measured.time ≡ greatest_time (times plan delays runs.right.moves) = time ∙ runs.told.latest_is in
-    record {
-      last = last;
-      clock = clock;
-      runs = runs;
-      time_is = is;
-      longest = rw is (longest plan delays runs.right.moves);
-      retired_is = retired;
-      machine = as-machine limit hart (begins (opened plan hart) quiet) (place_of last quiet None runs.tally) measured.answer input output
-          (runs.ends plan hart refl);
-    }
+-- so this was taken of an opened processor
+pub takes : (delays : List ℕ) (options : TimeOptions) (core last : Processor) (clock : SiteTimes) (measured : Measured)
+    (runs : RunsTimed delays options.limit (begins core quiet) last quiet clock measured.moves measured.answer) →
+    measured.time ≡ clock.latest → measured.retired ≡ last.state.retired →
+    measured.sites ≡ made_of options.sites core.plan delays runs.right.moves → Takes delays options core.plan core measured
+takes delays options core last clock measured runs time retired sites = record {
+  last = last;
+  clock = clock;
+  runs = runs;
+  time_is = time ∙ runs.told.latest_is;
+  retired_is = retired;
+  sites_are = sites;
+}
 
-pub measures : (used delays : List ℕ) (limit : ℕ) (core : Processor) (plan : Plan) (hart start : Hart) (last : Processor) (clock : SiteTimes) (measured : Measured) →
-    used ≡ delays → core ≡ opened plan hart → hart ≡ start →
-    RunsTimed used limit (begins core quiet) last quiet clock measured.moves measured.answer →
+-- the ledger tells of the same run
+pub takes-sites : (delays : List ℕ) (limit : ℕ) (core last : Processor) (clock : SiteTimes) (ledger : Ledger) (measured : Measured) (made : Breakdown) →
+    RunsNoted delays limit (begins core quiet) last quiet clock ledger measured.moves measured.answer →
+    measured.time ≡ clock.latest → measured.retired ≡ last.state.retired → measured.sites ≡ Some made → made ≡ told_by ledger →
+    Takes delays (record { limit = limit; sites = true }) core.plan core measured
+takes-sites delays limit core last clock ledger measured made noted time retired shown told =
+    takes delays (record { limit = limit; sites = true }) core last clock measured noted.timed time retired
+    (shown ∙ ap Some (told ∙ noted.tells))
+
+-- and so it was measured
+of-opened : (delays : List ℕ) (options : TimeOptions) (plan : Plan) (hart : Hart) (measured : Measured) →
+    Takes delays options plan (opened plan hart) measured →
     HasCause 0 0 (input_stopped (Some (answer_of measured.answer))) → HasCause 0 0 (output_stopped (Some (answer_of measured.answer))) →
-    measured.time ≡ clock.latest → measured.retired ≡ last.state.retired → Measures delays limit plan start measured
-measures used delays limit core plan hart start last clock measured same is begins_on runs input output time retired =
-    subst (λ (h : Hart). Measures delays limit plan h measured) begins_on
-    (of-opened delays limit plan hart last clock measured
-    (subst (λ (p : Processor). RunsTimed delays limit (begins p quiet) last quiet clock measured.moves measured.answer) is
-    (subst (λ (ds : List ℕ). RunsTimed ds limit (begins core quiet) last quiet clock measured.moves measured.answer) same runs))
-    input output time retired)
+    Measures delays options plan hart measured
+unfolding EndsSequentially opened
+of-opened delays options plan hart measured taken input output = record {
+  takes = taken;
+  longest = rw taken.time_is (longest plan delays taken.runs.right.moves);
+  machine = as-machine options.limit hart (begins (opened plan hart) quiet) (place_of taken.last quiet None taken.runs.tally) measured.answer
+      input output (taken.runs.ends plan hart refl);
+}
+
+opened-plan : (core : Processor) (plan : Plan) (hart : Hart) → core ≡ opened plan hart → core.plan ≡ plan
+unfolding opened
+opened-plan core plan hart is = ap (λ (p : Processor). p.plan) is
+
+pub measures : (used delays : List ℕ) (options : TimeOptions) (sites : Bool) (core : Processor) (plan : Plan) (hart start : Hart) (measured : Measured) →
+    used ≡ delays → options.sites ≡ sites → core ≡ opened plan hart → hart ≡ start →
+    Takes used (record { limit = options.limit; sites = sites }) core.plan core measured →
+    HasCause 0 0 (input_stopped (Some (answer_of measured.answer))) → HasCause 0 0 (output_stopped (Some (answer_of measured.answer))) →
+    Measures delays options plan start measured
+measures used delays options sites core plan hart start measured same shown is begins_on taken input output =
+    subst (λ (h : Hart). Measures delays options plan h measured) begins_on
+    (of-opened delays options plan hart measured
+    (subst (λ (ds : List ℕ). Takes ds options plan (opened plan hart) measured) same
+    (subst (λ (p : Processor). Takes used options plan p measured) is
+    (subst (λ (l : Plan). Takes used options l core measured) (opened-plan core plan hart is)
+    (subst (λ (b : Bool). Takes used (record { limit = options.limit; sites = b }) core.plan core measured) (sym shown) taken))))
+    input output)
 
 -- the clock is one of the processor's layout that was told no move
 pub clock-started : (core : Processor) (plan : Plan) (hart : Hart) (delays : List ℕ) (clock : SiteTimes) →
@@ -77,3 +104,9 @@ clock-started core plan hart delays clock is e =
 pub clock-delays : (plan : Plan) (delays : List ℕ) (clock : SiteTimes) → clock ≡ started plan delays → clock.delays ≡ delays
 unfolding started
 clock-delays plan delays clock e = ap (λ (k : SiteTimes). k.delays) e
+
+-- the ledger is one of the processor's layout and of the clock's delays
+pub ledger-opened : (core : Processor) (plan : Plan) (hart : Hart) (used delays : List ℕ) (ledger : Ledger) →
+    core ≡ opened plan hart → used ≡ delays → ledger ≡ opened_ledger plan delays → ledger ≡ opened_ledger core.plan used
+ledger-opened core plan hart used delays ledger is same e =
+    e ∙ ap (λ (l : Plan). opened_ledger l delays) (sym (opened-plan core plan hart is)) ∙ ap (opened_ledger core.plan) (sym same)

@@ -8,8 +8,9 @@ use Rattle.rv_machine.specs.Hart.{Hart}
 use Rattle.cf_layout.specs.Layout.{Plan}
 use Rattle.cf_report.proofs.Puttings.{writes-again, writes-nothing}
 use Rattle.cf_report.specs.Putting.{PutsText}
+use Rattle.cf_words.specs.declared.command.TimeOptions.{TimeOptions}
 use Rattle.cf_words.specs.Words.{Layout}
-use Rattle.cli_time.specs.Lines.{time_line, time_lines}
+use Rattle.cli_time.specs.Lines.{layout_lines, time_lines}
 use Rattle.cli_time.specs.Measures.{Measures, MeasuresFirst}
 use Rattle.cli_time.specs.Runs.{PutsAll, PutsFewer}
 use Rattle.cli_time.specs.Times.{BreaksAtLine}
@@ -17,44 +18,44 @@ use Rattle.cli_time.specs.declared.measuring.Measured.{Measured}
 use Rattle.cli_time.proofs.Lists.{map-next}
 
 -- one run more
-pub measures-next : (delays : List ℕ) (limit : ℕ) (hart : Hart) (plans : List Plan) (earlier : List Measured) (plan : Plan) (next : Measured) →
-    MeasuresFirst delays limit hart plans earlier → slice_get plans (length earlier) ≡ Some plan → Measures delays limit plan hart next →
-    MeasuresFirst delays limit hart plans (earlier ++ next ∷ [])
-measures-next delays limit hart [] [] plan next h e m = absurd (cc)
-measures-next delays limit hart (p ∷ plans) [] plan next h e m =
+pub measures-next : (delays : List ℕ) (options : TimeOptions) (hart : Hart) (plans : List Plan) (earlier : List Measured) (plan : Plan) (next : Measured) →
+    MeasuresFirst delays options hart plans earlier → slice_get plans (length earlier) ≡ Some plan → Measures delays options plan hart next →
+    MeasuresFirst delays options hart plans (earlier ++ next ∷ [])
+measures-next delays options hart [] [] plan next h e m = absurd (cc)
+measures-next delays options hart (p ∷ plans) [] plan next h e m =
     let same : p ≡ plan = cc in
     (rw same m, tt)
-measures-next delays limit hart [] (k ∷ earlier) plan next h e m = absurd h
-measures-next delays limit hart (p ∷ plans) (k ∷ earlier) plan next (first, more) e m =
-    (first, measures-next delays limit hart plans earlier plan next more e m)
+measures-next delays options hart [] (k ∷ earlier) plan next h e m = absurd h
+measures-next delays options hart (p ∷ plans) (k ∷ earlier) plan next (first, more) e m =
+    (first, measures-next delays options hart plans earlier plan next more e m)
 
 -- and its line
-pub lines-next : (limit : ℕ) (words : List Layout) (earlier : List Measured) (word : Layout) (next : Measured) →
+pub lines-next : (options : TimeOptions) (words : List Layout) (earlier : List Measured) (word : Layout) (next : Measured) →
     slice_get words (length earlier) ≡ Some word →
-    time_lines limit words (earlier ++ next ∷ []) ≡ time_lines limit words earlier ++ time_line limit word next
-lines-next limit [] [] word next e = absurd (cc)
-lines-next limit (w ∷ words) [] word next e =
+    time_lines options.limit words (earlier ++ next ∷ []) ≡ time_lines options.limit words earlier ++ layout_lines options.limit word next
+lines-next options [] [] word next e = absurd (cc)
+lines-next options (w ∷ words) [] word next e =
     let same : w ≡ word = cc in
-    rw same (append-nil (time_line limit word next))
-lines-next limit [] (k ∷ earlier) word next e = absurd (cc)
-lines-next limit (w ∷ words) (k ∷ earlier) word next e =
-    ap (λ (text : List ℕ). time_line limit w k ++ text) (lines-next limit words earlier word next e)
-    ∙ sym (append_assoc (time_line limit w k) (time_lines limit words earlier) (time_line limit word next))
+    rw same (append-nil (layout_lines options.limit word next))
+lines-next options [] (k ∷ earlier) word next e = absurd (cc)
+lines-next options (w ∷ words) (k ∷ earlier) word next e =
+    ap (λ (text : List ℕ). layout_lines options.limit w k ++ text) (lines-next options words earlier word next e)
+    ∙ sym (append_assoc (layout_lines options.limit w k) (time_lines options.limit words earlier) (layout_lines options.limit word next))
 
 -- the runs on the first layouts, with their times, have their lines, and the report did not fail
-pub record RowsPut (words : List Layout) (limit : ℕ) (delays : List ℕ) (plans : List Plan) (hart : Hart)
+pub record RowsPut (words : List Layout) (options : TimeOptions) (delays : List ℕ) (plans : List Plan) (hart : Hart)
     (blank told : Option (List ℕ)) (before now : ℕ) (place : ℕ) (times : List ℕ) : Type 0 where
   pub measured : List Measured
-  pub each : MeasuresFirst delays limit hart plans measured
+  pub each : MeasuresFirst delays options hart plans measured
   pub count : length measured ≡ place
   pub times_are : times ≡ map (λ m. m.time) measured
-  pub put : Writes blank told (time_lines limit words measured)
+  pub put : Writes blank told (time_lines options.limit words measured)
   pub still : now ≡ before
 
-pub rows-start : (words : List Layout) (limit : ℕ) (delays : List ℕ) (plans : List Plan) (hart : Hart)
+pub rows-start : (words : List Layout) (options : TimeOptions) (delays : List ℕ) (plans : List Plan) (hart : Hart)
     (blank : Option (List ℕ)) (faults : ℕ) (times : List ℕ) → times ≡ [] →
-    RowsPut words limit delays plans hart blank blank faults faults 0 times
-rows-start words limit delays plans hart blank faults times none = record {
+    RowsPut words options delays plans hart blank blank faults faults 0 times
+rows-start words options delays plans hart blank faults times none = record {
   measured = [];
   each = tt;
   count = refl;
@@ -64,44 +65,44 @@ rows-start words limit delays plans hart blank faults times none = record {
 }
 
 -- the next line was put
-put-next : (words : List Layout) (limit : ℕ) (delays : List ℕ) (plans : List Plan) (hart : Hart)
+put-next : (words : List Layout) (options : TimeOptions) (delays : List ℕ) (plans : List Plan) (hart : Hart)
     (blank told full : Option (List ℕ)) (before now later : ℕ) (place : ℕ) (times more : List ℕ) (word : Layout) (plan : Plan) (next : Measured) →
-    RowsPut words limit delays plans hart blank told before now place times →
-    slice_get words place ≡ Some word → slice_get plans place ≡ Some plan → Measures delays limit plan hart next →
-    Writes told full (time_line limit word next) → later ≡ now → more ≡ times ++ next.time ∷ [] →
-    RowsPut words limit delays plans hart blank full before later (place + 1) more
-put-next words limit delays plans hart blank told full before now later place times more word plan next h at_word at_plan measures put still pushed =
+    RowsPut words options delays plans hart blank told before now place times →
+    slice_get words place ≡ Some word → slice_get plans place ≡ Some plan → Measures delays options plan hart next →
+    Writes told full (layout_lines options.limit word next) → later ≡ now → more ≡ times ++ next.time ∷ [] →
+    RowsPut words options delays plans hart blank full before later (place + 1) more
+put-next words options delays plans hart blank told full before now later place times more word plan next h at_word at_plan measures put still pushed =
     let w : slice_get words (length h.measured) ≡ Some word = rw h.count at_word in
     let p : slice_get plans (length h.measured) ≡ Some plan = rw h.count at_plan in
     record {
       measured = h.measured ++ next ∷ [];
-      each = measures-next delays limit hart plans h.measured plan next h.each p measures;
+      each = measures-next delays options hart plans h.measured plan next h.each p measures;
       count = let n = length-append h.measured (next ∷ []) in let k = h.count in omega (arith, n, k);
       times_are = pushed ∙ ap (λ (ts : List ℕ). ts ++ next.time ∷ []) h.times_are ∙ sym (map-next (λ (m : Measured). m.time) h.measured next);
-      put = subst (λ (text : List ℕ). Writes blank full text) (sym (lines-next limit words h.measured word next w))
-          (writes-again blank told full (time_lines limit words h.measured) (time_line limit word next) h.put put);
+      put = subst (λ (text : List ℕ). Writes blank full text) (sym (lines-next options words h.measured word next w))
+          (writes-again blank told full (time_lines options.limit words h.measured) (layout_lines options.limit word next) h.put put);
       still = still ∙ h.still;
     }
 
-pub rows-next : {T E : Type 0} (words : List Layout) (limit : ℕ) (delays : List ℕ) (plans : List Plan) (hart : Hart)
+pub rows-next : {T E : Type 0} (words : List Layout) (options : TimeOptions) (delays : List ℕ) (plans : List Plan) (hart : Hart)
     (blank told full : Option (List ℕ)) (before now later : ℕ) (place : ℕ) (times more : List ℕ) (word : Layout) (plan : Plan) (next : Measured)
     (r : Result T E) (failed : Bool) →
-    RowsPut words limit delays plans hart blank told before now place times →
-    slice_get words place ≡ Some word → slice_get plans place ≡ Some plan → Measures delays limit plan hart next →
-    PutsText told full now later (time_line limit word next) r → failed ≡ is_err r → failed ≡ false → more ≡ times ++ next.time ∷ [] →
-    RowsPut words limit delays plans hart blank full before later (place + 1) more
-rows-next words limit delays plans hart blank told full before now later place times more word plan next (Ok u) failed h at_word at_plan measures puts is none pushed =
-    put-next words limit delays plans hart blank told full before now later place times more word plan next h at_word at_plan measures
+    RowsPut words options delays plans hart blank told before now place times →
+    slice_get words place ≡ Some word → slice_get plans place ≡ Some plan → Measures delays options plan hart next →
+    PutsText told full now later (layout_lines options.limit word next) r → failed ≡ is_err r → failed ≡ false → more ≡ times ++ next.time ∷ [] →
+    RowsPut words options delays plans hart blank full before later (place + 1) more
+rows-next words options delays plans hart blank told full before now later place times more word plan next (Ok u) failed h at_word at_plan measures puts is none pushed =
+    put-next words options delays plans hart blank told full before now later place times more word plan next h at_word at_plan measures
     puts.all puts.cause.still pushed
-rows-next words limit delays plans hart blank told full before now later place times more word plan next (Err e) failed h at_word at_plan measures puts is none pushed =
+rows-next words options delays plans hart blank told full before now later place times more word plan next (Err e) failed h at_word at_plan measures puts is none pushed =
     absurd (cc)
 
 -- all were
-pub rows-all : (words : List Layout) (limit : ℕ) (delays : List ℕ) (plans : List Plan) (hart : Hart)
+pub rows-all : (words : List Layout) (options : TimeOptions) (delays : List ℕ) (plans : List Plan) (hart : Hart)
     (blank told : Option (List ℕ)) (before now : ℕ) (place : ℕ) (times : List ℕ) →
-    RowsPut words limit delays plans hart blank told before now place times → place ≡ length plans →
-    PutsAll words limit delays plans hart blank told times
-rows-all words limit delays plans hart blank told before now place times h end = record {
+    RowsPut words options delays plans hart blank told before now place times → place ≡ length plans →
+    PutsAll words options delays plans hart blank told times
+rows-all words options delays plans hart blank told before now place times h end = record {
   measured = h.measured;
   each = h.each;
   all = h.count ∙ end;
@@ -110,11 +111,11 @@ rows-all words limit delays plans hart blank told before now place times h end =
 }
 
 -- memory was refused for the next run
-pub rows-fewer : (words : List Layout) (limit : ℕ) (delays : List ℕ) (plans : List Plan) (hart : Hart)
+pub rows-fewer : (words : List Layout) (options : TimeOptions) (delays : List ℕ) (plans : List Plan) (hart : Hart)
     (blank told : Option (List ℕ)) (before now : ℕ) (place : ℕ) (times : List ℕ) →
-    RowsPut words limit delays plans hart blank told before now place times → place < length plans →
-    PutsFewer words limit delays plans hart blank told
-rows-fewer words limit delays plans hart blank told before now place times h below = record {
+    RowsPut words options delays plans hart blank told before now place times → place < length plans →
+    PutsFewer words options delays plans hart blank told
+rows-fewer words options delays plans hart blank told before now place times h below = record {
   measured = h.measured;
   each = h.each;
   fewer = let k = h.count in omega (arith, k, below);
@@ -122,16 +123,16 @@ rows-fewer words limit delays plans hart blank told before now place times h bel
 }
 
 -- the report failed at the next line
-pub rows-break : {T E : Type 0} (words : List Layout) (limit : ℕ) (delays : List ℕ) (plans : List Plan) (hart : Hart)
+pub rows-break : {T E : Type 0} (words : List Layout) (options : TimeOptions) (delays : List ℕ) (plans : List Plan) (hart : Hart)
     (blank told full : Option (List ℕ)) (before now later : ℕ) (place : ℕ) (times : List ℕ) (word : Layout) (plan : Plan) (next : Measured)
     (r : Result T E) (failed : Bool) →
-    RowsPut words limit delays plans hart blank told before now place times →
-    slice_get words place ≡ Some word → slice_get plans place ≡ Some plan → Measures delays limit plan hart next →
-    PutsText told full now later (time_line limit word next) r → failed ≡ is_err r → failed ≡ true →
-    BreaksAtLine words limit delays plans hart blank full
-rows-break words limit delays plans hart blank told full before now later place times word plan next (Ok u) failed h at_word at_plan measures puts is some =
+    RowsPut words options delays plans hart blank told before now place times →
+    slice_get words place ≡ Some word → slice_get plans place ≡ Some plan → Measures delays options plan hart next →
+    PutsText told full now later (layout_lines options.limit word next) r → failed ≡ is_err r → failed ≡ true →
+    BreaksAtLine words options delays plans hart blank full
+rows-break words options delays plans hart blank told full before now later place times word plan next (Ok u) failed h at_word at_plan measures puts is some =
     absurd (cc)
-rows-break words limit delays plans hart blank told full before now later place times word plan next (Err e) failed h at_word at_plan measures puts is some =
+rows-break words options delays plans hart blank told full before now later place times word plan next (Err e) failed h at_word at_plan measures puts is some =
     record {
       measured = h.measured;
       each = h.each;

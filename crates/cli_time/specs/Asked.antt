@@ -1,20 +1,21 @@
 -- What the words ask of `time`.
 use Rattle.std.specs.Prelude.{ℕ, List, codes}
+use Rattle.cf_words.specs.declared.command.TimeOptions.{TimeOptions}
 use Rattle.cf_words.specs.Words.{Layout, plain, in_file}
 
--- the files with the delays and with the program, the layouts in their order, and the retired instructions at which each run stops
+-- the files with the delays and with the program, the layouts in their order, and the options: the retired instructions at which each run stops, and whether it is shown what each time is made of
 pub record TimeAsked : Type 0 where
   pub delays : List ℕ
   pub program : List ℕ
   pub layouts : List Layout
-  pub limit : ℕ
+  pub options : TimeOptions
 
-abbrev pub time_asked : List ℕ → List ℕ → List Layout → ℕ → TimeAsked
-time_asked delays program layouts limit = record {
+abbrev pub time_asked : List ℕ → List ℕ → List Layout → TimeOptions → TimeAsked
+time_asked delays program layouts options = record {
   delays = delays;
   program = program;
   layouts = layouts;
-  limit = limit;
+  options = options;
 }
 
 -- the word that names a layout

@@ -7,4 +7,5 @@ pub mod Measures
 pub mod Reading
 pub mod Refusals
 pub mod Runs
+pub mod SiteLines
 pub mod Times

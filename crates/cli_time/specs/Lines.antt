@@ -6,6 +6,7 @@ use Rattle.cf_timed.specs.declared.answer.Timed.{Timed}
 use Rattle.cf_timed.specs.TimedRuns.{answer_of}
 use Rattle.cf_words.specs.Words.{Layout}
 use Rattle.cli_time.specs.Asked.{name_of}
+use Rattle.cli_time.specs.SiteLines.{sites_text}
 use Rattle.cli_time.specs.declared.measuring.Measured.{Measured}
 
 -- a line without its line feed
@@ -30,11 +31,15 @@ measured_text limit measured =
 abbrev pub time_line : ℕ → Layout → Measured → List ℕ
 time_line limit word measured = name_of word ++ measured_text limit measured
 
+-- the same, and behind it the lines of what the time is made of, where that is shown
+abbrev pub layout_lines : ℕ → Layout → Measured → List ℕ
+layout_lines limit word measured = time_line limit word measured ++ sites_text measured.sites
+
 -- the lines of the first layouts, as many as were measured
 abbrev pub time_lines : ℕ → List Layout → List Measured → List ℕ
 time_lines limit words [] = []
 time_lines limit [] (measured ∷ more) = []
-time_lines limit (word ∷ words) (measured ∷ more) = time_line limit word measured ++ time_lines limit words more
+time_lines limit (word ∷ words) (measured ∷ more) = layout_lines limit word measured ++ time_lines limit words more
 
 -- the line that names the layout with the least time
 abbrev pub least_line : Layout → List ℕ

@@ -5,79 +5,80 @@ use Rattle.cf_io.specs.Reads.{Told}
 use Rattle.rv_machine.specs.Hart.{Hart}
 use Rattle.cf_layout.specs.Layout.{Plan}
 use Rattle.cf_texts.specs.Texts.{line}
+use Rattle.cf_words.specs.declared.command.TimeOptions.{TimeOptions}
 use Rattle.cf_words.specs.Words.{Layout}
 use Rattle.cli_files.specs.declared.status.Status.{Status}
 use Rattle.cli_files.specs.declared.status.Status.TheVariants as status
 use Rattle.cli_time.specs.Asked.{TimeAsked}
 use Rattle.cli_time.specs.Leasts.{IsFirstLeast}
-use Rattle.cli_time.specs.Lines.{least_line, time_line, time_lines}
+use Rattle.cli_time.specs.Lines.{least_line, layout_lines, time_lines}
 use Rattle.cli_time.specs.Measures.{Measures, MeasuresFirst}
 use Rattle.cli_time.specs.Reading.{IsReady, LacksFile}
 use Rattle.cli_time.specs.declared.measuring.Measured.{Measured}
 
 -- the program was run on each layout, and the first word whose layout takes the least time is this
-pub record MeasuresAll (words : List Layout) (limit : ℕ) (delays : List ℕ) (plans : List Plan) (hart : Hart)
+pub record MeasuresAll (words : List Layout) (options : TimeOptions) (delays : List ℕ) (plans : List Plan) (hart : Hart)
     (measured : List Measured) (named : Layout) : Type 0 where
-  pub each : MeasuresFirst delays limit hart plans measured
+  pub each : MeasuresFirst delays options hart plans measured
   pub all : length measured ≡ length plans
   pub place : ℕ
   pub least : IsFirstLeast (map (λ m. m.time) measured) place
   pub named_is : slice_get words place ≡ Some named
 
 -- it was, and the report has a line for each layout and names that one
-pub record Compares (words : List Layout) (limit : ℕ) (delays : List ℕ) (plans : List Plan) (hart : Hart)
+pub record Compares (words : List Layout) (options : TimeOptions) (delays : List ℕ) (plans : List Plan) (hart : Hart)
     (answer : Status) (report : List ℕ) : Type 0 where
   pub measured : List Measured
   pub named : Layout
-  pub all : MeasuresAll words limit delays plans hart measured named
+  pub all : MeasuresAll words options delays plans hart measured named
   pub status_is : answer ≡ status.Done
-  pub reports : report ≡ time_lines limit words measured ++ least_line named
+  pub reports : report ≡ time_lines options.limit words measured ++ least_line named
 
 -- memory was refused before the first move of a run; the lines of the earlier runs stand before the one that says so
-pub record LacksRun (words : List Layout) (limit : ℕ) (delays : List ℕ) (plans : List Plan) (hart : Hart)
+pub record LacksRun (words : List Layout) (options : TimeOptions) (delays : List ℕ) (plans : List Plan) (hart : Hart)
     (answer : Status) (report : List ℕ) : Type 0 where
   pub measured : List Measured
-  pub each : MeasuresFirst delays limit hart plans measured
+  pub each : MeasuresFirst delays options hart plans measured
   pub fewer : length measured < length plans
   pub status_is : answer ≡ status.NoMemory
-  pub reports : report ≡ time_lines limit words measured ++ line (codes "no memory")
+  pub reports : report ≡ time_lines options.limit words measured ++ line (codes "no memory")
 
 -- what comes of delays, layouts and a hart
-abbrev pub TimesOf : List Layout → ℕ → List ℕ → List Plan → Hart → Status → List ℕ → Type 0
-TimesOf words limit delays plans hart answer report =
-    Compares words limit delays plans hart answer report
-    ⊎ LacksRun words limit delays plans hart answer report
+abbrev pub TimesOf : List Layout → TimeOptions → List ℕ → List Plan → Hart → Status → List ℕ → Type 0
+TimesOf words options delays plans hart answer report =
+    Compares words options delays plans hart answer report
+    ⊎ LacksRun words options delays plans hart answer report
 
 -- the report failed at the line of a layout: those of the earlier ones were put
-pub record BreaksAtLine (words : List Layout) (limit : ℕ) (delays : List ℕ) (plans : List Plan) (hart : Hart)
+pub record BreaksAtLine (words : List Layout) (options : TimeOptions) (delays : List ℕ) (plans : List Plan) (hart : Hart)
     (blank full : Option (List ℕ)) : Type 0 where
   pub measured : List Measured
-  pub each : MeasuresFirst delays limit hart plans measured
+  pub each : MeasuresFirst delays options hart plans measured
   pub word : Layout
   pub plan : Plan
   pub next : Measured
   pub word_is : slice_get words (length measured) ≡ Some word
   pub plan_is : slice_get plans (length measured) ≡ Some plan
-  pub measures : Measures delays limit plan hart next
+  pub measures : Measures delays options plan hart next
   pub told : Option (List ℕ)
-  pub put : Writes blank told (time_lines limit words measured)
-  pub front : WritesFront told full (time_line limit word next)
+  pub put : Writes blank told (time_lines options.limit words measured)
+  pub front : WritesFront told full (layout_lines options.limit word next)
 
 -- it failed at the last line
-pub record BreaksAtLeast (words : List Layout) (limit : ℕ) (delays : List ℕ) (plans : List Plan) (hart : Hart)
+pub record BreaksAtLeast (words : List Layout) (options : TimeOptions) (delays : List ℕ) (plans : List Plan) (hart : Hart)
     (blank full : Option (List ℕ)) : Type 0 where
   pub measured : List Measured
   pub named : Layout
-  pub all : MeasuresAll words limit delays plans hart measured named
+  pub all : MeasuresAll words options delays plans hart measured named
   pub told : Option (List ℕ)
-  pub put : Writes blank told (time_lines limit words measured)
+  pub put : Writes blank told (time_lines options.limit words measured)
   pub front : WritesFront told full (least_line named)
 
 -- the report failed
-abbrev pub BreaksTimes : List Layout → ℕ → List ℕ → List Plan → Hart → Option (List ℕ) → Option (List ℕ) → Type 0
-BreaksTimes words limit delays plans hart blank full =
-    BreaksAtLine words limit delays plans hart blank full
-    ⊎ BreaksAtLeast words limit delays plans hart blank full
+abbrev pub BreaksTimes : List Layout → TimeOptions → List ℕ → List Plan → Hart → Option (List ℕ) → Option (List ℕ) → Type 0
+BreaksTimes words options delays plans hart blank full =
+    BreaksAtLine words options delays plans hart blank full
+    ⊎ BreaksAtLeast words options delays plans hart blank full
 
 -- all files are there, and this comes of them
 pub record ReadsFiles (Comes : List ℕ → List Plan → Hart → Type 0) (asked : TimeAsked) (before after : Option Told) :
@@ -91,10 +92,10 @@ pub record ReadsFiles (Comes : List ℕ → List Plan → Hart → Type 0) (aske
 -- the answer of `time` and its report
 abbrev pub AnswersTime : TimeAsked → Option Told → Option Told → Status → List ℕ → Type 0
 AnswersTime asked before after answer report =
-    ReadsFiles (λ delays plans hart. TimesOf asked.layouts asked.limit delays plans hart answer report) asked before after
+    ReadsFiles (λ delays plans hart. TimesOf asked.layouts asked.options delays plans hart answer report) asked before after
     ⊎ LacksFile asked before after answer report
 
 -- all files are there, and the report failed
 abbrev pub BreaksTime : TimeAsked → Option Told → Option Told → Option (List ℕ) → Option (List ℕ) → Type 0
 BreaksTime asked before after blank full =
-    ReadsFiles (λ delays plans hart. BreaksTimes asked.layouts asked.limit delays plans hart blank full) asked before after
+    ReadsFiles (λ delays plans hart. BreaksTimes asked.layouts asked.options delays plans hart blank full) asked before after

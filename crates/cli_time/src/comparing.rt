@@ -12,11 +12,12 @@ ghost use Rattle.cli_time.specs.Times.{AnswersTime, BreaksTime, BreaksTimes, Tim
 
 use crate::layout_files::word_at;
 use crate::leasts::first_least;
-use crate::lines::{put_least, put_line};
+use crate::lines::{put_layout, put_least};
 use crate::measuring::measure;
 use crate::reading::{Ready, read_files};
 use arrayvec::ArrayVec;
 use cf_io::{Failed, Files, Sink};
+use cf_words::TimeOptions;
 use cli_files::{Answer, done, no_memory};
 use std::alloc::Global;
 
@@ -28,25 +29,26 @@ pub enum Stop {
     Failed,
 }
 
-/// Runs the program on each layout, and puts the line of each as it comes. The times are given, in the order of the layouts.
+/// Runs the program on each layout, and puts the lines of each as they come. The times are given, in the order of the layouts.
 fn time_each<R: Sink>(
     alloc: Global,
     ready: &Ready,
     words: &[String],
-    limit: u64,
+    options: TimeOptions,
     report: &mut R,
 ) -> Result<ArrayVec<u64, 8>, Stop>
-    requires limit { limit ≤ 1000000000 }
+    requires limit { options.limit ≤ 1000000000 }
     requires program { IsProgram (vec_items ready.now.image) }
     requires words { length words.now ≡ length (vec_items ready.now.layouts) }
     requires few { length words.now ≤ 8 }
     ensures put { MatchResult result
-        (λ times. PutsAll (map layout_in (map string_bytes words.now)) limit ready.now.delays (vec_items ready.now.layouts)
+        (λ times. PutsAll (map layout_in (map string_bytes words.now)) options ready.now.delays (vec_items ready.now.layouts)
         (opened (vec_items ready.now.image)) (R.written report.old) (R.written report.new) times.items)
-        (λ stop. StopsAt (map layout_in (map string_bytes words.now)) limit ready.now.delays (vec_items ready.now.layouts)
+        (λ stop. StopsAt (map layout_in (map string_bytes words.now)) options ready.now.delays (vec_items ready.now.layouts)
         (opened (vec_items ready.now.image)) (R.written report.old) (R.written report.new) stop) }
     ensures cause { HasCause (R.faults report.old) (R.faults report.new) (report_stopped result) }
 {
+    let limit = options.limit;
     let layouts = ready.layouts.as_slice();
     let mut times = ArrayVec::new();
     for place in 0..layouts.len() {
@@ -55,34 +57,35 @@ fn time_each<R: Sink>(
             ready.image.as_slice(),
             &layouts[place],
             ready.delays,
-            limit,
+            options,
         ) else {
             return Err(Stop::NoMemory);
         };
-        if put_line(limit, word_at(words, place), measured, report).is_err() {
+        let time = measured.time;
+        if put_layout(limit, word_at(words, place), measured, report).is_err() {
             return Err(Stop::Failed);
         }
-        times.push(measured.time);
+        times.push(time);
     }
     Ok(times)
 }
 
-/// Runs the program on each layout, puts the line of each, and names the first layout with the least time.
+/// Runs the program on each layout, puts the lines of each, and names the first layout with the least time.
 fn compare_ready<R: Sink>(
     alloc: Global,
     ready: &Ready,
     words: &[String],
-    limit: u64,
+    options: TimeOptions,
     report: &mut R,
 ) -> Result<Answer, Failed>
-    requires limit { limit ≤ 1000000000 }
+    requires limit { options.limit ≤ 1000000000 }
     requires program { IsProgram (vec_items ready.now.image) }
     requires words { length words.now ≡ length (vec_items ready.now.layouts) }
     requires some { 1 ≤ length words.now }
     requires few { length words.now ≤ 8 }
     ensures comes { Decides
-        (TimesOf (map layout_in (map string_bytes words.now)) limit ready.now.delays (vec_items ready.now.layouts) (opened (vec_items ready.now.image)))
-        (BreaksTimes (map layout_in (map string_bytes words.now)) limit ready.now.delays (vec_items ready.now.layouts)
+        (TimesOf (map layout_in (map string_bytes words.now)) options ready.now.delays (vec_items ready.now.layouts) (opened (vec_items ready.now.image)))
+        (BreaksTimes (map layout_in (map string_bytes words.now)) options ready.now.delays (vec_items ready.now.layouts)
         (opened (vec_items ready.now.image)) (R.written report.old) (R.written report.new))
         (R.written report.old) (R.written report.new) result }
     ensures files { files_decided result ≡ Ok tt }
@@ -90,7 +93,7 @@ fn compare_ready<R: Sink>(
     ensures output { IfOk result (λ answer. output_answered answer.status ≡ Ok tt) }
     ensures report { HasCause (R.faults report.old) (R.faults report.new) result }
 {
-    let times = match time_each(alloc, ready, words, limit, report) {
+    let times = match time_each(alloc, ready, words, options, report) {
         Ok(times) => times,
         Err(Stop::NoMemory) => return Ok(no_memory()),
         Err(Stop::Failed) => return Err(Failed),
@@ -102,25 +105,25 @@ fn compare_ready<R: Sink>(
 
 /// Carries out `time`: reads the delays, the one to eight layouts in their order and the program, and runs the program on each
 /// layout, loaded anew, by the moves that are done first. The line of each is put to the report as it comes, with how the run
-/// ended, its time in ticks, and how many moves were made and instructions retired; the last line names the first layout with the
-/// least time. The program's input is empty, and its output goes nowhere. Memory may be refused before the first move of each run,
+/// ended, its time in ticks, and how many moves were made and instructions retired; behind it, where the options say so, what that
+/// time is made of. The last line names the first layout with the least time. The program's input is empty, and its output goes nowhere. Memory may be refused before the first move of each run,
 /// so that lines of the earlier ones stand there then. It fails where the report does, which is then put nothing more.
 pub fn compare_layouts<F: Files, R: Sink>(
     alloc: Global,
     delays: &str,
     program: &str,
     layouts: &[String],
-    limit: u64,
+    options: TimeOptions,
     files: &mut F,
     report: &mut R,
 ) -> Result<Answer, Failed>
-    requires limit { limit ≤ 1000000000 }
+    requires limit { options.limit ≤ 1000000000 }
     requires some { 1 ≤ length layouts.now }
     requires few { length layouts.now ≤ 8 }
     ensures answers { Decides
-        (AnswersTime (time_asked delays.now program.now (map layout_in (map string_bytes layouts.now)) limit)
+        (AnswersTime (time_asked delays.now program.now (map layout_in (map string_bytes layouts.now)) options)
         (F.told files.old) (F.told files.new))
-        (BreaksTime (time_asked delays.now program.now (map layout_in (map string_bytes layouts.now)) limit)
+        (BreaksTime (time_asked delays.now program.now (map layout_in (map string_bytes layouts.now)) options)
         (F.told files.old) (F.told files.new) (R.written report.old) (R.written report.new))
         (R.written report.old) (R.written report.new) result }
     ensures files { HasCause (F.faults files.old) (F.faults files.new) (files_decided result) }
@@ -128,8 +131,8 @@ pub fn compare_layouts<F: Files, R: Sink>(
     ensures output { IfOk result (λ answer. output_answered answer.status ≡ Ok tt) }
     ensures report { HasCause (R.faults report.old) (R.faults report.new) result }
 {
-    match read_files(alloc, delays, program, layouts, limit, files) {
-        Ok(ready) => compare_ready(alloc, &ready, layouts, limit, report),
+    match read_files(alloc, delays, program, layouts, options, files) {
+        Ok(ready) => compare_ready(alloc, &ready, layouts, options, report),
         Err(answer) => Ok(answer),
     }
 }

@@ -1,4 +1,5 @@
-//! The command `time`: how long a program takes on each of some layouts, and on which of them the least.
+//! The command `time`: how long a program takes on each of some layouts, what that time is made of, and on which of them it takes
+//! the least.
 #![tactic(auto)]
 
 mod comparing;
@@ -9,5 +10,6 @@ mod lines;
 mod measuring;
 mod reading;
 mod refusals;
+mod site_lines;
 
 pub use comparing::compare_layouts;

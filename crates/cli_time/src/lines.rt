@@ -6,10 +6,11 @@ ghost use Rattle.cf_report.specs.Putting.{PutsText};
 ghost use Rattle.cf_timed.specs.TimedRuns.{answer_of};
 ghost use Rattle.cf_words.specs.Views.{layout_of};
 ghost use Rattle.cli_time.specs.Asked.{name_of};
-ghost use Rattle.cli_time.specs.Lines.{ending_text, least_line, measured_text, number_text, time_line};
+ghost use Rattle.cli_time.specs.Lines.{ending_text, layout_lines, least_line, measured_text, number_text, time_line};
 ghost use Rattle.cf_texts.specs.Room.{page_room};
 
 use crate::measuring::Measured;
+use crate::site_lines::put_sites;
 use cf_closing::run_line;
 use cf_io::{Failed, Sink, put_all};
 use cf_run::Ran;
@@ -84,7 +85,7 @@ fn put_both<R: Sink>(first: &[u8], second: &[u8], report: &mut R) -> Result<(), 
 }
 
 /// Puts the line of a layout.
-pub(crate) fn put_line<R: Sink>(
+fn put_line<R: Sink>(
     limit: u64,
     word: LayoutWord<'_>,
     measured: Measured,
@@ -95,6 +96,20 @@ pub(crate) fn put_line<R: Sink>(
 {
     let page = measured_page(limit, measured);
     put_both(name_of(word), page.bytes(), report)
+}
+
+/// Puts the line of a layout, and behind it those of what its time is made of, where that is shown.
+pub(crate) fn put_layout<R: Sink>(
+    limit: u64,
+    word: LayoutWord<'_>,
+    measured: Measured,
+    report: &mut R,
+) -> Result<(), Failed>
+    ensures { PutsText (R.written report.old) (R.written report.new)
+        (R.faults report.old) (R.faults report.new) (layout_lines limit (layout_of word.entry) measured) result }
+{
+    put_line(limit, word, measured, report)?;
+    put_sites(&measured.sites, report)
 }
 
 /// Puts the line that names the layout with the least time.

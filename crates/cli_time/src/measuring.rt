@@ -1,14 +1,21 @@
 //! The run of a program on a layout, by which its time is measured.
 
-ghost use Rattle.std.specs.Prelude.{◌≤◌, IfOk};
+ghost use Rattle.std.specs.Prelude.{◌≡◌, ◌≤◌, IfOk, Some, false, true};
+ghost use Rattle.cf_io.specs.Causes.{HasCause};
+ghost use Rattle.cf_ledger.specs.Ledgers.{opened as opened_ledger};
+ghost use Rattle.cf_run.specs.Policies.{IsOpened, input_stopped, output_stopped};
+ghost use Rattle.cf_timed.specs.Clocks.{started};
+ghost use Rattle.cf_timed.specs.TimedRuns.{answer_of};
 ghost use Rattle.cli_files.specs.Image.{IsProgram, opened};
-ghost use Rattle.cli_time.specs.Measures.{Measures};
+ghost use Rattle.cli_time.specs.Measures.{Measures, Takes};
 
 use cf_core::Core;
 use cf_index::Candidates;
 use cf_io::{Empty, Nowhere};
 use cf_layout::Layout;
+use cf_ledger::{Breakdown, Ledger, run_noted};
 use cf_timed::{Clock, Delays, Timed, run_timed};
+use cf_words::TimeOptions;
 use cli_files::open_again;
 use std::alloc::{AllocError, Global};
 
@@ -23,40 +30,102 @@ pub struct Measured {
     pub moves: u64,
     /// How many instructions retired.
     pub retired: u64,
+    /// What the time is made of, where that is shown.
+    pub sites: Option<Breakdown>,
 }
 
-/// Loads the program anew, and runs it on the processor of a layout by the moves that are done first, over an empty input and
-/// with its output nowhere. Memory may be refused, before the first move.
-#[tactic(auto, using(cli_files::proofs::Opened::opened_cores))]
-pub(crate) fn measure(
-    alloc: Global,
-    image: &[u8],
-    layout: &Layout,
-    delays: Delays,
-    limit: u64,
-) -> Result<Measured, AllocError>
+/// Runs an opened processor by a clock that was told no move, and no ledger is kept.
+fn take_time(core: &mut Core, candidates: &mut Candidates, clock: Clock, limit: u64) -> Measured
     requires limit { limit ≤ 1000000000 }
-    requires program { IsProgram image.now }
-    ensures { IfOk result (Measures delays limit layout.now (opened image.now)) }
+    requires retired { core.old.state.retired ≤ limit }
+    requires opened { IsOpened core.old }
+    requires clock { clock ≡ started core.old.plan clock.delays }
+    ensures takes { Takes clock.delays (record { limit = limit; sites = false }) core.old.plan core.old result }
+    ensures input { HasCause 0 0 (input_stopped (Some (answer_of result.answer))) }
+    ensures output { HasCause 0 0 (output_stopped (Some (answer_of result.answer))) }
 {
-    let machine = open_again(alloc, image)?;
-    let mut candidates = Candidates::new(alloc)?;
-    let mut core = Core::new(alloc, *layout, machine)?;
-    let mut clock = Clock::new(layout, delays);
+    let mut clock = clock;
     let mut moves = 0;
     let answer = run_timed(
-        &mut core,
-        &mut candidates,
+        core,
+        candidates,
         &mut clock,
         limit,
         &mut Empty,
         &mut Nowhere,
         &mut moves,
     );
-    Ok(Measured {
+    Measured {
         answer,
         time: clock.greatest(),
         moves,
         retired: core.retired(),
-    })
+        sites: None,
+    }
+}
+
+/// The same with a ledger that was told no move either, by which it is told what the time is made of.
+fn take_sites(
+    core: &mut Core,
+    candidates: &mut Candidates,
+    clock: Clock,
+    ledger: Ledger,
+    limit: u64,
+) -> Measured
+    requires limit { limit ≤ 1000000000 }
+    requires retired { core.old.state.retired ≤ limit }
+    requires opened { IsOpened core.old }
+    requires clock { clock ≡ started core.old.plan clock.delays }
+    requires ledger { ledger ≡ opened_ledger core.old.plan clock.delays }
+    ensures takes { Takes clock.delays (record { limit = limit; sites = true }) core.old.plan core.old result }
+    ensures input { HasCause 0 0 (input_stopped (Some (answer_of result.answer))) }
+    ensures output { HasCause 0 0 (output_stopped (Some (answer_of result.answer))) }
+{
+    let mut clock = clock;
+    let mut ledger = ledger;
+    let mut moves = 0;
+    let answer = run_noted(
+        core,
+        candidates,
+        &mut clock,
+        &mut ledger,
+        limit,
+        &mut Empty,
+        &mut Nowhere,
+        &mut moves,
+    );
+    Measured {
+        answer,
+        time: clock.greatest(),
+        moves,
+        retired: core.retired(),
+        sites: Some(ledger.breakdown()),
+    }
+}
+
+/// Loads the program anew, and runs it on the processor of a layout by the moves that are done first, over an empty input and
+/// with its output nowhere. A ledger is kept where it is shown what the time is made of. Memory may be refused, before the first
+/// move.
+#[tactic(auto, using(cli_files::proofs::Opened::opened_cores))]
+pub(crate) fn measure(
+    alloc: Global,
+    image: &[u8],
+    layout: &Layout,
+    delays: Delays,
+    options: TimeOptions,
+) -> Result<Measured, AllocError>
+    requires limit { options.limit ≤ 1000000000 }
+    requires program { IsProgram image.now }
+    ensures { IfOk result (Measures delays options layout.now (opened image.now)) }
+{
+    let machine = open_again(alloc, image)?;
+    let mut candidates = Candidates::new(alloc)?;
+    let mut core = Core::new(alloc, *layout, machine)?;
+    let clock = Clock::new(layout, delays);
+    if options.sites {
+        let ledger = Ledger::new(layout, delays);
+        Ok(take_sites(&mut core, &mut candidates, clock, ledger, options.limit))
+    } else {
+        Ok(take_time(&mut core, &mut candidates, clock, options.limit))
+    }
 }

@@ -14,6 +14,7 @@ use crate::layout_files::layouts_at;
 use cf_io::{Files, FilesErr};
 use cf_layout::Layout;
 use cf_timed::Delays;
+use cf_words::TimeOptions;
 use cli_files::{Answer, MOST_BYTES, Which, no_memory, open_image, unread};
 use std::alloc::Global;
 
@@ -49,15 +50,15 @@ pub(crate) fn read_files<F: Files>(
     delays: &str,
     program: &str,
     layouts: &[String],
-    limit: u64,
+    options: TimeOptions,
     files: &mut F,
 ) -> Result<Ready, Answer>
     ensures ready { IfOk result (λ ready. IsReady
-        (time_asked delays.now program.now (map layout_in (map string_bytes layouts.now)) limit)
+        (time_asked delays.now program.now (map layout_in (map string_bytes layouts.now)) options)
         (F.told files.old) (F.told files.new) ready.delays (vec_items ready.layouts) (opened (vec_items ready.image))) }
     ensures program { IfOk result (λ ready. IsProgram (vec_items ready.image)) }
     ensures lacks { IfErr result (λ answer. LacksFile
-        (time_asked delays.now program.now (map layout_in (map string_bytes layouts.now)) limit)
+        (time_asked delays.now program.now (map layout_in (map string_bytes layouts.now)) options)
         (F.told files.old) (F.told files.new) answer.status answer.closing) }
     ensures faults { HasCause (F.faults files.old) (F.faults files.new) (files_read result) }
 {

@@ -10,10 +10,10 @@ loop-place-init g c = rows-start _ _ _ _ _ _ _ _ c.new-times.ensures
 pub loop-place-preserved : goal.loop-place-preserved
 loop-place-preserved g c =
     rows-next _ _ _ _ _ _ _ _ _ _ _ c.loop-place.place _ _ (layout_of c.word_at.result) c.index-layouts-place.result c.in-Ok.measured
-    c.put_line.result c.is_err.result c.loop-place.invariant c.word_at.ensures
+    c.put_layout.result c.is_err.result c.loop-place.invariant c.word_at.ensures
     (plan-at c.args.words.now c.args.ready.now.layouts.items _ c.loop-place.place _ _ c.word_at.ensures c.requires.words
     c.as_slice-layouts.ensures.value c.index-layouts-place.is)
-    (rw c.as_slice.ensures.value at c.in-Ok.ensures) c.put_line.ensures c.is_err.ensures.value c.if-is_err.false c.push.ensures.items
+    (rw c.as_slice.ensures.value at c.in-Ok.ensures) c.put_layout.ensures c.is_err.ensures.value c.if-is_err.false c.push.ensures.items
 
 pub returns-in_default-clause-put : goal.returns-in_default-clause-put
 returns-in_default-clause-put g c =
@@ -26,14 +26,14 @@ returns-in_default-clause-cause g c = rows-still _ _ c.loop-place.invariant.stil
 pub returns-then-is_err-clause-put : goal.returns-then-is_err-clause-put
 returns-then-is_err-clause-put g c =
     rows-break _ _ _ _ _ _ _ _ _ _ _ c.loop-place.place _ (layout_of c.word_at.result) c.index-layouts-place.result c.in-Ok.measured
-    c.put_line.result c.is_err.result c.loop-place.invariant c.word_at.ensures
+    c.put_layout.result c.is_err.result c.loop-place.invariant c.word_at.ensures
     (plan-at c.args.words.now c.args.ready.now.layouts.items _ c.loop-place.place _ _ c.word_at.ensures c.requires.words
     c.as_slice-layouts.ensures.value c.index-layouts-place.is)
-    (rw c.as_slice.ensures.value at c.in-Ok.ensures) c.put_line.ensures c.is_err.ensures.value c.if-is_err.true
+    (rw c.as_slice.ensures.value at c.in-Ok.ensures) c.put_layout.ensures c.is_err.ensures.value c.if-is_err.true
 
 pub returns-then-is_err-clause-cause : goal.returns-then-is_err-clause-cause
 returns-then-is_err-clause-cause g c =
-    rows-cause _ _ _ _ _ _ c.put_line.result c.is_err.result c.put_line.ensures c.is_err.ensures.value c.if-is_err.true
+    rows-cause _ _ _ _ _ _ c.put_layout.result c.is_err.result c.put_layout.ensures c.is_err.ensures.value c.if-is_err.true
     c.loop-place.invariant.still
 
 pub returns-clause-put : goal.returns-clause-put

@@ -8,6 +8,6 @@ use Rattle.cli_time.proofs.comparing.time_each.Given as goal
 -- the lines of the layouts so far are put
 abbrev pub invariant-loop-place : goal.invariant-loop-place
 invariant-loop-place g l =
-    RowsPut (map layout_in (map string_bytes l.words)) l.limit l.ready.delays (vec_items l.ready.layouts) (opened (vec_items l.ready.image))
+    RowsPut (map layout_in (map string_bytes l.words)) l.options l.ready.delays (vec_items l.ready.layouts) (opened (vec_items l.ready.image))
     (g.R.Sink.written l.initial.report) (g.R.Sink.written l.report) (g.R.Sink.faults l.initial.report) (g.R.Sink.faults l.report)
     l.place l.times.items
