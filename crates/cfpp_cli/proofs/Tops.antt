@@ -1,12 +1,14 @@
 -- What the words came to is what the top call does.
-use Rattle.std.proofs.Common.{◌≡◌, ◌≤◌, ℕ, List, false, Result, Ok, Err, refl, inl, inr}
-use Rattle.cf_io.specs.Causes.{HasCause}
+use Rattle.std.proofs.Common.{◌≡◌, ◌≤◌, ◌⊎◌, ℕ, List, false, Result, Ok, Err, refl, inl, inr}
+use Rattle.cf_io.specs.Causes.{HasCause, Rose}
+use Rattle.cf_io.specs.Puts.{Writes, WritesFront}
 use Rattle.cf_io.specs.declared.failed.Failed.{Failed}
 use Rattle.cf_words.specs.Words.{Asked}
 use Rattle.cli_files.specs.Causes.{files_answered, input_answered, output_answered}
 use Rattle.cfpp_cli.specs.Deciding.{Decided}
 use Rattle.cli_files.specs.Outside.{Outside, Report}
 use Rattle.cfpp_cli.specs.Reporting.{Puts}
+use Rattle.cfpp_cli.specs.Worlds.{Span}
 use Rattle.cfpp_cli.specs.Top.{Completes, IsTop, NoneRose, Reports, says_fault}
 use Rattle.cfpp_cli.specs.declared.reporting.Reported.{Reported}
 use Rattle.cfpp_cli.proofs.FilesRead.{answers-read, breaks-read}
@@ -19,17 +21,23 @@ pub record HasCauses (before after : Outside) (answer : Status) : Type 0 where
   pub input : HasCause before.input_faults after.input_faults (input_answered answer)
   pub output : HasCause before.output_faults after.output_faults (output_answered answer)
 
--- the command was carried out, and its report was put
-pub top-put : (words : List (List ℕ)) (before after : Outside) (blank full : Report) (reported : Reported) →
-    Decided words before after blank full (Ok reported) → HasCauses before after reported.status → reported.put ≡ Ok tt →
-    IsTop words before after blank full reported.status
-top-put words before after blank full reported d causes put =
+-- the lines that close the report were put, and the status is the answer; or the report failed at them
+abbrev pub Ends : (answer said : Status) → (half full : Report) → (closing : List ℕ) → Type 0
+Ends answer said half full closing =
+    ((said ≡ answer) × Writes half.written full.written closing × (full.faults ≡ half.faults))
+    ⊎ ((said ≡ status.WriteFault) × WritesFront half.written full.written closing × Rose half.faults full.faults)
+
+-- the command was carried out, and its report ends so
+carried-out : (words : List (List ℕ)) (s : Span) (reported : Reported) (said : Status) →
+    (d : Decided words s (Ok reported)) → HasCauses s.before s.after reported.status →
+    Ends reported.status said (record s.blank { written = d.comes.3.told }) s.full d.comes.1 →
+    IsTop words s.before s.after s.blank s.full said
+carried-out words s reported said d causes ends =
     let carried = d.comes in
-    let closes : Puts (record blank { written = carried.3.told }) full carried.1 (Ok tt) = rw put at carried.3.closes in
     record {
       reading = d.reading;
       reads = d.reads;
-      read = answers-read d.reading before after blank.written reported.status carried.0 carried.1 carried.2;
+      read = answers-read d.reading s.before s.after s.blank.written reported.status carried.0 carried.1 carried.2;
       ends = inl (record {
         answer = reported.status;
         shown = carried.0;
@@ -38,51 +46,34 @@ top-put words before after blank full reported d causes put =
         files = causes.files;
         input = causes.input;
         output = causes.output;
-        reports = record {
-          told = carried.3.told;
-          shows = carried.3.shows;
-          closes = inl (refl, closes.all, closes.cause.still);
-        };
+        reports = record { told = carried.3.told; shows = carried.3.shows; closes = ends };
       });
     }
+
+-- its report was put
+pub top-put : (words : List (List ℕ)) (s : Span) (reported : Reported) → Decided words s (Ok reported) →
+    HasCauses s.before s.after reported.status → reported.put ≡ Ok tt →
+    IsTop words s.before s.after s.blank s.full reported.status
+top-put words s reported d causes put =
+    let closes : Puts (record s.blank { written = d.comes.3.told }) s.full d.comes.1 (Ok tt) = rw put at d.comes.3.closes in
+    carried-out words s reported reported.status d causes (inl (refl, closes.all, closes.cause.still))
 
 -- it failed at the lines that close it
-pub top-failed : {failed : Failed} (words : List (List ℕ)) (before after : Outside) (blank full : Report)
-    (reported : Reported) → Decided words before after blank full (Ok reported) →
-    HasCauses before after reported.status → reported.put ≡ Err failed →
-    IsTop words before after blank full status.WriteFault
-top-failed {failed = failed} words before after blank full reported d causes put =
-    let carried = d.comes in
-    let closes : Puts (record blank { written = carried.3.told }) full carried.1 (Err failed) = rw put at carried.3.closes in
-    record {
-      reading = d.reading;
-      reads = d.reads;
-      read = answers-read d.reading before after blank.written reported.status carried.0 carried.1 carried.2;
-      ends = inl (record {
-        answer = reported.status;
-        shown = carried.0;
-        closing = carried.1;
-        answers = carried.2;
-        files = causes.files;
-        input = causes.input;
-        output = causes.output;
-        reports = record {
-          told = carried.3.told;
-          shows = carried.3.shows;
-          closes = inr (refl, closes.front, closes.cause.rose);
-        };
-      });
-    }
+pub top-failed : {failed : Failed} (words : List (List ℕ)) (s : Span) (reported : Reported) → Decided words s (Ok reported) →
+    HasCauses s.before s.after reported.status → reported.put ≡ Err failed →
+    IsTop words s.before s.after s.blank s.full status.WriteFault
+top-failed {failed = failed} words s reported d causes put =
+    let closes : Puts (record s.blank { written = d.comes.3.told }) s.full d.comes.1 (Err failed) = rw put at d.comes.3.closes in
+    carried-out words s reported status.WriteFault d causes (inr (refl, closes.front, closes.cause.rose))
 
 -- it failed before
-pub top-cut : {failed : Failed} (words : List (List ℕ)) (before after : Outside) (blank full : Report) →
-    Decided words before after blank full (Err failed) → after.file_faults ≡ before.file_faults →
-    before.input_faults ≤ after.input_faults → before.output_faults ≤ after.output_faults →
-    IsTop words before after blank full status.WriteFault
-top-cut words before after blank full d files input output = record {
+pub top-cut : {failed : Failed} (words : List (List ℕ)) (s : Span) → Decided words s (Err failed) →
+    s.after.file_faults ≡ s.before.file_faults → s.before.input_faults ≤ s.after.input_faults →
+    s.before.output_faults ≤ s.after.output_faults → IsTop words s.before s.after s.blank s.full status.WriteFault
+top-cut words s d files input output = record {
   reading = d.reading;
   reads = d.reads;
-  read = breaks-read d.reading before after blank.written full.written d.comes.0;
+  read = breaks-read d.reading s.before s.after s.blank.written s.full.written d.comes.0;
   ends = inr (record {
     status_is = refl;
     breaks = d.comes.0;

@@ -1,4 +1,5 @@
 pub mod Causes
+pub mod Worlds
 pub mod Check
 pub mod Deciding
 pub mod Drawn

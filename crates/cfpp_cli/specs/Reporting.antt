@@ -5,9 +5,10 @@ use Rattle.cf_io.specs.Puts.{Writes}
 use Rattle.cf_io.specs.declared.failed.Failed.{Failed}
 use Rattle.cf_report.specs.Putting.{PutsText}
 use Rattle.cli_files.specs.Causes.{files_answered}
-use Rattle.cli_files.specs.Outside.{Report}
+use Rattle.cli_files.specs.Outside.{Outside, Report}
 use Rattle.cli_files.specs.declared.answer.Answer.{Answer}
 use Rattle.cli_files.specs.declared.status.Status.{Status}
+use Rattle.cfpp_cli.specs.Worlds.{Span}
 use Rattle.cfpp_cli.specs.declared.reporting.Reported.{Reported}
 
 -- the text was put to the report, or the report failed behind a front of it
@@ -31,10 +32,20 @@ abbrev pub ReportsAlone : (Status → List ℕ → Type 0) → (blank full : Rep
 ReportsAlone answers blank full reported =
     (report : List ℕ) × answers reported.status report × Puts blank full report reported.put
 
+-- the same of all that the command was lent
+abbrev pub ReportsAll : (Outside → Outside → Status → List ℕ → Type 0) → Span → Reported → Type 0
+ReportsAll answers s reported = ReportsAlone (answers s.before s.after) s.blank s.full reported
+
 -- it was carried out, or the report failed while it was
 abbrev pub Comes : (Status → List ℕ → List ℕ → Type 0) → Type 0 → (blank full : Report) → Result Reported Failed → Type 0
 Comes answers breaks blank full (Ok reported) = Carries answers blank full reported
 Comes answers breaks blank full (Err failed) = breaks × Rose blank.faults full.faults
+
+-- the same of all that the command was lent
+abbrev pub CarriesOut : (Outside → Outside → Option (List ℕ) → Status → List ℕ → List ℕ → Type 0) →
+    (Outside → Outside → Option (List ℕ) → Option (List ℕ) → Type 0) → Span → Result Reported Failed → Type 0
+CarriesOut answers breaks s result =
+    Comes (answers s.before s.after s.blank.written) (breaks s.before s.after s.blank.written s.full.written) s.blank s.full result
 
 -- an error where a file could not be read
 abbrev pub files_reported : Result Reported Failed → Result (Unit {0}) (Unit {0})

@@ -18,6 +18,7 @@ mod run;
 mod running;
 mod tail;
 mod top;
+mod world;
 
 pub use cli_files::{DelaysFault, ProgramErr, ScriptFault, Status, TraceFault, Which};
 pub use top::cfpp;

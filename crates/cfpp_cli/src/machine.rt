@@ -4,14 +4,16 @@ ghost use Rattle.std.specs.Prelude.{◌≡◌, Ok};
 ghost use Rattle.cf_io.specs.Causes.{HasCause};
 ghost use Rattle.rv_machine.specs.Streams.{streams_of};
 ghost use Rattle.cli_files.specs.Causes.{input_answered, output_answered};
-ghost use Rattle.cli_files.specs.Outside.{outside_of, report_of};
+ghost use Rattle.cli_files.specs.Outside.{report_of};
 ghost use Rattle.cfpp_cli.specs.Machine.{RunsHart, BreaksHart, AnswersMachine, BreaksProgram};
 ghost use Rattle.cfpp_cli.specs.Options.{chosen_of};
-ghost use Rattle.cfpp_cli.specs.Reporting.{Comes, Tells, files_reported};
+ghost use Rattle.cfpp_cli.specs.Reporting.{CarriesOut, Comes, Tells, files_reported};
+ghost use Rattle.cfpp_cli.specs.Worlds.{span, files_left, input_left, output_left};
 
 use crate::finishing::close_machine;
 use crate::reporting::{Reported, put_answer};
 use crate::running::run;
+use crate::world::World;
 use cf_io::{Failed, Files, Sink, Source};
 use cf_words::MachineOptions;
 use cli_files::program_at;
@@ -54,29 +56,26 @@ pub fn run_program<F: Files, S: Source, K: Sink, R: Sink>(
     alloc: Global,
     program: &str,
     options: MachineOptions,
-    files: &mut F,
-    input: &mut S,
-    output: &mut K,
-    report: &mut R,
+    world: World<'_, F, S, K, R>,
 ) -> Result<Reported, Failed>
-    ensures answers { Comes
-        (AnswersMachine program.now (chosen_of options.limit options.show_retired options.mul)
-        (outside_of (F.told files.old) (F.faults files.old) (S.left input.old) (S.faults input.old)
-        (K.written output.old) (K.faults output.old))
-        (outside_of (F.told files.new) (F.faults files.new) (S.left input.new) (S.faults input.new)
-        (K.written output.new) (K.faults output.new)))
-        (BreaksProgram program.now (chosen_of options.limit options.show_retired options.mul)
-        (outside_of (F.told files.old) (F.faults files.old) (S.left input.old) (S.faults input.old)
-        (K.written output.old) (K.faults output.old))
-        (outside_of (F.told files.new) (F.faults files.new) (S.left input.new) (S.faults input.new)
-        (K.written output.new) (K.faults output.new)) (R.written report.old) (R.written report.new))
-        (report_of (R.written report.old) (R.faults report.old)) (report_of (R.written report.new) (R.faults report.new)) result }
-    ensures files { HasCause (F.faults files.old) (F.faults files.new) (files_reported result) }
-    ensures input { Tells input_answered (S.faults input.old) (S.faults input.new) result }
-    ensures output { Tells output_answered (K.faults output.old) (K.faults output.new) result }
+    ensures answers { CarriesOut
+        (λ before after blank. AnswersMachine program.now (chosen_of options.limit options.show_retired options.mul) before after)
+        (BreaksProgram program.now (chosen_of options.limit options.show_retired options.mul))
+        (span F.told F.faults S.left S.faults K.written K.faults R.written R.faults world.entry world.exit) result }
+    ensures files { HasCause (F.faults world.entry.files.now) (F.faults (files_left world.exit)) (files_reported result) }
+    ensures input { Tells input_answered (S.faults world.entry.input.now) (S.faults (input_left world.exit)) result }
+    ensures output { Tells output_answered (K.faults world.entry.output.now) (K.faults (output_left world.exit)) result }
 {
-    match program_at(alloc, program, files) {
-        Ok(machine) => run_machine(machine, options, input, output, report),
-        Err(answer) => Ok(put_answer(answer, report)),
+    match program_at(alloc, program, world.files) {
+        Ok(machine) => {
+            let World {
+                input,
+                output,
+                report,
+                ..
+            } = world;
+            run_machine(machine, options, input, output, report)
+        }
+        Err(answer) => Ok(put_answer(answer, world.report)),
     }
 }

@@ -8,12 +8,14 @@ ghost use Rattle.cf_words.specs.Views.{layout_of};
 ghost use Rattle.cf_rounds.specs.Running.{ran_of as ran_for};
 ghost use Rattle.cf_run.specs.Policies.{IsOpened};
 ghost use Rattle.cli_files.specs.Causes.{files_answered, input_answered, output_answered};
-ghost use Rattle.cli_files.specs.Outside.{outside_of, report_of};
-ghost use Rattle.cfpp_cli.specs.Reporting.{ReportsAlone};
+ghost use Rattle.cli_files.specs.Outside.{report_of};
+ghost use Rattle.cfpp_cli.specs.Reporting.{ReportsAlone, ReportsAll};
+ghost use Rattle.cfpp_cli.specs.Worlds.{span, files_left, input_left, output_left};
 ghost use Rattle.cfpp_cli.specs.Rounds.{rounds_asked, RunsCoreInRounds, ComesInRounds, AnswersRounds};
 
 use crate::finishing::{close_in_rounds, no_moves};
 use crate::reporting::{Reported, put_answer};
+use crate::world::World;
 use cf_core::Core;
 use cf_index::Candidates;
 use cf_io::{Files, Sink, Source};
@@ -110,25 +112,25 @@ pub fn run_in_rounds<F: Files, S: Source, K: Sink, R: Sink>(
     layout: LayoutWord<'_>,
     program: &str,
     limit: u64,
-    files: &mut F,
-    input: &mut S,
-    output: &mut K,
-    report: &mut R,
+    world: World<'_, F, S, K, R>,
 ) -> Reported
     requires { limit ≤ most_limit }
-    ensures answers { ReportsAlone
-        (AnswersRounds (rounds_asked (layout_of layout.entry) program.now limit)
-        (outside_of (F.told files.old) (F.faults files.old) (S.left input.old) (S.faults input.old)
-        (K.written output.old) (K.faults output.old))
-        (outside_of (F.told files.new) (F.faults files.new) (S.left input.new) (S.faults input.new)
-        (K.written output.new) (K.faults output.new)))
-        (report_of (R.written report.old) (R.faults report.old)) (report_of (R.written report.new) (R.faults report.new)) result }
-    ensures files { HasCause (F.faults files.old) (F.faults files.new) (files_answered result.status) }
-    ensures input { HasCause (S.faults input.old) (S.faults input.new) (input_answered result.status) }
-    ensures output { HasCause (K.faults output.old) (K.faults output.new) (output_answered result.status) }
+    ensures answers { ReportsAll (AnswersRounds (rounds_asked (layout_of layout.entry) program.now limit))
+        (span F.told F.faults S.left S.faults K.written K.faults R.written R.faults world.entry world.exit) result }
+    ensures files { HasCause (F.faults world.entry.files.now) (F.faults (files_left world.exit)) (files_answered result.status) }
+    ensures input { HasCause (S.faults world.entry.input.now) (S.faults (input_left world.exit)) (input_answered result.status) }
+    ensures output { HasCause (K.faults world.entry.output.now) (K.faults (output_left world.exit)) (output_answered result.status) }
 {
-    match load(alloc, layout, program, files) {
-        Ok(loaded) => run_loaded(alloc, loaded, limit, input, output, report),
-        Err(answer) => put_answer(answer, report),
+    match load(alloc, layout, program, world.files) {
+        Ok(loaded) => {
+            let World {
+                input,
+                output,
+                report,
+                ..
+            } = world;
+            run_loaded(alloc, loaded, limit, input, output, report)
+        }
+        Err(answer) => put_answer(answer, world.report),
     }
 }

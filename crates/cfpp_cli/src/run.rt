@@ -8,16 +8,18 @@ ghost use Rattle.cf_words.specs.Views.{layout_of, schedule_view as asked_schedul
 ghost use Rattle.cf_core.specs.Processors.{opened};
 ghost use Rattle.cf_run.specs.Policies.{IsOpened};
 ghost use Rattle.cli_files.specs.Causes.{input_answered, output_answered};
-ghost use Rattle.cli_files.specs.Outside.{outside_of, report_of};
+ghost use Rattle.cli_files.specs.Outside.{report_of};
 ghost use Rattle.cli_files.specs.RunFiles.{run_asked, show_of};
-ghost use Rattle.cfpp_cli.specs.Reporting.{Comes, Tells, files_reported};
+ghost use Rattle.cfpp_cli.specs.Reporting.{CarriesOut, Comes, Tells, files_reported};
 ghost use Rattle.cfpp_cli.specs.Run.{chosen_by, RunsCore, BreaksCore, ComesOf, AnswersRun, BreaksRun};
+ghost use Rattle.cfpp_cli.specs.Worlds.{span, files_left, input_left, output_left};
 ghost use Rattle.cli_files.specs.Schedules.{schedule_view, FitsScript};
 
 use crate::by_policy::run_by_policy;
 use crate::by_script::run_by_script;
 use crate::reporting::{Reported, put_answer};
 use crate::tail::{Tail, add_tail};
+use crate::world::World;
 use cf_core::Core;
 use cf_index::Candidates;
 use cf_io::{Failed, Files, Sink, Source};
@@ -155,30 +157,27 @@ pub fn run_processor<F: Files, S: Source, K: Sink, R: Sink>(
     program: &str,
     options: RunOptions<'_>,
     tail: Tail,
-    files: &mut F,
-    input: &mut S,
-    output: &mut K,
-    report: &mut R,
+    world: World<'_, F, S, K, R>,
 ) -> Result<Reported, Failed>
     requires { options.limit ≤ most_limit }
-    ensures answers { Comes
-        (AnswersRun tail (run_asked (layout_of layout.entry) program.now (asked_schedule options.entry.schedule) options.entry.limit options.entry.show)
-        (outside_of (F.told files.old) (F.faults files.old) (S.left input.old) (S.faults input.old)
-        (K.written output.old) (K.faults output.old))
-        (outside_of (F.told files.new) (F.faults files.new) (S.left input.new) (S.faults input.new)
-        (K.written output.new) (K.faults output.new)) (R.written report.old))
-        (BreaksRun (run_asked (layout_of layout.entry) program.now (asked_schedule options.entry.schedule) options.entry.limit options.entry.show)
-        (outside_of (F.told files.old) (F.faults files.old) (S.left input.old) (S.faults input.old)
-        (K.written output.old) (K.faults output.old))
-        (outside_of (F.told files.new) (F.faults files.new) (S.left input.new) (S.faults input.new)
-        (K.written output.new) (K.faults output.new)) (R.written report.old) (R.written report.new))
-        (report_of (R.written report.old) (R.faults report.old)) (report_of (R.written report.new) (R.faults report.new)) result }
-    ensures files { HasCause (F.faults files.old) (F.faults files.new) (files_reported result) }
-    ensures input { Tells input_answered (S.faults input.old) (S.faults input.new) result }
-    ensures output { Tells output_answered (K.faults output.old) (K.faults output.new) result }
+    ensures answers { CarriesOut
+        (AnswersRun tail (run_asked (layout_of layout.entry) program.now (asked_schedule options.entry.schedule) options.entry.limit options.entry.show))
+        (BreaksRun (run_asked (layout_of layout.entry) program.now (asked_schedule options.entry.schedule) options.entry.limit options.entry.show))
+        (span F.told F.faults S.left S.faults K.written K.faults R.written R.faults world.entry world.exit) result }
+    ensures files { HasCause (F.faults world.entry.files.now) (F.faults (files_left world.exit)) (files_reported result) }
+    ensures input { Tells input_answered (S.faults world.entry.input.now) (S.faults (input_left world.exit)) result }
+    ensures output { Tells output_answered (K.faults world.entry.output.now) (K.faults (output_left world.exit)) result }
 {
-    match read_files(alloc, layout, program, options, files) {
-        Ok(ready) => run_ready(alloc, ready, options, tail, input, output, report),
-        Err(answer) => Ok(put_answer(answer, report)),
+    match read_files(alloc, layout, program, options, world.files) {
+        Ok(ready) => {
+            let World {
+                input,
+                output,
+                report,
+                ..
+            } = world;
+            run_ready(alloc, ready, options, tail, input, output, report)
+        }
+        Err(answer) => Ok(put_answer(answer, world.report)),
     }
 }

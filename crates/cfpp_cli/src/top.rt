@@ -7,6 +7,7 @@ ghost use Rattle.cli_files.specs.Outside.{outside_of, report_of};
 ghost use Rattle.cfpp_cli.specs.Deciding.{Decided};
 ghost use Rattle.cfpp_cli.specs.Reporting.{Tells, files_reported};
 ghost use Rattle.cfpp_cli.specs.Top.{IsTop, NoneRose, says_fault};
+ghost use Rattle.cfpp_cli.specs.Worlds.{span, files_left, input_left, output_left};
 
 use crate::asm::assemble_program;
 use crate::check::check_layout;
@@ -19,6 +20,7 @@ use crate::reporting::{Reported, put_answer, put_decided};
 use crate::rounds::run_in_rounds;
 use crate::run::run_processor;
 use crate::tail::Tail;
+use crate::world::World;
 use cf_io::{Failed, Files, Sink, Source};
 use cf_words::{Command, RunOptions, Show, read_words};
 use cli_audit::audit_trace;
@@ -31,42 +33,23 @@ use std::alloc::Global;
 fn decide<F: Files, S: Source, K: Sink, R: Sink>(
     alloc: Global,
     words: &[String],
-    files: &mut F,
-    input: &mut S,
-    output: &mut K,
-    report: &mut R,
+    world: World<'_, F, S, K, R>,
 ) -> Result<Reported, Failed>
     ensures decided { Decided (map string_bytes words.now)
-        (outside_of (F.told files.old) (F.faults files.old) (S.left input.old) (S.faults input.old)
-        (K.written output.old) (K.faults output.old))
-        (outside_of (F.told files.new) (F.faults files.new) (S.left input.new) (S.faults input.new)
-        (K.written output.new) (K.faults output.new))
-        (report_of (R.written report.old) (R.faults report.old)) (report_of (R.written report.new) (R.faults report.new)) result }
-    ensures files { HasCause (F.faults files.old) (F.faults files.new) (files_reported result) }
-    ensures input { Tells input_answered (S.faults input.old) (S.faults input.new) result }
-    ensures output { Tells output_answered (K.faults output.old) (K.faults output.new) result }
+        (span F.told F.faults S.left S.faults K.written K.faults R.written R.faults world.entry world.exit) result }
+    ensures files { HasCause (F.faults world.entry.files.now) (F.faults (files_left world.exit)) (files_reported result) }
+    ensures input { Tells input_answered (S.faults world.entry.input.now) (S.faults (input_left world.exit)) result }
+    ensures output { Tells output_answered (K.faults world.entry.output.now) (K.faults (output_left world.exit)) result }
 {
     match read_words(words) {
-        Ok(Command::Machine { program, options }) => {
-            run_program(alloc, program, options, files, input, output, report)
-        }
+        Ok(Command::Machine { program, options }) => { run_program(alloc, program, options, world) }
         Ok(
             Command::Run {
                 layout,
                 program,
                 options,
             },
-        ) => run_processor(
-            alloc,
-            layout,
-            program,
-            options,
-            Tail::Nothing,
-            files,
-            input,
-            output,
-            report,
-        ),
+        ) => run_processor(alloc, layout, program, options, Tail::Nothing, world),
         Ok(
             Command::Moves {
                 layout,
@@ -80,55 +63,88 @@ fn decide<F: Files, S: Source, K: Sink, R: Sink>(
                 limit,
                 show: Show::Report,
             };
-            run_processor(
-                alloc,
-                layout,
-                program,
-                options,
-                Tail::Moves,
+            run_processor(alloc, layout, program, options, Tail::Moves, world)
+        }
+        Ok(Command::Check { layout }) => {
+            let World {
                 files,
+                output,
+                report,
+                ..
+            } = world;
+            Ok(put_answer(check_layout(alloc, layout, files, output), report))
+        }
+        Ok(Command::Asm { source }) => {
+            let World {
+                files,
+                output,
+                report,
+                ..
+            } = world;
+            Ok(put_answer(assemble_program(alloc, source, files, output), report))
+        }
+        Ok(Command::List { program }) => {
+            let World {
+                files,
+                output,
+                report,
+                ..
+            } = world;
+            Ok(put_answer(list_program(alloc, program, files, output), report))
+        }
+        Ok(Command::Gen { number, run: true }) => {
+            let World {
                 input,
                 output,
                 report,
-            )
+                ..
+            } = world;
+            run_drawn(alloc, number, input, output, report)
         }
-        Ok(Command::Check { layout }) => Ok(put_answer(
-            check_layout(alloc, layout, files, output),
-            report,
-        )),
-        Ok(Command::Asm { source }) => Ok(put_answer(
-            assemble_program(alloc, source, files, output),
-            report,
-        )),
-        Ok(Command::List { program }) => Ok(put_answer(
-            list_program(alloc, program, files, output),
-            report,
-        )),
-        Ok(Command::Gen { number, run: true }) => run_drawn(alloc, number, input, output, report),
-        Ok(Command::Gen { number, run: false }) => Ok(put_answer(
-            put_drawn(number, output),
-            report,
-        )),
-        Ok(Command::Help) => Ok(put_answer(put_text(HELP, output), report)),
-        Ok(Command::Version) => Ok(put_answer(put_text(VERSION, output), report)),
+        Ok(Command::Gen { number, run: false }) => {
+            let World { output, report, .. } = world;
+            Ok(put_answer(put_drawn(number, output), report))
+        }
+        Ok(Command::Help) => {
+            let World { output, report, .. } = world;
+            Ok(put_answer(put_text(HELP, output), report))
+        }
+        Ok(Command::Version) => {
+            let World { output, report, .. } = world;
+            Ok(put_answer(put_text(VERSION, output), report))
+        }
         Ok(
             Command::Rounds {
                 layout,
                 program,
                 limit,
             },
-        ) => Ok(run_in_rounds(alloc, layout, program, limit, files, input, output, report)),
+        ) => Ok(run_in_rounds(alloc, layout, program, limit, world)),
         Ok(
             Command::Audit {
                 layout,
                 program,
                 trace,
             },
-        ) => Ok(put_answer(
-            audit_trace(alloc, layout, program, trace, files, input),
-            report,
-        )),
+        ) => {
+            let World {
+                files,
+                input,
+                report,
+                ..
+            } = world;
+            Ok(put_answer(
+                audit_trace(alloc, layout, program, trace, files, input),
+                report,
+            ))
+        }
         Ok(Command::Debug { layout, program }) => {
+            let World {
+                files,
+                input,
+                output,
+                report,
+            } = world;
             let decided = debug_program(alloc, layout, program, files, input, output, report);
             put_decided(decided, report)
         }
@@ -140,6 +156,7 @@ fn decide<F: Files, S: Source, K: Sink, R: Sink>(
                 options,
             },
         ) => {
+            let World { files, report, .. } = world;
             let decided = compare_layouts(
                 alloc,
                 delays,
@@ -156,7 +173,7 @@ fn decide<F: Files, S: Source, K: Sink, R: Sink>(
                 status: Status::BadWords(index),
                 closing: bad_words(index),
             };
-            Ok(put_answer(answer, report))
+            Ok(put_answer(answer, world.report))
         }
     }
 }
@@ -208,7 +225,13 @@ pub fn cfpp<F: Files, S: Source, K: Sink, R: Sink>(
         (report_of (R.written report.old) (R.faults report.old))
         (report_of (R.written report.new) (R.faults report.new)) }
 {
-    match decide(alloc, words, files, input, output, report) {
+    let world = World {
+        files,
+        input,
+        output,
+        report,
+    };
+    match decide(alloc, words, world) {
         Ok(reported) => match reported.put {
             Ok(()) => reported.status,
             Err(_) => Status::WriteFault,

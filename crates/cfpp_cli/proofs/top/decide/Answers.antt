@@ -108,15 +108,15 @@ pub returns-in-Ok-Gen-default-true-clause-decided : goal.returns-in-Ok-Gen-defau
 returns-in-Ok-Gen-default-true-clause-decided g c =
     let n = c.in-Ok-Gen-default-true.number in
     let told = g.R.Sink.written in
-    let before = streams_of (g.S.Source.left c.args.input.now) (g.K.Sink.written c.args.output.now) in
+    let before = streams_of (g.S.Source.left c.args.world.input.now) (g.K.Sink.written c.args.world.output.now) in
     let after = streams_of (g.S.Source.left c.run_drawn.new.input) (g.K.Sink.written c.run_drawn.new.output) in
     record {
       reading = Ok (gen n true);
       reads = rw (c.in-Ok-Gen-default-true.field-0-is, c.in-Ok-Gen-default-true.field-0-1-test) at
           c.in-Ok-Gen-default-true.ensures.answers;
-      comes = comes-beside (AnswersDrawn n before after (told c.args.report.now))
-          (BreaksDrawn n before after (told c.args.report.now) (told c.run_drawn.new.report))
-          (g.F.Files.told c.args.files.now ≡ g.F.Files.told c.args.files.now) _ _ c.run_drawn.result refl c.run_drawn.ensures.answers;
+      comes = comes-beside (AnswersDrawn n before after (told c.args.world.report.now))
+          (BreaksDrawn n before after (told c.args.world.report.now) (told c.run_drawn.new.report))
+          (g.F.Files.told c.args.world.files.now ≡ g.F.Files.told c.args.world.files.now) _ _ c.run_drawn.result refl c.run_drawn.ensures.answers;
     }
 
 pub returns-in-Ok-Rounds-clause-decided : goal.returns-in-Ok-Rounds-clause-decided
@@ -135,9 +135,9 @@ returns-in-Ok-Debug-clause-decided g c =
     let program = c.in-Ok-Debug.program.now in
     let reported = g.R.Sink.written in
     let faults = g.R.Sink.faults in
-    let before = outside_of (g.F.Files.told c.args.files.now) (g.F.Files.faults c.args.files.now)
-    (g.S.Source.left c.args.input.now) (g.S.Source.faults c.args.input.now)
-    (g.K.Sink.written c.args.output.now) (g.K.Sink.faults c.args.output.now) in
+    let before = outside_of (g.F.Files.told c.args.world.files.now) (g.F.Files.faults c.args.world.files.now)
+    (g.S.Source.left c.args.world.input.now) (g.S.Source.faults c.args.world.input.now)
+    (g.K.Sink.written c.args.world.output.now) (g.K.Sink.faults c.args.world.output.now) in
     let after = outside_of (g.F.Files.told decided.new.files) (g.F.Files.faults decided.new.files)
     (g.S.Source.left decided.new.input) (g.S.Source.faults decided.new.input)
     (g.K.Sink.written decided.new.output) (g.K.Sink.faults decided.new.output) in
@@ -145,8 +145,8 @@ returns-in-Ok-Debug-clause-decided g c =
       reading = Ok (debug layout program);
       reads = rw c.in-Ok-Debug.field-0-is at c.in-Ok-Debug.ensures.answers;
       comes = decided-comes (λ answer report. AnswersDebug layout program before after answer report)
-          (λ told. BreaksDebug layout program before after (reported c.args.report.now) told)
-          (report_of (reported c.args.report.now) (faults c.args.report.now))
+          (λ told. BreaksDebug layout program before after (reported c.args.world.report.now) told)
+          (report_of (reported c.args.world.report.now) (faults c.args.world.report.now))
           (report_of (reported decided.new.report) (faults decided.new.report))
           (report_of (reported c.put_decided.new.report) (faults c.put_decided.new.report))
           decided.result c.put_decided.result decided.ensures.answers decided.ensures.report c.put_decided.ensures;
@@ -176,10 +176,10 @@ returns-in-Ok-Time-clause-decided g c =
     let asked = time_asked c.in-Ok-Time.delays.now c.in-Ok-Time.program.now layouts o in
     let reported = g.R.Sink.written in
     let faults = g.R.Sink.faults in
-    let before = g.F.Files.told c.args.files.now in
+    let before = g.F.Files.told c.args.world.files.now in
     let after = g.F.Files.told decided.new.files in
-    let streams = streams_of (g.S.Source.left c.args.input.now) (g.K.Sink.written c.args.output.now) in
-    let blank = report_of (reported c.args.report.now) (faults c.args.report.now) in
+    let streams = streams_of (g.S.Source.left c.args.world.input.now) (g.K.Sink.written c.args.world.output.now) in
+    let blank = report_of (reported c.args.world.report.now) (faults c.args.world.report.now) in
     let half = report_of (reported decided.new.report) (faults decided.new.report) in
     let full = report_of (reported put.new.report) (faults put.new.report) in
     record {
