@@ -6,7 +6,7 @@ use Rattle.cf_io.specs.Puts.{Writes}
 use Rattle.rv_machine.specs.Streams.{Streams}
 use Rattle.cf_bind.specs.declared.moves.Move.{Move}
 use Rattle.cf_layout.specs.Layout.{Plan}
-use Rattle.cf_semantics.specs.State.{Moment}
+use Rattle.cf_semantics.specs.state.State.{Moment}
 use Rattle.cf_core.specs.Processors.{Processor}
 use Rattle.cf_report.specs.declared.tally.Tally.{Tally}
 use Rattle.cf_report.specs.Lines.{numbered_move}

@@ -4,10 +4,10 @@ use Rattle.rv_machine.specs.Hart.{Hart}
 use Rattle.rv_machine.specs.Machine.{Machine}
 use Rattle.cf_layout.specs.Accepted.{IsAccepted}
 use Rattle.cf_layout.specs.Layout.{Plan}
-use Rattle.cf_semantics.specs.Lines.{Line, lines}
-use Rattle.cf_semantics.specs.Refines.{Refines, gained}
-use Rattle.cf_semantics.specs.Runs.{opened as opened_on, start as start_on}
-use Rattle.cf_semantics.specs.State.{Moment}
+use Rattle.cf_semantics.specs.runs.Lines.{Line, lines}
+use Rattle.cf_semantics.specs.claims.Refines.{Refines, gained}
+use Rattle.cf_semantics.specs.runs.Runs.{opened as opened_on, start as start_on}
+use Rattle.cf_semantics.specs.state.State.{Moment}
 use Rattle.cf_refinement.proofs.claims.Runs.{opened_retired}
 use Rattle.cf_refinement.proofs.Theorems.{run_refines}
 use Rattle.cf_core.specs.Processors.{Processor, opened}

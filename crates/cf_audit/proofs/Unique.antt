@@ -5,10 +5,10 @@ use Rattle.std.proofs.lemmas.List.{append_cancel_left}
 use Rattle.cf_layout.specs.Layout.{Plan}
 use Rattle.cf_bind.specs.declared.moves.Move.{Move}
 use Rattle.cf_bind.specs.MoveTexts.{move_line}
-use Rattle.cf_semantics.specs.Bars.{bar}
-use Rattle.cf_semantics.specs.Lines.{retires}
-use Rattle.cf_semantics.specs.Moves.{next}
-use Rattle.cf_semantics.specs.State.{Moment}
+use Rattle.cf_semantics.specs.moves.Bars.{bar}
+use Rattle.cf_semantics.specs.runs.Lines.{retires}
+use Rattle.cf_semantics.specs.moves.Moves.{next}
+use Rattle.cf_semantics.specs.state.State.{Moment}
 use Rattle.cf_core.specs.Processors.{Processor}
 use Rattle.cf_report.specs.Lines.{numbered_move}
 use Rattle.cf_report.specs.Picture.{picture}

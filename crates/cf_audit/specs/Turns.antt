@@ -2,7 +2,7 @@
 use Rattle.std.specs.Prelude.{◌≡◌, ◌⊎◌, ℕ, ◌+◌, ◌<◌, true, false, List, length, drop, Option, Some, None, Result, Ok, Err}
 use Rattle.cf_bind.specs.declared.moves.Move.{Move}
 use Rattle.cf_semantics.specs.declared.event.Event.{Event}
-use Rattle.cf_semantics.specs.Bars.{bar as first_bar}
+use Rattle.cf_semantics.specs.moves.Bars.{bar as first_bar}
 use Rattle.cf_run.specs.declared.answer.Ran.TheVariants as ran
 use Rattle.cf_run.specs.declared.show.Show.TheVariants as show
 use Rattle.cf_run.specs.Moving.{Place, MakesAndShows, MakesUnshown, Does}

@@ -2,7 +2,7 @@
 
 ghost use Rattle.std.specs.Prelude.{◌≡◌, ℕ, List, Some};
 ghost use Rattle.cf_core.specs.Processors.{Processor};
-ghost use Rattle.cf_semantics.specs.State.{Moment};
+ghost use Rattle.cf_semantics.specs.state.State.{Moment};
 ghost use Rattle.cf_audit.specs.declared.answer.TraceKind.{TraceKind as Kind};
 ghost use Rattle.cf_audit.specs.Traces.{GoesWrong, IsTrace};
 

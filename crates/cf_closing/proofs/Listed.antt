@@ -6,8 +6,8 @@ use Rattle.std.proofs.lemmas.List.{flat_map_more, take_more, take_all, take-appe
 use Rattle.std.proofs.lemmas.List.Concat.{flat_map-append}
 use Rattle.cf_layout.specs.Layout.{Plan, SidingPlan, no_siding, cells_of}
 use Rattle.cf_bind.specs.declared.moves.Move.{Move}
-use Rattle.cf_semantics.specs.Candidates.{counted_from}
-use Rattle.cf_semantics.specs.State.{State}
+use Rattle.cf_semantics.specs.moves.Candidates.{counted_from}
+use Rattle.cf_semantics.specs.state.State.{State}
 use Rattle.cf_closing.specs.Moves.{cell_moves, siding_moves, every_move, line_in, moves_text}
 use Rattle.cf_closing.specs.Parts.{part_moves, lines_in}
 use Rattle.cf_closing.specs.declared.parts.Part.{Part}

@@ -1,7 +1,7 @@
 -- The report that closes a run, of the sequential machine or of the processor (a format of this project).
 use Rattle.std.specs.Prelude.{ℕ, List, ◌++◌, Bool, true, false, codes}
 use Rattle.cf_layout.specs.Layout.{Plan}
-use Rattle.cf_semantics.specs.State.{State}
+use Rattle.cf_semantics.specs.state.State.{State}
 use Rattle.cf_texts.specs.Texts.{counted_line}
 use Rattle.cf_report.specs.declared.tally.Tally.{Tally}
 use Rattle.cf_report.specs.Lines.{tally_text, registers_text}

@@ -7,9 +7,9 @@ use Rattle.cf_bind.specs.declared.moves.Bar.{Bar}
 use Rattle.cf_bind.specs.declared.moves.Move.{Move}
 use Rattle.cf_bind.specs.declared.moves.Move.TheVariants.{Issue, Emit, Climb, Fall, Meet, Execute, Send, Launch, Slide, Access, Recover, Leave, Exit, Serve}
 use Rattle.cf_bind.specs.MoveTexts.{move_line}
-use Rattle.cf_semantics.specs.Bars.{bar as first_bar}
-use Rattle.cf_semantics.specs.Candidates.{counted_from, at_stages}
-use Rattle.cf_semantics.specs.State.{State}
+use Rattle.cf_semantics.specs.moves.Bars.{bar as first_bar}
+use Rattle.cf_semantics.specs.moves.Candidates.{counted_from, at_stages}
+use Rattle.cf_semantics.specs.state.State.{State}
 use Rattle.cf_closing.specs.Lines.{bar_text}
 
 -- the moves from each cell of a siding, the last one, which leads nowhere, among them

@@ -4,8 +4,8 @@ use Rattle.std.specs.List.{flat_map}
 use Rattle.cf_layout.specs.Layout.{Plan}
 use Rattle.cf_bind.specs.declared.moves.Move.{Move}
 use Rattle.cf_bind.specs.declared.moves.Move.TheVariants.{Climb, Fall, Meet, Execute, Send, Launch, Recover}
-use Rattle.cf_semantics.specs.Candidates.{at_stages}
-use Rattle.cf_semantics.specs.State.{State}
+use Rattle.cf_semantics.specs.moves.Candidates.{at_stages}
+use Rattle.cf_semantics.specs.state.State.{State}
 use Rattle.cf_closing.specs.Moves.{siding_moves, line_in}
 use Rattle.cf_closing.specs.declared.parts.StageMove.{StageMove}
 use Rattle.cf_closing.specs.declared.parts.StageMove.TheVariants as kind

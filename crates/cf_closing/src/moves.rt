@@ -3,7 +3,7 @@
 
 ghost use Rattle.std.specs.Prelude.{◌≡◌, ◌++◌, codes};
 ghost use Rattle.cf_bind.specs.MoveTexts.{move_line};
-ghost use Rattle.cf_semantics.specs.Candidates.{at_stages};
+ghost use Rattle.cf_semantics.specs.moves.Candidates.{at_stages};
 ghost use Rattle.cf_report.specs.Putting.{PutsText};
 ghost use Rattle.cf_closing.specs.Lines.{bar_text};
 ghost use Rattle.cf_closing.specs.Moves.{between, cell_moves, siding_moves, line_in, moves_text};

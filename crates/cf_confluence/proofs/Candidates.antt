@@ -10,12 +10,12 @@ use Rattle.cf_bind.specs.declared.moves.Move.{Move}
 use Rattle.cf_bind.specs.declared.moves.Move.TheVariants.{Issue, Emit, Climb, Fall, Meet, Execute, Send, Launch, Slide, Access, Recover, Leave, Exit, Serve}
 use Rattle.cf_bind.specs.declared.passenger.Guess.TheVariants.{Next}
 use Rattle.cf_bind.specs.declared.passenger.Guess.TheVariants as guess
-use Rattle.cf_semantics.specs.Options.{is_some, on}
-use Rattle.cf_semantics.specs.State.{State, cell_at, siding_at}
-use Rattle.cf_semantics.specs.Bars.{bar, row_bar, slide_bar}
-use Rattle.cf_semantics.specs.Candidates.{all_moves, at_stages, candidates, counted_from, held_back, other_moves, slides_from}
-use Rattle.cf_semantics.specs.Weight.{is_issue}
-use Rattle.cf_semantics.specs.Drained.{IsStuck}
+use Rattle.cf_semantics.specs.state.Options.{is_some, on}
+use Rattle.cf_semantics.specs.state.State.{State, cell_at, siding_at}
+use Rattle.cf_semantics.specs.moves.Bars.{bar, row_bar, slide_bar}
+use Rattle.cf_semantics.specs.moves.Candidates.{all_moves, at_stages, candidates, counted_from, held_back, other_moves, slides_from}
+use Rattle.cf_semantics.specs.claims.Weight.{is_issue}
+use Rattle.cf_semantics.specs.state.Drained.{IsStuck}
 use Rattle.cf_refinement.proofs.moves.Rows.{bar_row}
 
 -- it stands in the list

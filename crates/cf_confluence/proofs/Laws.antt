@@ -6,22 +6,22 @@ use Rattle.cf_layout.specs.Layout.{Plan}
 use Rattle.cf_layout.specs.Accepted.{IsAccepted}
 use Rattle.cf_bind.specs.declared.moves.Move.{Move}
 use Rattle.cf_bind.specs.declared.passenger.End.{End}
-use Rattle.cf_semantics.specs.State.{Moment}
-use Rattle.cf_semantics.specs.Bars.{bar}
-use Rattle.cf_semantics.specs.Moves.{next}
-use Rattle.cf_semantics.specs.Runs.{IsReached, IsRun, run, start}
-use Rattle.cf_semantics.specs.Weight.{counts, is_issue, issues, moves_per_issue, weight}
-use Rattle.cf_semantics.specs.Drained.{IsStuck, is_drained}
-use Rattle.cf_semantics.specs.Determined.{Drains, EndAlike, EndsAs, KeepsRegisters, Rests}
-use Rattle.cf_semantics.specs.Sites.{AreIndependent, IsLocal}
-use Rattle.cf_semantics.specs.Stutters.{Stutters}
+use Rattle.cf_semantics.specs.state.State.{Moment}
+use Rattle.cf_semantics.specs.moves.Bars.{bar}
+use Rattle.cf_semantics.specs.moves.Moves.{next}
+use Rattle.cf_semantics.specs.runs.Runs.{IsReached, IsRun, run, start}
+use Rattle.cf_semantics.specs.claims.Weight.{counts, is_issue, issues, moves_per_issue, weight}
+use Rattle.cf_semantics.specs.state.Drained.{IsStuck, is_drained}
+use Rattle.cf_semantics.specs.claims.Determined.{Drains, EndAlike, EndsAs, KeepsRegisters, Rests}
+use Rattle.cf_semantics.specs.moves.Sites.{AreIndependent, IsLocal}
+use Rattle.cf_semantics.specs.claims.Stutters.{Stutters}
 use Rattle.cf_refinement.proofs.invariant.Invariant.{HoldsAfter, HoldsAt, Sound}
 use Rattle.cf_refinement.proofs.layouts.Accepted.{accepted_suits}
 use Rattle.cf_refinement.proofs.claims.Runs.{holds_after}
 use Rattle.cf_refinement.proofs.claims.Stutters.{stutters}
 use Rattle.cf_confluence.proofs.drains.Apart.{all_retired, first_move, run_keeps}
 use Rattle.cf_confluence.proofs.weight.Bound.{bounded_drain, bounded_run, costs, sound_at}
-use Rattle.cf_semantics.specs.Candidates.{candidates, held_back}
+use Rattle.cf_semantics.specs.moves.Candidates.{candidates, held_back}
 use Rattle.cf_confluence.proofs.Candidates.{HasShape, has_some, held_stuck as candidates_held, some_pick as candidates_there}
 use Rattle.cf_confluence.proofs.drains.Confluent.{agree, halted_alike, kept_true}
 use Rattle.cf_confluence.proofs.drains.Determined.{ends_as}

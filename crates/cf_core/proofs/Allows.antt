@@ -10,12 +10,12 @@ use Rattle.cf_bind.specs.declared.moves.Move.{Move}
 use Rattle.cf_bind.specs.declared.moves.Move.TheVariants.{Emit, Leave, Exit, Serve, Access, Slide}
 use Rattle.cf_bind.specs.declared.passenger.Passenger.{Passenger}
 use Rattle.cf_layout.specs.Layout.{Plan}
-use Rattle.cf_semantics.specs.Bars.{access_bar, emit_bar, exit_bar, first, is_full, is_taken, last_op, leave_bar, serve_bar, slide_bar}
-use Rattle.cf_semantics.specs.Instructions.{is_serial}
-use Rattle.cf_semantics.specs.Layouts.{port}
-use Rattle.cf_semantics.specs.Options.{on, is_some}
-use Rattle.cf_semantics.specs.Passengers.{kind}
-use Rattle.cf_semantics.specs.State.{State, cell_at, siding_at}
+use Rattle.cf_semantics.specs.moves.Bars.{access_bar, emit_bar, exit_bar, first, is_full, is_taken, last_op, leave_bar, serve_bar, slide_bar}
+use Rattle.cf_semantics.specs.moves.Instructions.{is_serial}
+use Rattle.cf_semantics.specs.state.Layouts.{port}
+use Rattle.cf_semantics.specs.state.Options.{on, is_some}
+use Rattle.cf_semantics.specs.state.Passengers.{kind}
+use Rattle.cf_semantics.specs.state.State.{State, cell_at, siding_at}
 use Rattle.cf_stages.specs.Changes.{is_full_at, packet_at, passenger_at}
 use Rattle.cf_core.specs.Marks.{is_free}
 use Rattle.cf_core.specs.Masks.{is_allowed}

@@ -4,7 +4,7 @@ use Rattle.std.specs.Prelude.{IsTrue}
 use Rattle.rv_inst.specs.declared.instruction.Instr.TheVariants.{Ecall}
 use Rattle.rv_machine.specs.Call.{asks_input, asks_output}
 use Rattle.cf_bind.specs.declared.passenger.Passenger.{Passenger}
-use Rattle.cf_semantics.specs.Passengers.{instruction}
+use Rattle.cf_semantics.specs.state.Passengers.{instruction}
 use Rattle.cf_stages.specs.Changes.{passenger_at}
 use Rattle.cf_core.specs.Processors.{Processor}
 use Rattle.cf_core.specs.Asking.{CallsInput, CallsOutput}

@@ -2,10 +2,10 @@
 use Rattle.std.proofs.Common.{◌≡◌, ◌∙◌, ℕ, None, sym, ap, subst}
 use Rattle.cf_bind.specs.declared.moves.Move.{Move}
 use Rattle.cf_layout.specs.Layout.{Plan}
-use Rattle.cf_semantics.specs.Bars.{bar, row_bar}
-use Rattle.cf_semantics.specs.Kept.{Kept, restored}
-use Rattle.cf_semantics.specs.Moves.{moved}
-use Rattle.cf_semantics.specs.State.{State}
+use Rattle.cf_semantics.specs.moves.Bars.{bar, row_bar}
+use Rattle.cf_semantics.specs.moves.Kept.{Kept, restored}
+use Rattle.cf_semantics.specs.moves.Moves.{moved}
+use Rattle.cf_semantics.specs.state.State.{State}
 use Rattle.cf_core.specs.Marks.{Within, marks_of, remarked, touched}
 use Rattle.cf_core.specs.Processors.{Processor, IsProcessor, in_state}
 use Rattle.cf_core.specs.Undo.{IsAfter}

@@ -5,9 +5,9 @@ use Rattle.std.proofs.lemmas.Option.{get_or_from_slice_get, slice_get_past, slic
 use Rattle.mem_regions.specs.Access.{Bounds}
 use Rattle.cf_bind.specs.declared.cell.Op.{Op}
 use Rattle.cf_layout.specs.Layout.{Plan, SidingPlan, no_siding, cells_of}
-use Rattle.cf_semantics.specs.Bars.{last_op}
-use Rattle.cf_semantics.specs.Options.{on}
-use Rattle.cf_semantics.specs.State.{State, siding_at}
+use Rattle.cf_semantics.specs.moves.Bars.{last_op}
+use Rattle.cf_semantics.specs.state.Options.{on}
+use Rattle.cf_semantics.specs.state.State.{State, siding_at}
 use Rattle.cf_core.specs.Processors.{AreOps, IsOp, IsProcessor}
 
 -- the cells of the siding of this number are as many as its plan says; where there is none, none

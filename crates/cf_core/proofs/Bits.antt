@@ -6,7 +6,7 @@ use Rattle.std.proofs.lemmas.Nat.Bits.{bit_at_and, bit_at_or, same_from_bits}
 use Rattle.std.specs.Prelude.{nat_eq, if◌then◌else◌}
 use Rattle.std.proofs.lemmas.Bool.Decides.{nat_tests}
 use Rattle.cf_layout.specs.Layout.{Plan}
-use Rattle.cf_semantics.specs.State.{State}
+use Rattle.cf_semantics.specs.state.State.{State}
 use Rattle.cf_stages.specs.Words.{with_bit, word_of}
 use Rattle.cf_stages.proofs.Bits.{word-with-bit}
 use Rattle.cf_core.specs.declared.marks.Mark.{Mark}

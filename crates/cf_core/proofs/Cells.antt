@@ -5,7 +5,7 @@ use Rattle.std.proofs.lemmas.Option.{slice_get_within, get_or_from_slice_get}
 use Rattle.circular_buffer.proofs.Places.{slice_get-set_same}
 use Rattle.rv_inst.specs.declared.isa.Isa.{Isa}
 use Rattle.cf_bind.specs.declared.cell.Cell.{Cell}
-use Rattle.cf_semantics.specs.State.{cell_at, put_cell}
+use Rattle.cf_semantics.specs.state.State.{cell_at, put_cell}
 use Rattle.cf_core.specs.Processors.{IsStage}
 
 get-set : (cells : List Cell) (k : ℕ) (c d : Cell) → slice_get cells k ≡ Some c → slice_get (slice_set cells k d) k ≡ Some d

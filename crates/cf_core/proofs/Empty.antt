@@ -2,7 +2,7 @@
 use Rattle.std.proofs.Common.{◌≡◌, ℕ, List, [], ◌∷◌, length, refl, arith}
 use Rattle.std.specs.Prelude.{nat_eq}
 use Rattle.std.proofs.lemmas.Bool.Decides.{nat_tests}
-use Rattle.cf_semantics.specs.Drained.{is_empty}
+use Rattle.cf_semantics.specs.state.Drained.{is_empty}
 
 pub empty-length : (xs : List ℕ) → nat_eq (length xs) 0 ≡ is_empty xs
 empty-length [] = refl

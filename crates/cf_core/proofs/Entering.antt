@@ -8,10 +8,10 @@ use Rattle.cf_bind.specs.declared.moves.Bar.TheVariants.{SourceMissing}
 use Rattle.cf_bind.specs.declared.moves.Move.TheVariants.{Launch}
 use Rattle.cf_bind.specs.declared.passenger.Passenger.{Passenger}
 use Rattle.cf_layout.specs.Layout.{Plan, siding_of}
-use Rattle.cf_semantics.specs.Bars.{entry_bar, is_taken, launch_bar, row_bar, source_bar}
-use Rattle.cf_semantics.specs.Options.{on}
-use Rattle.cf_semantics.specs.Passengers.{kind, missing}
-use Rattle.cf_semantics.specs.State.{State, cell_at, siding_at}
+use Rattle.cf_semantics.specs.moves.Bars.{entry_bar, is_taken, launch_bar, row_bar, source_bar}
+use Rattle.cf_semantics.specs.state.Options.{on}
+use Rattle.cf_semantics.specs.state.Passengers.{kind, missing}
+use Rattle.cf_semantics.specs.state.State.{State, cell_at, siding_at}
 use Rattle.cf_sidings.specs.Sidings.{cells_in}
 use Rattle.cf_core.specs.Processors.{IsProcessor}
 use Rattle.cf_core.proofs.Ported.{siding-cells}

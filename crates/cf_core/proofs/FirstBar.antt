@@ -2,8 +2,8 @@
 use Rattle.std.proofs.Common.{◌≡◌, List, [], ◌∷◌, None, Some, Bool, true, false, refl, sym, ◌∙◌}
 use Rattle.std.specs.Prelude.{find}
 use Rattle.cf_bind.specs.declared.moves.Bar.{Bar}
-use Rattle.cf_semantics.specs.Options.{on}
-use Rattle.cf_semantics.specs.Bars.{first_of}
+use Rattle.cf_semantics.specs.state.Options.{on}
+use Rattle.cf_semantics.specs.moves.Bars.{first_of}
 
 first_found : (rows : List (Bool × Bar)) → on (find (λ (row : Bool × Bar). row.0) rows) None (λ row. Some row.1) ≡ first_of rows None
 first_found [] = refl

@@ -18,12 +18,12 @@ use Rattle.cf_bind.specs.declared.passenger.Guess.{Guess}
 use Rattle.cf_bind.specs.declared.passenger.Guess.TheVariants.{Next, Taken, Wait, To}
 use Rattle.cf_bind.specs.declared.passenger.Passenger.{Passenger}
 use Rattle.cf_layout.specs.Layout.{Plan}
-use Rattle.cf_semantics.specs.Bars.{first, issue_bar, may_guess, running}
-use Rattle.cf_semantics.specs.Instructions.{Fetched, Got, Bad, fetched, free_trap, kind_of}
-use Rattle.cf_semantics.specs.Layouts.{isa_of}
-use Rattle.cf_semantics.specs.Options.{on, is_some}
-use Rattle.cf_semantics.specs.Passengers.{fresh, fresh_as, fresh_end, fresh_fence, requests}
-use Rattle.cf_semantics.specs.State.{State, cell_at}
+use Rattle.cf_semantics.specs.moves.Bars.{first, issue_bar, may_guess, running}
+use Rattle.cf_semantics.specs.moves.Instructions.{Fetched, Got, Bad, fetched, free_trap, kind_of}
+use Rattle.cf_semantics.specs.state.Layouts.{isa_of}
+use Rattle.cf_semantics.specs.state.Options.{on, is_some}
+use Rattle.cf_semantics.specs.state.Passengers.{fresh, fresh_as, fresh_end, fresh_fence, requests}
+use Rattle.cf_semantics.specs.state.State.{State, cell_at}
 use Rattle.cf_stages.specs.Changes.{passenger_at}
 use Rattle.cf_core.specs.Ends.{issued_at}
 use Rattle.cf_core.specs.Marks.{is_free}

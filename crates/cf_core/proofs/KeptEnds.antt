@@ -16,12 +16,12 @@ use Rattle.cf_bind.specs.declared.passenger.End.TheVariants.{Trap}
 use Rattle.cf_bind.specs.declared.passenger.Guess.{Guess}
 use Rattle.cf_bind.specs.declared.passenger.Passenger.{Passenger}
 use Rattle.cf_layout.specs.Layout.{Plan}
-use Rattle.cf_semantics.specs.Bars.{running}
-use Rattle.cf_semantics.specs.Instructions.{Bad, fetched, read_as, word_read}
-use Rattle.cf_semantics.specs.Layouts.{isa_of}
-use Rattle.cf_semantics.specs.Moves.{moved, emitted, exited, issued, left, left_live, without_packet, without_passenger}
-use Rattle.cf_semantics.specs.Passengers.{both, fresh, missing, requests, unknown}
-use Rattle.cf_semantics.specs.State.{State, cell_at, with_cell}
+use Rattle.cf_semantics.specs.moves.Bars.{running}
+use Rattle.cf_semantics.specs.moves.Instructions.{Bad, fetched, read_as, word_read}
+use Rattle.cf_semantics.specs.state.Layouts.{isa_of}
+use Rattle.cf_semantics.specs.moves.Moves.{moved, emitted, exited, issued, left, left_live, without_packet, without_passenger}
+use Rattle.cf_semantics.specs.state.Passengers.{both, fresh, missing, requests, unknown}
+use Rattle.cf_semantics.specs.state.State.{State, cell_at, with_cell}
 use Rattle.cf_passengers.specs.Facts.{IsBinding, IsFetched, IsPassenger, IsWritable}
 use Rattle.cf_passengers.proofs.Decoded.{decoded-instruction}
 use Rattle.cf_passengers.proofs.Kept.{fresh-passenger}

@@ -5,14 +5,14 @@ use Rattle.cf_bind.specs.declared.moves.Move.{Move}
 use Rattle.cf_bind.specs.declared.moves.Move.TheVariants.{Serve}
 use Rattle.cf_bind.specs.declared.passenger.Passenger.{Passenger}
 use Rattle.cf_layout.specs.Layout.{Plan}
-use Rattle.cf_semantics.specs.Bars.{bar, row_bar}
+use Rattle.cf_semantics.specs.moves.Bars.{bar, row_bar}
 use Rattle.cf_semantics.specs.declared.event.Event.{Event}
-use Rattle.cf_semantics.specs.Instructions.{serve_of}
-use Rattle.cf_semantics.specs.Moves.{next, moved, served, with_passenger}
-use Rattle.cf_semantics.specs.Moves as moves
-use Rattle.cf_semantics.specs.Options.{on}
-use Rattle.cf_semantics.specs.Passengers.{instruction}
-use Rattle.cf_semantics.specs.State.{Moment, State, cell_at, with_cell}
+use Rattle.cf_semantics.specs.moves.Instructions.{serve_of}
+use Rattle.cf_semantics.specs.moves.Moves.{next, moved, served, with_passenger}
+use Rattle.cf_semantics.specs.moves.Moves as moves
+use Rattle.cf_semantics.specs.state.Options.{on}
+use Rattle.cf_semantics.specs.state.Passengers.{instruction}
+use Rattle.cf_semantics.specs.state.State.{Moment, State, cell_at, with_cell}
 use Rattle.cf_stages.proofs.Bits.{word-agrees}
 use Rattle.rv_machine.specs.Call.{Called, Value, Exit}
 use Rattle.rv_machine.specs.Streams.{Streams}

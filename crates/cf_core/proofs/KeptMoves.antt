@@ -3,9 +3,9 @@ use Rattle.std.proofs.Common.{◌≡◌, None}
 use Rattle.cf_bind.specs.declared.moves.Move.{Move}
 use Rattle.cf_bind.specs.declared.moves.Move.TheVariants.{Issue, Emit, Climb, Fall, Meet, Execute, Send, Launch, Slide, Access, Recover, Leave, Exit, Serve}
 use Rattle.cf_layout.specs.Layout.{Plan}
-use Rattle.cf_semantics.specs.Bars.{row_bar}
-use Rattle.cf_semantics.specs.Moves.{moved}
-use Rattle.cf_semantics.specs.State.{State}
+use Rattle.cf_semantics.specs.moves.Bars.{row_bar}
+use Rattle.cf_semantics.specs.moves.Moves.{moved}
+use Rattle.cf_semantics.specs.state.State.{State}
 use Rattle.cf_core.specs.Processors.{Processor, after_move, IsProcessor}
 use Rattle.cf_core.proofs.KeptStages.{climb-kept, execute-kept, fall-kept, meet-kept, send-kept}
 use Rattle.cf_core.proofs.KeptEnds.{emit-kept, exit-kept, issue-kept, leave-kept}

@@ -8,9 +8,9 @@ use Rattle.mem_regions.specs.Access.{Bounds, bounds_of}
 use Rattle.cf_bind.specs.declared.cell.Cell.{Cell}
 use Rattle.cf_bind.specs.declared.cell.Op.{Op}
 use Rattle.cf_layout.specs.Layout.{Plan}
-use Rattle.cf_semantics.specs.Layouts.{isa_of}
-use Rattle.cf_semantics.specs.Options.{on}
-use Rattle.cf_semantics.specs.State.{State, cell_at, put_cell, siding_at, with_cell, with_siding}
+use Rattle.cf_semantics.specs.state.Layouts.{isa_of}
+use Rattle.cf_semantics.specs.state.Options.{on}
+use Rattle.cf_semantics.specs.state.State.{State, cell_at, put_cell, siding_at, with_cell, with_siding}
 use Rattle.cf_passengers.specs.Facts.{IsWritable}
 use Rattle.cf_sidings.specs.Sidings.{cells_in}
 use Rattle.cf_core.specs.Processors.{AreOps, IsProcessor, IsStage}

@@ -13,16 +13,16 @@ use Rattle.cf_layout.specs.Layout.{Plan}
 use Rattle.cf_bind.specs.declared.cell.Cell.{Cell}
 use Rattle.cf_bind.specs.declared.moves.Move.{Move}
 use Rattle.cf_bind.specs.declared.moves.Move.TheVariants.{Serve}
-use Rattle.cf_semantics.specs.Bars.{bar, row_bar}
-use Rattle.cf_semantics.specs.Options.{on}
+use Rattle.cf_semantics.specs.moves.Bars.{bar, row_bar}
+use Rattle.cf_semantics.specs.state.Options.{on}
 use Rattle.cf_bind.specs.declared.passenger.Passenger.{Passenger}
 use Rattle.cf_bind.specs.declared.passenger.End.TheVariants as ending
-use Rattle.cf_semantics.specs.Instructions.{serve_of}
-use Rattle.cf_semantics.specs.Layouts.{isa_of}
-use Rattle.cf_semantics.specs.Moves.{next, asked, served, with_passenger}
-use Rattle.cf_semantics.specs.Moves as moves
-use Rattle.cf_semantics.specs.Passengers.{instruction}
-use Rattle.cf_semantics.specs.State.{State, Moment, cell_at, with_cell}
+use Rattle.cf_semantics.specs.moves.Instructions.{serve_of}
+use Rattle.cf_semantics.specs.state.Layouts.{isa_of}
+use Rattle.cf_semantics.specs.moves.Moves.{next, asked, served, with_passenger}
+use Rattle.cf_semantics.specs.moves.Moves as moves
+use Rattle.cf_semantics.specs.state.Passengers.{instruction}
+use Rattle.cf_semantics.specs.state.State.{State, Moment, cell_at, with_cell}
 use Rattle.cf_passengers.specs.Facts.{IsPassenger}
 use Rattle.cf_passengers.proofs.Kept.{answered-passenger, quitting-passenger}
 use Rattle.cf_core.specs.Processors.{Processor, IsProcessor, IsStage}

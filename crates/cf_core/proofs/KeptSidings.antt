@@ -14,12 +14,12 @@ use Rattle.cf_bind.specs.declared.cell.Op.{Op}
 use Rattle.cf_bind.specs.declared.moves.Move.TheVariants.{Launch, Slide, Access, Recover}
 use Rattle.cf_bind.specs.declared.passenger.Passenger.{Passenger}
 use Rattle.cf_layout.specs.Layout.{Plan, siding_of}
-use Rattle.cf_semantics.specs.Bars.{last_op}
-use Rattle.cf_semantics.specs.Instructions.{answer_of, kind_of, mem_after}
-use Rattle.cf_semantics.specs.Layouts.{isa_of, port}
-use Rattle.cf_semantics.specs.Moves.{moved, accessed, back_in, launch_trap, launched, operation, recovered, set_last, with_passenger}
-use Rattle.cf_semantics.specs.Passengers.{instruction, kind, trapped}
-use Rattle.cf_semantics.specs.State.{State, siding_at, with_cell, with_siding}
+use Rattle.cf_semantics.specs.moves.Bars.{last_op}
+use Rattle.cf_semantics.specs.moves.Instructions.{answer_of, kind_of, mem_after}
+use Rattle.cf_semantics.specs.state.Layouts.{isa_of, port}
+use Rattle.cf_semantics.specs.moves.Moves.{moved, accessed, back_in, launch_trap, launched, operation, recovered, set_last, with_passenger}
+use Rattle.cf_semantics.specs.state.Passengers.{instruction, kind, trapped}
+use Rattle.cf_semantics.specs.state.State.{State, siding_at, with_cell, with_siding}
 use Rattle.cf_passengers.specs.Facts.{IsPassenger}
 use Rattle.cf_passengers.proofs.Classes.{kind-class}
 use Rattle.cf_passengers.proofs.Kept.{back_in-passenger, launched-passenger, operation-of_set, trapped-passenger}

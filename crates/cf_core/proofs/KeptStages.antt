@@ -7,12 +7,12 @@ use Rattle.cf_bind.specs.declared.moves.Move.TheVariants.{Climb, Fall, Meet, Exe
 use Rattle.cf_bind.specs.declared.packet.Packet.{Packet}
 use Rattle.cf_bind.specs.declared.passenger.Passenger.{Passenger}
 use Rattle.cf_layout.specs.Layout.{Plan}
-use Rattle.cf_semantics.specs.Bars.{row_bar, send_bar}
-use Rattle.cf_semantics.specs.Layouts.{isa_of}
-use Rattle.cf_semantics.specs.Moves.{moved, cell_met, climbed, fallen, sent, with_passenger, without_packet, without_passenger}
-use Rattle.cf_semantics.specs.Options.{is_some, on}
-use Rattle.cf_semantics.specs.Passengers.{finish}
-use Rattle.cf_semantics.specs.State.{State, cell_at, with_cell}
+use Rattle.cf_semantics.specs.moves.Bars.{row_bar, send_bar}
+use Rattle.cf_semantics.specs.state.Layouts.{isa_of}
+use Rattle.cf_semantics.specs.moves.Moves.{moved, cell_met, climbed, fallen, sent, with_passenger, without_packet, without_passenger}
+use Rattle.cf_semantics.specs.state.Options.{is_some, on}
+use Rattle.cf_semantics.specs.state.Passengers.{finish}
+use Rattle.cf_semantics.specs.state.State.{State, cell_at, with_cell}
 use Rattle.cf_passengers.specs.Facts.{IsPacket, IsPassenger}
 use Rattle.cf_passengers.proofs.Kept.{finish-passenger, meeting-packet, meeting-passenger, sent-passenger}
 use Rattle.cf_core.specs.Processors.{IsProcessor, IsStage}

@@ -5,9 +5,9 @@ use Rattle.cf_bind.specs.declared.cell.Cell.{Cell}
 use Rattle.cf_bind.specs.declared.moves.Move.{Move}
 use Rattle.cf_bind.specs.declared.moves.Move.TheVariants.{Execute, Launch, Recover}
 use Rattle.cf_layout.specs.Layout.{Plan}
-use Rattle.cf_semantics.specs.Bars.{bar}
-use Rattle.cf_semantics.specs.Options.{is_some}
-use Rattle.cf_semantics.specs.State.{State}
+use Rattle.cf_semantics.specs.moves.Bars.{bar}
+use Rattle.cf_semantics.specs.state.Options.{is_some}
+use Rattle.cf_semantics.specs.state.State.{State}
 use Rattle.cf_stages.specs.Words.{met_word, packet_word, passenger_word, word_of}
 use Rattle.cf_stages.proofs.Bits.{word-agrees}
 use Rattle.cf_stages.proofs.Empty.{word-none}

@@ -5,11 +5,11 @@ use Rattle.std.proofs.lemmas.Option.{same_Some}
 use Rattle.cf_bind.specs.declared.cell.Cell.{Cell}
 use Rattle.cf_bind.specs.declared.packet.Packet.{Packet}
 use Rattle.cf_bind.specs.declared.passenger.Passenger.{Passenger}
-use Rattle.cf_semantics.specs.Bars.{is_full, at, meet_bar}
-use Rattle.cf_semantics.specs.State.{cell_at}
-use Rattle.cf_semantics.specs.Events.{meeting_event}
+use Rattle.cf_semantics.specs.moves.Bars.{is_full, at, meet_bar}
+use Rattle.cf_semantics.specs.state.State.{cell_at}
+use Rattle.cf_semantics.specs.moves.Events.{meeting_event}
 use Rattle.cf_semantics.specs.declared.event.Event.TheVariants as event
-use Rattle.cf_semantics.specs.Options.{on}
+use Rattle.cf_semantics.specs.state.Options.{on}
 use Rattle.cf_stages.specs.Changes.{changed, met_in, is_full_at}
 use Rattle.cf_core.specs.Seen.{seen}
 use Rattle.cf_core.proofs.Cells.{cell-put}

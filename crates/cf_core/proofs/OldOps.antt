@@ -11,13 +11,13 @@ use Rattle.cf_layout.proofs.Facts.{memory_alone, siding_found}
 use Rattle.mem_regions.specs.Access.{bounds_of}
 use Rattle.rv_inst.specs.Operands.{class_of}
 use Rattle.rv_inst.specs.declared.classes.Class.TheVariants.{Memory as MemoryClass}
-use Rattle.cf_semantics.specs.Instructions.{kind_of}
-use Rattle.cf_semantics.specs.Bars.{last_op, row_bar, slide_bar}
-use Rattle.cf_semantics.specs.Kept.{siding_there}
-use Rattle.cf_semantics.specs.Layouts.{port}
-use Rattle.cf_semantics.specs.Options.{on}
-use Rattle.cf_semantics.specs.Passengers.{kind}
-use Rattle.cf_semantics.specs.State.{State, cell_at, siding_at}
+use Rattle.cf_semantics.specs.moves.Instructions.{kind_of}
+use Rattle.cf_semantics.specs.moves.Bars.{last_op, row_bar, slide_bar}
+use Rattle.cf_semantics.specs.moves.Kept.{siding_there}
+use Rattle.cf_semantics.specs.state.Layouts.{port}
+use Rattle.cf_semantics.specs.state.Options.{on}
+use Rattle.cf_semantics.specs.state.Passengers.{kind}
+use Rattle.cf_semantics.specs.state.State.{State, cell_at, siding_at}
 use Rattle.cf_core.specs.Processors.{IsOp, IsProcessor}
 use Rattle.cf_core.proofs.Berths.{length-siding}
 use Rattle.cf_core.proofs.Ported.{last-all, memory-port, port-cells, siding-cells}

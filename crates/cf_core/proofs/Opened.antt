@@ -10,11 +10,11 @@ use Rattle.cf_layout.specs.Layout.{Plan, SidingPlan}
 use Rattle.cf_bind.specs.declared.cell.Op.{Op}
 use Rattle.cf_bind.specs.declared.packet.Fetch.{Fetch}
 use Rattle.cf_bind.specs.declared.passenger.End.{End}
-use Rattle.cf_semantics.specs.Layouts.{isa_of}
-use Rattle.cf_semantics.specs.Options.{on}
-use Rattle.cf_semantics.specs.Runs.{empty_cell, empty_siding}
+use Rattle.cf_semantics.specs.state.Layouts.{isa_of}
+use Rattle.cf_semantics.specs.state.Options.{on}
+use Rattle.cf_semantics.specs.runs.Runs.{empty_cell, empty_siding}
 use Rattle.cf_bind.specs.declared.cell.Cell.{Cell}
-use Rattle.cf_semantics.specs.State.{State, cell_at}
+use Rattle.cf_semantics.specs.state.State.{State, cell_at}
 use Rattle.cf_stages.specs.Words.{word_of}
 use Rattle.cf_stages.proofs.Bits.{word-agrees}
 use Rattle.cf_stages.proofs.Empty.{word-none}

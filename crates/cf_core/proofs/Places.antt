@@ -10,13 +10,13 @@ use Rattle.cf_bind.specs.declared.moves.Move.TheVariants.{Issue, Emit, Climb, Fa
 use Rattle.cf_bind.specs.declared.passenger.Passenger.{Passenger}
 use Rattle.cf_layout.specs.Layout.{Plan}
 use Rattle.cf_passengers.specs.Facts.{IsBinding, IsPassenger, IsWritable}
-use Rattle.cf_semantics.specs.Kept.{Kept, KeptCell, KeptLane, KeptOp, KeptRegister, kept, kept_cell, kept_cells, kept_lane, kept_op, kept_ops, kept_register, lane_back, last_place, restored, siding_there}
-use Rattle.cf_semantics.specs.Kept as lane
-use Rattle.cf_semantics.specs.Layouts.{isa_of, port}
-use Rattle.cf_semantics.specs.Moves.{moved}
-use Rattle.cf_semantics.specs.Options.{on}
-use Rattle.cf_semantics.specs.Passengers.{reg_in}
-use Rattle.cf_semantics.specs.State.{State, cell_at, siding_at}
+use Rattle.cf_semantics.specs.moves.Kept.{Kept, KeptCell, KeptLane, KeptOp, KeptRegister, kept, kept_cell, kept_cells, kept_lane, kept_op, kept_ops, kept_register, lane_back, last_place, restored, siding_there}
+use Rattle.cf_semantics.specs.moves.Kept as lane
+use Rattle.cf_semantics.specs.state.Layouts.{isa_of, port}
+use Rattle.cf_semantics.specs.moves.Moves.{moved}
+use Rattle.cf_semantics.specs.state.Options.{on}
+use Rattle.cf_semantics.specs.state.Passengers.{reg_in}
+use Rattle.cf_semantics.specs.state.State.{State, cell_at, siding_at}
 use Rattle.cf_stages.proofs.Parts.{stage-high, stage-low}
 use Rattle.cf_confluence.proofs.back.TakenBack.{state_back}
 use Rattle.cf_core.specs.Places.{CanReturn, Each, FitsLane, IsOldCell, IsOldOp}

@@ -12,11 +12,11 @@ use Rattle.cf_bind.specs.declared.moves.Move.TheVariants.{Access}
 use Rattle.cf_layout.specs.Layout.{Plan, siding_of}
 use Rattle.cf_layout.specs.Accepted.{IsAccepted}
 use Rattle.cf_layout.proofs.Facts.{has_cells, memory_siding, memory_alone}
-use Rattle.cf_semantics.specs.Instructions.{kind_of}
-use Rattle.cf_semantics.specs.Layouts.{port}
-use Rattle.cf_semantics.specs.Bars.{last_op, access_bar, row_bar}
-use Rattle.cf_semantics.specs.Options.{on}
-use Rattle.cf_semantics.specs.State.{State, siding_at}
+use Rattle.cf_semantics.specs.moves.Instructions.{kind_of}
+use Rattle.cf_semantics.specs.state.Layouts.{port}
+use Rattle.cf_semantics.specs.moves.Bars.{last_op, access_bar, row_bar}
+use Rattle.cf_semantics.specs.state.Options.{on}
+use Rattle.cf_semantics.specs.state.State.{State, siding_at}
 use Rattle.cf_sidings.specs.Sidings.{CanAccess, IsReady, last_in}
 use Rattle.cf_core.specs.Processors.{IsProcessor, IsOp}
 use Rattle.cf_core.proofs.Berths.{length-siding}

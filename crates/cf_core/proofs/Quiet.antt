@@ -3,8 +3,8 @@ use Rattle.std.proofs.Common.{◌≡◌, List, [], ℕ}
 use Rattle.rv_machine.specs.Streams.{Streams}
 use Rattle.rv_machine.proofs.Told.{some_rest, rest-told, rest-spent, stays}
 use Rattle.cf_bind.specs.declared.moves.Move.{Move}
-use Rattle.cf_semantics.specs.State.{Moment}
-use Rattle.cf_semantics.specs.Moves.{next}
+use Rattle.cf_semantics.specs.state.State.{Moment}
+use Rattle.cf_semantics.specs.moves.Moves.{next}
 use Rattle.cf_core.specs.Processors.{Processor}
 use Rattle.cf_core.specs.Stepping.{Makes}
 

@@ -6,8 +6,8 @@ use Rattle.rv_mul.specs.Values.{computes}
 use Rattle.cf_layout.specs.Layout.{Plan, siding_of}
 use Rattle.cf_layout.specs.Accepted.{IsAccepted}
 use Rattle.cf_passengers.proofs.Computing.{siding-computes}
-use Rattle.cf_semantics.specs.Instructions.{is_memory}
-use Rattle.cf_semantics.specs.Options.{is_some}
+use Rattle.cf_semantics.specs.moves.Instructions.{is_memory}
+use Rattle.cf_semantics.specs.state.Options.{is_some}
 
 -- without an answer it is no load or store
 unanswered : (b : Bool) (answer : Option ℕ) → (b && not (is_some answer)) ≡ false → answer ≡ None → b ≡ false

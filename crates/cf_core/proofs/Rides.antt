@@ -7,12 +7,12 @@ use Rattle.cf_bind.specs.declared.moves.Bar.TheVariants.{Dead, AlreadyDone, NoPa
 use Rattle.cf_bind.specs.declared.moves.Move.TheVariants.{Execute, Launch, Recover}
 use Rattle.cf_bind.specs.declared.passenger.Passenger.{Passenger}
 use Rattle.cf_layout.specs.Layout.{Plan, last_stage, launch_stage, recover_stage, siding_of, unit_at}
-use Rattle.cf_semantics.specs.Bars.{entry_bar, execute_bar, exit_op_bar, first, is_full, launch_bar, recover_bar, source_bar, stops_at}
-use Rattle.cf_semantics.specs.Instructions.{is_memory}
-use Rattle.cf_semantics.specs.Layouts.{launches, recovers}
-use Rattle.cf_semantics.specs.Options.{on, is_some}
-use Rattle.cf_semantics.specs.Passengers.{kind, missing}
-use Rattle.cf_semantics.specs.State.{State, cell_at}
+use Rattle.cf_semantics.specs.moves.Bars.{entry_bar, execute_bar, exit_op_bar, first, is_full, launch_bar, recover_bar, source_bar, stops_at}
+use Rattle.cf_semantics.specs.moves.Instructions.{is_memory}
+use Rattle.cf_semantics.specs.state.Layouts.{launches, recovers}
+use Rattle.cf_semantics.specs.state.Options.{on, is_some}
+use Rattle.cf_semantics.specs.state.Passengers.{kind, missing}
+use Rattle.cf_semantics.specs.state.State.{State, cell_at}
 use Rattle.cf_stages.specs.Changes.{is_full_at, passenger_at}
 use Rattle.cf_passengers.specs.Waiting.{first_unknown}
 use Rattle.cf_core.specs.Marks.{is_free, mark_at, no_mark}

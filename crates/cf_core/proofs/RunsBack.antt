@@ -5,10 +5,10 @@ use Rattle.cf_bind.specs.declared.moves.Move.{Move}
 use Rattle.cf_bind.specs.declared.moves.Move.TheVariants.{Serve}
 use Rattle.cf_confluence.proofs.back.TakenBack.{moment_back}
 use Rattle.cf_layout.specs.Layout.{Plan}
-use Rattle.cf_semantics.specs.Kept.{kept, taken_back}
-use Rattle.cf_semantics.specs.Moves.{next}
-use Rattle.cf_semantics.specs.Runs.{IsRun, run}
-use Rattle.cf_semantics.specs.State.{Moment}
+use Rattle.cf_semantics.specs.moves.Kept.{kept, taken_back}
+use Rattle.cf_semantics.specs.moves.Moves.{next}
+use Rattle.cf_semantics.specs.runs.Runs.{IsRun, run}
+use Rattle.cf_semantics.specs.state.State.{Moment}
 use Rattle.cf_core.specs.Undo.{all_taken_back, kept_along}
 
 pub run-back : (plan : Plan) (m : Moment) (moves : List Move) → IsRun plan m moves → All (λ mv. mv ≢ Serve) moves → all_taken_back (run plan m moves) (kept_along plan m moves) ≡ m

@@ -9,12 +9,12 @@ use Rattle.cf_bind.specs.declared.moves.Bar.TheVariants.{Dead, AlreadyDone, NoUn
 use Rattle.cf_bind.specs.declared.passenger.Passenger.{Passenger}
 use Rattle.cf_layout.specs.Layout.{Plan, launch_stage, recover_stage, siding_of}
 use Rattle.cf_refinement.proofs.column.Sidings.{put_other}
-use Rattle.cf_semantics.specs.Bars.{entry_bar, execute_bar, exit_op_bar, first_of, is_full, launch_bar, recover_bar, source_bar, stops_at}
-use Rattle.cf_semantics.specs.Instructions.{is_memory}
-use Rattle.cf_semantics.specs.Layouts.{launches, recovers}
-use Rattle.cf_semantics.specs.Options.{on, is_some}
-use Rattle.cf_semantics.specs.Passengers.{kind}
-use Rattle.cf_semantics.specs.State.{State, cell_at, put_cell, siding_at, with_cell, with_siding}
+use Rattle.cf_semantics.specs.moves.Bars.{entry_bar, execute_bar, exit_op_bar, first_of, is_full, launch_bar, recover_bar, source_bar, stops_at}
+use Rattle.cf_semantics.specs.moves.Instructions.{is_memory}
+use Rattle.cf_semantics.specs.state.Layouts.{launches, recovers}
+use Rattle.cf_semantics.specs.state.Options.{on, is_some}
+use Rattle.cf_semantics.specs.state.Passengers.{kind}
+use Rattle.cf_semantics.specs.state.State.{State, cell_at, put_cell, siding_at, with_cell, with_siding}
 use Rattle.cf_stages.proofs.Parts.{cell-put-other}
 use Rattle.cf_core.specs.Marks.{mark_at}
 use Rattle.cf_core.specs.declared.marks.Mark.{Mark}

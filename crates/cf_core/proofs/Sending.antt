@@ -3,7 +3,7 @@ use Rattle.std.proofs.Common.{◌≡◌, ℕ, zero, suc, ◌≤◌, List, Some, 
 use Rattle.std.proofs.lemmas.List.{set-set}
 use Rattle.std.proofs.lemmas.Option.{slice_get_within}
 use Rattle.cf_bind.specs.declared.cell.Cell.{Cell}
-use Rattle.cf_semantics.specs.State.{cell_at, put_cell}
+use Rattle.cf_semantics.specs.state.State.{cell_at, put_cell}
 use Rattle.cf_core.proofs.Cells.{cell-put}
 
 -- the second change stands

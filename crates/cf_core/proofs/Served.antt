@@ -18,11 +18,11 @@ use Rattle.cf_bind.specs.declared.cell.Cell.{Cell}
 use Rattle.cf_bind.specs.declared.moves.Move.TheVariants.{Serve}
 use Rattle.cf_bind.specs.declared.passenger.Passenger.{Passenger}
 use Rattle.cf_bind.specs.declared.passenger.End.TheVariants as ending
-use Rattle.cf_semantics.specs.Options.{on, Where}
-use Rattle.cf_semantics.specs.State.{State, Moment, cell_at, put_cell, with_cell}
-use Rattle.cf_semantics.specs.Instructions.{serve_of, is_serial, kind_of}
-use Rattle.cf_semantics.specs.Passengers.{instruction, kind}
-use Rattle.cf_semantics.specs.Moves.{next, asked, served, answered, with_passenger}
+use Rattle.cf_semantics.specs.state.Options.{on, Where}
+use Rattle.cf_semantics.specs.state.State.{State, Moment, cell_at, put_cell, with_cell}
+use Rattle.cf_semantics.specs.moves.Instructions.{serve_of, is_serial, kind_of}
+use Rattle.cf_semantics.specs.state.Passengers.{instruction, kind}
+use Rattle.cf_semantics.specs.moves.Moves.{next, asked, served, answered, with_passenger}
 use Rattle.cf_stages.specs.Changes.{changed, passenger_at}
 use Rattle.cf_core.specs.Processors.{Processor, in_state}
 use Rattle.cf_core.proofs.Exits.{exit-any_rest}

@@ -15,11 +15,11 @@ use Rattle.cf_layout.specs.Accepted.{IsAccepted, IsSiding}
 use Rattle.cf_layout.specs.Layout.{Plan, SidingPlan, launch_stage, no_siding, recover_stage, siding_of}
 use Rattle.cf_layout.specs.Layout as layout
 use Rattle.cf_layout.proofs.Facts.{siding_found}
-use Rattle.cf_semantics.specs.Bars.{row_bar, slide_bar}
-use Rattle.cf_semantics.specs.Layouts.{port}
-use Rattle.cf_semantics.specs.Options.{on}
-use Rattle.cf_semantics.specs.Passengers.{kind}
-use Rattle.cf_semantics.specs.State.{State, cell_at, siding_at}
+use Rattle.cf_semantics.specs.moves.Bars.{row_bar, slide_bar}
+use Rattle.cf_semantics.specs.state.Layouts.{port}
+use Rattle.cf_semantics.specs.state.Options.{on}
+use Rattle.cf_semantics.specs.state.Passengers.{kind}
+use Rattle.cf_semantics.specs.state.State.{State, cell_at, siding_at}
 use Rattle.cf_stages.specs.Changes.{passenger_at}
 use Rattle.cf_stages.proofs.Parts.{stage-high, stage-low}
 use Rattle.cf_core.specs.Marks.{Within, alone, home_at, sites, touched}

@@ -15,13 +15,13 @@ use Rattle.cf_bind.specs.declared.passenger.Passenger.{Passenger}
 use Rattle.cf_bind.specs.Meeting.{Met, garnered, meeting, or_else, packet_met, passenger_met}
 use Rattle.cf_layout.specs.Layout.{Plan}
 use Rattle.cf_layout.specs.Words.{has_bit}
-use Rattle.cf_semantics.specs.Bars.{climb_bar, emit_bar, entry_bar, exit_bar, fall_bar, first, first_of, is_full, launch_bar, leave_bar, row_bar, source_bar, stops_at}
-use Rattle.cf_semantics.specs.Instructions.{is_memory}
-use Rattle.cf_semantics.specs.Layouts.{ends_units, launches, recovers}
-use Rattle.cf_semantics.specs.Moves.{cell_met, climbed, emitted, exited, fallen, left, left_live, moved, without_packet, without_passenger}
-use Rattle.cf_semantics.specs.Options.{on, is_some}
-use Rattle.cf_semantics.specs.Passengers.{kind}
-use Rattle.cf_semantics.specs.State.{State, cell_at, put_cell, with_cell}
+use Rattle.cf_semantics.specs.moves.Bars.{climb_bar, emit_bar, entry_bar, exit_bar, fall_bar, first, first_of, is_full, launch_bar, leave_bar, row_bar, source_bar, stops_at}
+use Rattle.cf_semantics.specs.moves.Instructions.{is_memory}
+use Rattle.cf_semantics.specs.state.Layouts.{ends_units, launches, recovers}
+use Rattle.cf_semantics.specs.moves.Moves.{cell_met, climbed, emitted, exited, fallen, left, left_live, moved, without_packet, without_passenger}
+use Rattle.cf_semantics.specs.state.Options.{on, is_some}
+use Rattle.cf_semantics.specs.state.Passengers.{kind}
+use Rattle.cf_semantics.specs.state.State.{State, cell_at, put_cell, with_cell}
 use Rattle.cf_stages.specs.Changes.{passenger_at}
 use Rattle.cf_stages.proofs.Bits.{word-bit}
 use Rattle.cf_stages.proofs.Parts.{cell-put, cell-put-other, stage-high, stage-low}

@@ -10,12 +10,12 @@ use Rattle.cf_bind.specs.declared.passenger.End.{End}
 use Rattle.cf_bind.specs.declared.passenger.Passenger.{Passenger}
 use Rattle.cf_bind.specs.declared.passenger.Guess.{Guess}
 use Rattle.cf_layout.specs.Layout.{Plan, launch_stage, recover_stage, siding_of}
-use Rattle.cf_semantics.specs.Bars.{last_op, launch_bar, recover_bar, row_bar, running}
-use Rattle.cf_semantics.specs.Layouts.{port}
-use Rattle.cf_semantics.specs.Moves.{accessed, back_in, cell_met, climbed, emitted, exited, fallen, issued, launch_trap, launched, left, left_live, moved, operation, recovered, set_last, sent, with_passenger, without_packet, without_passenger}
-use Rattle.cf_semantics.specs.Options.{on}
-use Rattle.cf_semantics.specs.Passengers.{finish, kind, trapped}
-use Rattle.cf_semantics.specs.State.{State, cell_at, siding_at, with_cell, with_siding}
+use Rattle.cf_semantics.specs.moves.Bars.{last_op, launch_bar, recover_bar, row_bar, running}
+use Rattle.cf_semantics.specs.state.Layouts.{port}
+use Rattle.cf_semantics.specs.moves.Moves.{accessed, back_in, cell_met, climbed, emitted, exited, fallen, issued, launch_trap, launched, left, left_live, moved, operation, recovered, set_last, sent, with_passenger, without_packet, without_passenger}
+use Rattle.cf_semantics.specs.state.Options.{on}
+use Rattle.cf_semantics.specs.state.Passengers.{finish, kind, trapped}
+use Rattle.cf_semantics.specs.state.State.{State, cell_at, siding_at, with_cell, with_siding}
 use Rattle.cf_core.specs.Marks.{alone, home_at, sites, touched}
 use Rattle.cf_core.specs.declared.touching.Touched.{Touched}
 use Rattle.cf_core.proofs.Bits.{SameBut}

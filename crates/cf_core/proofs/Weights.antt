@@ -7,8 +7,8 @@ use Rattle.cf_layout.specs.Layout.{Plan, SidingPlan, no_siding, cells_of}
 use Rattle.cf_layout.specs.Accepted.{IsAccepted, IsSiding}
 use Rattle.cf_bind.specs.declared.cell.Op.{Op}
 use Rattle.cf_bind.specs.declared.cell.Cell.{Cell}
-use Rattle.cf_semantics.specs.State.{State, cell_at}
-use Rattle.cf_semantics.specs.Weight.{cell_weight, cells_weight, larger, most_cells, siding_weight, sidings_weight}
+use Rattle.cf_semantics.specs.state.State.{State, cell_at}
+use Rattle.cf_semantics.specs.claims.Weight.{cell_weight, cells_weight, larger, most_cells, siding_weight, sidings_weight}
 use Rattle.cf_sidings.specs.Sidings.{cells_in}
 use Rattle.cf_core.specs.Processors.{IsProcessor}
 use Rattle.cf_core.proofs.Berths.{length-siding}

@@ -5,11 +5,11 @@ use Rattle.cf_bind.specs.declared.binding.Binding.{Binding}
 use Rattle.cf_bind.specs.declared.packet.Packet.{Packet}
 use Rattle.cf_bind.specs.declared.passenger.Passenger.{Passenger}
 use Rattle.cf_bind.specs.declared.passenger.Guess.{Guess}
-use Rattle.cf_semantics.specs.Instructions.{fetched}
-use Rattle.cf_semantics.specs.State.{State}
-use Rattle.cf_semantics.specs.Layouts.{isa_of}
-use Rattle.cf_semantics.specs.Passengers.{forgets, fresh, reg_in}
-use Rattle.cf_semantics.specs.Moves.{keeps, turned, written}
+use Rattle.cf_semantics.specs.moves.Instructions.{fetched}
+use Rattle.cf_semantics.specs.state.State.{State}
+use Rattle.cf_semantics.specs.state.Layouts.{isa_of}
+use Rattle.cf_semantics.specs.state.Passengers.{forgets, fresh, reg_in}
+use Rattle.cf_semantics.specs.moves.Moves.{keeps, turned, written}
 
 -- the instruction that is issued at an address with a guess
 abbrev pub issued_at : Plan → State → ℕ → Guess → Passenger

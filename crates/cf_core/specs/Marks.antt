@@ -3,11 +3,11 @@ use Rattle.std.specs.Prelude.{ℕ, ◌+◌, ◌-◌, ◌<◌, ◌≤◌, Bool, t
 use Rattle.cf_layout.specs.Layout.{Plan, launch_stage, recover_stage, siding_of}
 use Rattle.cf_bind.specs.declared.moves.Move.{Move}
 use Rattle.cf_bind.specs.declared.moves.Move.TheVariants.{Issue, Emit, Climb, Fall, Meet, Execute, Send, Launch, Slide, Access, Recover, Leave, Exit, Serve}
-use Rattle.cf_semantics.specs.Options.{on, is_some}
-use Rattle.cf_semantics.specs.State.{State}
-use Rattle.cf_semantics.specs.Bars.{row_bar}
-use Rattle.cf_semantics.specs.Layouts.{port}
-use Rattle.cf_semantics.specs.Passengers.{kind}
+use Rattle.cf_semantics.specs.state.Options.{on, is_some}
+use Rattle.cf_semantics.specs.state.State.{State}
+use Rattle.cf_semantics.specs.moves.Bars.{row_bar}
+use Rattle.cf_semantics.specs.state.Layouts.{port}
+use Rattle.cf_semantics.specs.state.Passengers.{kind}
 use Rattle.cf_stages.specs.Changes.{packet_at, passenger_at}
 use Rattle.cf_stages.specs.Words.{with_bit, word_of}
 use Rattle.cf_core.specs.Masks.{owes_at, rides, stops_there}

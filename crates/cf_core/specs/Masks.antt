@@ -4,9 +4,9 @@ use Rattle.cf_layout.specs.Layout.{Plan}
 use Rattle.cf_bind.specs.declared.passenger.Passenger.{Passenger}
 use Rattle.cf_bind.specs.declared.moves.Move.{Move}
 use Rattle.cf_bind.specs.declared.moves.Move.TheVariants.{Execute, Launch, Recover}
-use Rattle.cf_semantics.specs.Options.{on, is_some}
-use Rattle.cf_semantics.specs.State.{State, cell_at}
-use Rattle.cf_semantics.specs.Bars.{bar, stops_at}
+use Rattle.cf_semantics.specs.state.Options.{on, is_some}
+use Rattle.cf_semantics.specs.state.State.{State, cell_at}
+use Rattle.cf_semantics.specs.moves.Bars.{bar, stops_at}
 use Rattle.cf_stages.specs.Words.{met_word, packet_word, passenger_word, word_of}
 use Rattle.cf_core.specs.declared.masks.Masks.{Masks}
 

@@ -8,12 +8,12 @@ use Rattle.cf_layout.specs.Accepted.{IsAccepted}
 use Rattle.cf_bind.specs.declared.cell.Cell.{Cell}
 use Rattle.cf_bind.specs.declared.cell.Op.{Op}
 use Rattle.cf_bind.specs.declared.moves.Move.{Move}
-use Rattle.cf_semantics.specs.Instructions.{kind_of, is_memory, access_trap}
-use Rattle.cf_semantics.specs.State.{State, siding_at}
-use Rattle.cf_semantics.specs.Layouts.{isa_of}
-use Rattle.cf_semantics.specs.Determined.{IsSame}
-use Rattle.cf_semantics.specs.Moves.{moved}
-use Rattle.cf_semantics.specs.Runs.{opened as opened_on}
+use Rattle.cf_semantics.specs.moves.Instructions.{kind_of, is_memory, access_trap}
+use Rattle.cf_semantics.specs.state.State.{State, siding_at}
+use Rattle.cf_semantics.specs.state.Layouts.{isa_of}
+use Rattle.cf_semantics.specs.claims.Determined.{IsSame}
+use Rattle.cf_semantics.specs.moves.Moves.{moved}
+use Rattle.cf_semantics.specs.runs.Runs.{opened as opened_on}
 use Rattle.cf_stages.specs.Changes.{IsCell}
 use Rattle.cf_passengers.specs.Facts.{IsWritable, IsPacket, IsOperation, IsPassenger}
 

@@ -4,7 +4,7 @@ use Rattle.cf_bind.specs.declared.binding.Binding.{Binding}
 use Rattle.cf_bind.specs.declared.packet.Packet.{Packet}
 use Rattle.cf_bind.specs.declared.packet.Packet.TheVariants.{Value, Turn, Halt}
 use Rattle.cf_bind.specs.declared.passenger.Passenger.{Passenger}
-use Rattle.cf_semantics.specs.Options.{is_some}
+use Rattle.cf_semantics.specs.state.Options.{is_some}
 use Rattle.cf_passengers.specs.Waiting.{first_unknown}
 
 -- it is live and was not executed

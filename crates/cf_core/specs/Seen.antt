@@ -4,7 +4,7 @@ use Rattle.cf_bind.specs.declared.cell.Cell.{Cell}
 use Rattle.cf_bind.specs.declared.passenger.Passenger.{Passenger}
 use Rattle.cf_semantics.specs.declared.event.Event.{Event}
 use Rattle.cf_semantics.specs.declared.event.Event.TheVariants as event
-use Rattle.cf_semantics.specs.Options.{on, is_some}
+use Rattle.cf_semantics.specs.state.Options.{on, is_some}
 
 -- a live passenger is dead now
 abbrev pub died : Option Passenger → Option Passenger → Bool

@@ -11,13 +11,13 @@ use Rattle.cf_bind.specs.declared.moves.Move.{Move}
 use Rattle.cf_bind.specs.declared.moves.Move.TheVariants.{Serve}
 use Rattle.cf_bind.specs.declared.passenger.End.TheVariants as ending
 use Rattle.cf_bind.specs.declared.passenger.Passenger.{Passenger}
-use Rattle.cf_semantics.specs.Options.{Where}
+use Rattle.cf_semantics.specs.state.Options.{Where}
 use Rattle.cf_semantics.specs.declared.event.Event.{Event}
-use Rattle.cf_semantics.specs.State.{State}
-use Rattle.cf_semantics.specs.Bars.{bar}
-use Rattle.cf_semantics.specs.Events.{IsEvent}
-use Rattle.cf_semantics.specs.Moves.{next, answered, with_passenger}
-use Rattle.cf_semantics.specs.Passengers.{instruction}
+use Rattle.cf_semantics.specs.state.State.{State}
+use Rattle.cf_semantics.specs.moves.Bars.{bar}
+use Rattle.cf_semantics.specs.moves.Events.{IsEvent}
+use Rattle.cf_semantics.specs.moves.Moves.{next, answered, with_passenger}
+use Rattle.cf_semantics.specs.state.Passengers.{instruction}
 use Rattle.cf_stages.specs.Changes.{changed, passenger_at}
 use Rattle.cf_core.specs.Processors.{Processor, in_state}
 use Rattle.cf_core.specs.declared.step.Step.{Step}

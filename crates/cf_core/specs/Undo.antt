@@ -4,11 +4,11 @@ use Rattle.mem_regions.specs.Bytes.{le_bytes}
 use Rattle.cf_layout.specs.Layout.{Plan}
 use Rattle.cf_bind.specs.declared.moves.Move.{Move}
 use Rattle.cf_bind.specs.declared.moves.Move.TheVariants.{Serve}
-use Rattle.cf_semantics.specs.Bars.{bar}
-use Rattle.cf_semantics.specs.Kept.{Kept, KeptBytes, KeptCell, KeptLane, KeptOp, KeptRegister, kept, taken_back}
-use Rattle.cf_semantics.specs.Kept as lane
-use Rattle.cf_semantics.specs.Moves.{moved, next}
-use Rattle.cf_semantics.specs.State.{State, Moment}
+use Rattle.cf_semantics.specs.moves.Bars.{bar}
+use Rattle.cf_semantics.specs.moves.Kept.{Kept, KeptBytes, KeptCell, KeptLane, KeptOp, KeptRegister, kept, taken_back}
+use Rattle.cf_semantics.specs.moves.Kept as lane
+use Rattle.cf_semantics.specs.moves.Moves.{moved, next}
+use Rattle.cf_semantics.specs.state.State.{State, Moment}
 use Rattle.cf_core.specs.Processors.{Processor, IsProcessor}
 use Rattle.cf_core.specs.declared.old_number.OldNumber.{OldNumber}
 use Rattle.cf_core.specs.declared.undo.Few.{Few}

@@ -2,7 +2,7 @@
 
 ghost use Rattle.std.specs.Prelude.{◌≡◌, ◌-◌, [], ◌∷◌, IfSome, length, map, take};
 ghost use Rattle.cf_passengers.specs.Facts.{IsWritable};
-ghost use Rattle.cf_semantics.specs.Kept.{bytes_back, cells_back, lane_back, ops_back, register_back, restored};
+ghost use Rattle.cf_semantics.specs.moves.Kept.{bytes_back, cells_back, lane_back, ops_back, register_back, restored};
 ghost use Rattle.cf_core.specs.Processors.{in_state};
 ghost use Rattle.cf_core.specs.Places.{Each, FitsLane, IsOldCell, IsOldOp, CanReturn, with_cells, with_lane, with_memory, with_registers, with_sidings};
 ghost use Rattle.cf_core.specs.Undo.{IsAfter, cell_kept, kept_by, lane_kept, listed, number_kept, op_kept, register_kept};
@@ -95,7 +95,7 @@ impl Processor {
     }
 
     /// All that is kept.
-    #[tactic(auto, unfolding(crate::specs::Undo::kept_by, cf_semantics::specs::Kept::restored))]
+    #[tactic(auto, unfolding(crate::specs::Undo::kept_by, cf_semantics::specs::moves::Kept::restored))]
     fn put_back(&mut self, undo: &Undo)
         requires { CanReturn self.old undo.now }
         ensures { self.new ≡ in_state self.old (restored self.old.state (kept_by undo.now)) }

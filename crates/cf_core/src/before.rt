@@ -5,9 +5,9 @@ ghost use Rattle.rv_inst.specs.Operands.{class_of};
 ghost use Rattle.rv_inst.specs.Accesses.{access_made};
 ghost use Rattle.rv_inst.specs.declared.classes.Class.{Class as Classes};
 ghost use Rattle.cf_bind.specs.declared.moves.Move.TheVariants as mv;
-ghost use Rattle.cf_semantics.specs.Bars.{bar as first_bar, row_bar};
-ghost use Rattle.cf_semantics.specs.Kept.{kept, kept_bytes, kept_cell, kept_cells, kept_lane, kept_op, kept_ops, kept_range, kept_register, siding_there};
-ghost use Rattle.cf_semantics.specs.State.{siding_at};
+ghost use Rattle.cf_semantics.specs.moves.Bars.{bar as first_bar, row_bar};
+ghost use Rattle.cf_semantics.specs.moves.Kept.{kept, kept_bytes, kept_cell, kept_cells, kept_lane, kept_op, kept_ops, kept_range, kept_register, siding_there};
+ghost use Rattle.cf_semantics.specs.state.State.{siding_at};
 ghost use Rattle.cf_core.specs.Processors.{IsProcessor};
 ghost use Rattle.cf_core.specs.Undo.{CanStand, cell_kept, kept_by, lane_kept, listed, number_kept, op_kept, register_kept};
 
@@ -182,7 +182,7 @@ impl Processor {
     }
 
     /// The move with the old contents of what it writes.
-    #[tactic(auto, unfolding(crate::specs::Undo::kept_by, cf_semantics::specs::Kept::kept))]
+    #[tactic(auto, unfolding(crate::specs::Undo::kept_by, cf_semantics::specs::moves::Kept::kept))]
     fn undo_of(&self, m: Move) -> Undo
         requires facts { IsProcessor self.now.plan self.now.state }
         requires allowed { row_bar self.now.plan self.now.state m ≡ None }

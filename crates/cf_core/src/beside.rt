@@ -2,10 +2,10 @@
 
 ghost use Rattle.std.specs.Prelude.{◌≡◌, ◌<◌, None, length};
 ghost use Rattle.cf_bind.specs.declared.moves.Move.TheVariants as mv;
-ghost use Rattle.cf_semantics.specs.Bars.{row_bar, last_op as op_at_end, entry_bar as bar_of_entry, exit_op_bar as bar_of_return};
-ghost use Rattle.cf_semantics.specs.Instructions.{is_memory as loads_or_stores};
-ghost use Rattle.cf_semantics.specs.Layouts.{port as port_of};
-ghost use Rattle.cf_semantics.specs.State.{siding_at};
+ghost use Rattle.cf_semantics.specs.moves.Bars.{row_bar, last_op as op_at_end, entry_bar as bar_of_entry, exit_op_bar as bar_of_return};
+ghost use Rattle.cf_semantics.specs.moves.Instructions.{is_memory as loads_or_stores};
+ghost use Rattle.cf_semantics.specs.state.Layouts.{port as port_of};
+ghost use Rattle.cf_semantics.specs.state.State.{siding_at};
 ghost use Rattle.cf_core.specs.Processors.{after_move, IsProcessor};
 
 use crate::processor::Processor;
@@ -53,7 +53,7 @@ impl Processor {
 
     /// The number of Memory's siding, at whose end the port to memory is.
     #[inline(always)]
-    #[tactic(auto, unfolding(cf_semantics::specs::Layouts::port))]
+    #[tactic(auto, unfolding(cf_semantics::specs::state::Layouts::port))]
     pub(crate) fn port(&self) -> u32
         ensures { result ≡ port_of self.now.plan }
     {
@@ -104,7 +104,7 @@ impl Processor {
     /// The instruction of the stage launches its operation. A load or a store that memory does not permit
     /// traps instead.
     #[inline(never)]
-    #[tactic(auto, using(crate::proofs::Entering::entering), unfolding(cf_semantics::specs::Moves::moved))]
+    #[tactic(auto, using(crate::proofs::Entering::entering), unfolding(cf_semantics::specs::moves::Moves::moved))]
     pub(crate) fn launch(&mut self, i: u32)
         requires facts { IsProcessor self.old.plan self.old.state }
         requires allowed { row_bar self.old.plan self.old.state (mv.Launch i) ≡ None }
@@ -144,7 +144,7 @@ impl Processor {
 
     /// The operation in the cell of a siding moves to the next one.
     #[inline(never)]
-    #[tactic(auto, unfolding(cf_sidings::specs::Sidings::moved_on, cf_semantics::specs::Moves::moved))]
+    #[tactic(auto, unfolding(cf_sidings::specs::Sidings::moved_on, cf_semantics::specs::moves::Moves::moved))]
     pub(crate) fn slide(&mut self, k: u32, c: u32)
         requires { row_bar self.old.plan self.old.state (mv.Slide k c) ≡ None }
         ensures { self.new ≡ after_move self.old (mv.Slide k c) }
@@ -167,7 +167,7 @@ impl Processor {
 
     /// The load or store at the end of Memory's siding is made and answered.
     #[inline(never)]
-    #[tactic(auto, using(crate::proofs::Ported::ported), unfolding(cf_sidings::specs::Sidings::after_access, cf_sidings::specs::Sidings::mem_after_access, cf_semantics::specs::Moves::moved))]
+    #[tactic(auto, using(crate::proofs::Ported::ported), unfolding(cf_sidings::specs::Sidings::after_access, cf_sidings::specs::Sidings::mem_after_access, cf_semantics::specs::moves::Moves::moved))]
     pub(crate) fn access(&mut self)
         requires facts { IsProcessor self.old.plan self.old.state }
         requires allowed { row_bar self.old.plan self.old.state mv.Access ≡ None }
@@ -218,7 +218,7 @@ impl Processor {
 
     /// The instruction of the stage takes its operation out of the siding. A live one finishes.
     #[inline(never)]
-    #[tactic(auto, using(crate::proofs::Returning::returning), unfolding(cf_semantics::specs::Moves::moved))]
+    #[tactic(auto, using(crate::proofs::Returning::returning), unfolding(cf_semantics::specs::moves::Moves::moved))]
     pub(crate) fn recover(&mut self, i: u32)
         requires facts { IsProcessor self.old.plan self.old.state }
         requires allowed { row_bar self.old.plan self.old.state (mv.Recover i) ≡ None }

@@ -2,10 +2,10 @@
 
 ghost use Rattle.std.specs.Prelude.{◌≡◌, ◌+◌, ◌≤◌, None, Some, IfSome, length};
 ghost use Rattle.cf_bind.specs.declared.moves.Move.TheVariants as mv;
-ghost use Rattle.cf_semantics.specs.Bars.{row_bar};
-ghost use Rattle.cf_semantics.specs.Layouts.{isa_of as set_of};
-ghost use Rattle.cf_semantics.specs.Moves.{fetch_at as fetch_there};
-ghost use Rattle.cf_semantics.specs.State.{cell_at};
+ghost use Rattle.cf_semantics.specs.moves.Bars.{row_bar};
+ghost use Rattle.cf_semantics.specs.state.Layouts.{isa_of as set_of};
+ghost use Rattle.cf_semantics.specs.moves.Moves.{fetch_at as fetch_there};
+ghost use Rattle.cf_semantics.specs.state.State.{cell_at};
 ghost use Rattle.cf_passengers.specs.Facts.{IsBinding, IsPacket, IsPassenger, IsWritable};
 ghost use Rattle.cf_passengers.specs.Waiting.{listed, listed_one};
 ghost use Rattle.cf_core.specs.Ends.{forgotten, issued_at as passenger_at, requested, taken_in};
@@ -102,7 +102,7 @@ impl Processor {
 
     /// A new instruction enters the lowest stage, and fetch goes on by the guess.
     #[inline(never)]
-    #[tactic(auto, unfolding(cf_semantics::specs::Moves::moved))]
+    #[tactic(auto, unfolding(cf_semantics::specs::moves::Moves::moved))]
     pub(crate) fn issue(&mut self, guess: Guess)
         requires { row_bar self.old.plan self.old.state (mv.Issue guess) ≡ None }
         ensures { self.new ≡ after_move self.old (mv.Issue guess) }
@@ -154,7 +154,7 @@ impl Processor {
 
     /// The result of the lowest stage leaves.
     #[inline(never)]
-    #[tactic(auto, unfolding(cf_semantics::specs::Moves::moved))]
+    #[tactic(auto, unfolding(cf_semantics::specs::moves::Moves::moved))]
     pub(crate) fn exit(&mut self)
         requires facts { IsProcessor self.old.plan self.old.state }
         requires allowed { row_bar self.old.plan self.old.state mv.Exit ≡ None }

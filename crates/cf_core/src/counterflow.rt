@@ -3,12 +3,12 @@
 ghost use Rattle.std.specs.Prelude.{◌≡◌, ◌+◌, ◌<◌, ◌≤◌, ◌^◌, IfOk, IfSome, None, Some, length, slice_get, slice_index};
 ghost use Rattle.cf_io.specs.Causes.{HasCause};
 ghost use Rattle.rv_machine.specs.Streams.{streams_of};
-ghost use Rattle.cf_semantics.specs.Bars.{bar as first_bar};
+ghost use Rattle.cf_semantics.specs.moves.Bars.{bar as first_bar};
 ghost use Rattle.mem_regions.specs.Access.{bounds_of};
 ghost use Rattle.cf_layout.specs.Layout.{cells_of};
-ghost use Rattle.cf_semantics.specs.State.{cell_at, siding_at};
-ghost use Rattle.cf_semantics.specs.Layouts.{isa_of};
-ghost use Rattle.cf_semantics.specs.Passengers.{cached as kept_value};
+ghost use Rattle.cf_semantics.specs.state.State.{cell_at, siding_at};
+ghost use Rattle.cf_semantics.specs.state.Layouts.{isa_of};
+ghost use Rattle.cf_semantics.specs.state.Passengers.{cached as kept_value};
 ghost use Rattle.cf_core.specs.Asking.{AsksInput, AsksOutput};
 ghost use Rattle.cf_core.specs.Processors.{opened, IsOp, IsProcessor, IsStage};
 ghost use Rattle.cf_core.specs.Stepping.{MakesOrFails, Steps, input_made, input_stepped, output_made, output_stepped};
@@ -57,7 +57,7 @@ impl Model for Core {
 impl Core {
     /// A processor of this layout in which nothing stands: it fetches at the program counter of the machine and has its
     /// registers, memory and retired count. Where there is no memory for its parts the machine is dropped.
-    #[tactic(auto, using(crate::proofs::Opened::opening), unfolding(crate::specs::Processors::opened, cf_semantics::specs::Runs::opened, cf_sidings::specs::Sidings::empty_sidings))]
+    #[tactic(auto, using(crate::proofs::Opened::opening), unfolding(crate::specs::Processors::opened, cf_semantics::specs::runs::Runs::opened, cf_sidings::specs::Sidings::empty_sidings))]
     pub fn new(alloc: Global, layout: Layout, machine: Machine) -> Result<Core, AllocError>
         ensures { IfOk result (λ core. core ≡ opened layout machine) }
     {

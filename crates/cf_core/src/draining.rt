@@ -1,7 +1,7 @@
 //! Whether anything stands in the processor.
 
 ghost use Rattle.std.specs.Prelude.{◌≡◌};
-ghost use Rattle.cf_semantics.specs.Drained.{is_drained, is_empty};
+ghost use Rattle.cf_semantics.specs.state.Drained.{is_drained, is_empty};
 
 use crate::counterflow::Core;
 use crate::processor::Processor;
@@ -20,7 +20,7 @@ impl Processor {
 impl Core {
     /// Whether no instruction, result, request or operation is anywhere.
     #[inline(always)]
-    #[tactic(auto, unfolding(cf_semantics::specs::Drained::is_drained))]
+    #[tactic(auto, unfolding(cf_semantics::specs::state::Drained::is_drained))]
     pub fn drained(&self) -> bool
         ensures { result ≡ is_drained self.now.state }
     {

@@ -2,7 +2,7 @@
 
 ghost use Rattle.std.specs.Prelude.{◌≡◌, ◌<◌, ◌≤◌, None};
 ghost use Rattle.cf_bind.specs.declared.moves.Move.TheVariants as mv;
-ghost use Rattle.cf_semantics.specs.Bars.{row_bar};
+ghost use Rattle.cf_semantics.specs.moves.Bars.{row_bar};
 ghost use Rattle.cf_core.specs.Marks.{is_free, keeps_marks as keeps_all, marks_of, passes_by as stands_by};
 ghost use Rattle.cf_core.specs.Masks.{rides, stops_there};
 ghost use Rattle.cf_core.specs.Processors.{IsProcessor};

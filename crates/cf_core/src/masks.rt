@@ -1,7 +1,7 @@
 //! Words of what stands at each stage and of what can be done there.
 
 ghost use Rattle.std.specs.Prelude.{◌≡◌, ◌&&◌, if◌then◌else◌, not};
-ghost use Rattle.cf_semantics.specs.Options.{is_some};
+ghost use Rattle.cf_semantics.specs.state.Options.{is_some};
 ghost use Rattle.cf_core.specs.Masks.{masks_of};
 
 use crate::counterflow::Core;

@@ -4,8 +4,8 @@ ghost use Rattle.std.specs.Prelude.{◌≡◌, ◌≢◌, ◌+◌, ◌<◌, ◌^
 ghost use Rattle.cf_io.specs.Causes.{HasCause};
 ghost use Rattle.rv_machine.specs.Streams.{streams_of};
 ghost use Rattle.cf_bind.specs.declared.moves.Move.TheVariants as mv;
-ghost use Rattle.cf_semantics.specs.Bars.{bar as first_bar, row_bar as bar_of_row};
-ghost use Rattle.cf_semantics.specs.Events.{IsEvent};
+ghost use Rattle.cf_semantics.specs.moves.Bars.{bar as first_bar, row_bar as bar_of_row};
+ghost use Rattle.cf_semantics.specs.moves.Events.{IsEvent};
 ghost use Rattle.cf_core.specs.Asking.{AsksInput, AsksOutput};
 ghost use Rattle.cf_core.specs.Processors.{after_move, IsProcessor};
 ghost use Rattle.cf_core.specs.Stepping.{MakesOrFails, input_made, output_made};
@@ -43,7 +43,7 @@ impl Processor {
 
     /// What bars the move. Nothing is allowed once the program has ended, or the input or the output has failed.
     #[inline(always)]
-    #[tactic(auto, unfolding(cf_semantics::specs::Bars::bar))]
+    #[tactic(auto, unfolding(cf_semantics::specs::moves::Bars::bar))]
     pub(crate) fn bar(&self, m: Move) -> Option<Bar>
         requires { IsProcessor self.now.plan self.now.state }
         ensures { result ≡ first_bar self.now.plan self.now.state m }
@@ -89,7 +89,7 @@ impl Processor {
 
     /// Makes an allowed move, and tells what is seen of it, or that the input or the output failed it.
     #[inline(always)]
-    #[tactic(auto, using(crate::proofs::Steps::stepping), unfolding(cf_semantics::specs::Bars::bar, crate::specs::Stepping::MakesOrFails))]
+    #[tactic(auto, using(crate::proofs::Steps::stepping), unfolding(cf_semantics::specs::moves::Bars::bar, crate::specs::Stepping::MakesOrFails))]
     pub(crate) fn make<S: Source, K: Sink>(
         &mut self,
         m: Move,

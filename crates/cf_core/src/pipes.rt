@@ -2,8 +2,8 @@
 
 ghost use Rattle.std.specs.Prelude.{◌≡◌, None, Some};
 ghost use Rattle.cf_bind.specs.declared.moves.Move.TheVariants as mv;
-ghost use Rattle.cf_semantics.specs.Bars.{row_bar, fall_bar as bar_between};
-ghost use Rattle.cf_semantics.specs.Events.{IsEvent};
+ghost use Rattle.cf_semantics.specs.moves.Bars.{row_bar, fall_bar as bar_between};
+ghost use Rattle.cf_semantics.specs.moves.Events.{IsEvent};
 ghost use Rattle.cf_core.specs.Seen.{died, seen as seen_of};
 ghost use Rattle.cf_core.specs.Processors.{after_move, IsProcessor};
 
@@ -76,7 +76,7 @@ impl Processor {
 
     /// The instruction of the stage moves one stage up.
     #[inline(always)]
-    #[tactic(auto, unfolding(cf_stages::specs::Changes::climbs, cf_stages::specs::Changes::climbed, cf_semantics::specs::Moves::moved))]
+    #[tactic(auto, unfolding(cf_stages::specs::Changes::climbs, cf_stages::specs::Changes::climbed, cf_semantics::specs::moves::Moves::moved))]
     pub(crate) fn climb(&mut self, i: u32)
         requires { row_bar self.old.plan self.old.state (mv.Climb i) ≡ None }
         ensures { self.new ≡ after_move self.old (mv.Climb i) }
@@ -98,7 +98,7 @@ impl Processor {
 
     /// The result of the stage moves one stage down.
     #[inline(always)]
-    #[tactic(auto, unfolding(cf_stages::specs::Changes::falls, cf_stages::specs::Changes::fallen, cf_semantics::specs::Moves::moved))]
+    #[tactic(auto, unfolding(cf_stages::specs::Changes::falls, cf_stages::specs::Changes::fallen, cf_semantics::specs::moves::Moves::moved))]
     pub(crate) fn fall(&mut self, i: u32)
         requires { row_bar self.old.plan self.old.state (mv.Fall i) ≡ None }
         ensures { self.new ≡ after_move self.old (mv.Fall i) }
@@ -127,7 +127,7 @@ impl Processor {
 
     /// The instruction and the result of the stage meet, and what is seen of it from outside.
     #[inline(always)]
-    #[tactic(auto, using(crate::proofs::Meetings::meeting_in_stage), unfolding(cf_semantics::specs::Moves::moved))]
+    #[tactic(auto, using(crate::proofs::Meetings::meeting_in_stage), unfolding(cf_semantics::specs::moves::Moves::moved))]
     pub(crate) fn meet(&mut self, i: u32) -> Event
         requires { row_bar self.old.plan self.old.state (mv.Meet i) ≡ None }
         ensures processor { self.new ≡ after_move self.old (mv.Meet i) }

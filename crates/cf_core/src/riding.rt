@@ -3,10 +3,10 @@
 ghost use Rattle.std.specs.Prelude.{◌≡◌, ◌==◌, ◌<◌, ◌≤◌, ◌&&◌, None, Some, false, length, not};
 ghost use Rattle.cf_bind.specs.declared.moves.Move.TheVariants as mv;
 ghost use Rattle.cf_layout.specs.Layout.{launch_stage, recover_stage, siding_of};
-ghost use Rattle.cf_semantics.specs.Bars.{entry_bar};
-ghost use Rattle.cf_semantics.specs.Instructions.{is_memory as loads_or_stores};
-ghost use Rattle.cf_semantics.specs.Options.{on, is_some};
-ghost use Rattle.cf_semantics.specs.Passengers.{kind as kind_of_passenger};
+ghost use Rattle.cf_semantics.specs.moves.Bars.{entry_bar};
+ghost use Rattle.cf_semantics.specs.moves.Instructions.{is_memory as loads_or_stores};
+ghost use Rattle.cf_semantics.specs.state.Options.{on, is_some};
+ghost use Rattle.cf_semantics.specs.state.Passengers.{kind as kind_of_passenger};
 ghost use Rattle.cf_stages.specs.Changes.{is_full_at, passenger_at};
 ghost use Rattle.cf_core.specs.Marks.{is_free, mark_at};
 ghost use Rattle.cf_core.specs.Masks.{stops_there};

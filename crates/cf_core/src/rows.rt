@@ -2,7 +2,7 @@
 
 ghost use Rattle.std.specs.Prelude.{◌≡◌, None, find};
 ghost use Rattle.std.specs.Option.{option_copied};
-ghost use Rattle.cf_semantics.specs.Bars.{first_of as first_bar_of};
+ghost use Rattle.cf_semantics.specs.moves.Bars.{first_of as first_bar_of};
 
 use cf_bind::Bar;
 

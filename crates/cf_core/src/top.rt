@@ -2,10 +2,10 @@
 
 ghost use Rattle.std.specs.Prelude.{◌≡◌, ◌+◌, ◌<◌, ◌^◌, None, Some, IfSome};
 ghost use Rattle.cf_bind.specs.declared.moves.Move.TheVariants as mv;
-ghost use Rattle.cf_semantics.specs.Bars.{row_bar};
-ghost use Rattle.cf_semantics.specs.Events.{IsEvent};
-ghost use Rattle.cf_semantics.specs.Moves.{left_live};
-ghost use Rattle.cf_semantics.specs.State.{cell_at};
+ghost use Rattle.cf_semantics.specs.moves.Bars.{row_bar};
+ghost use Rattle.cf_semantics.specs.moves.Events.{IsEvent};
+ghost use Rattle.cf_semantics.specs.moves.Moves.{left_live};
+ghost use Rattle.cf_semantics.specs.state.State.{cell_at};
 ghost use Rattle.cf_passengers.specs.Facts.{IsBinding};
 ghost use Rattle.cf_core.specs.Ends.{written_back};
 ghost use Rattle.cf_core.specs.Processors.{after_move, in_state, IsProcessor};
@@ -40,7 +40,7 @@ impl Processor {
 
     /// The register file answers the first request.
     #[inline(always)]
-    #[tactic(auto, unfolding(cf_semantics::specs::Moves::moved))]
+    #[tactic(auto, unfolding(cf_semantics::specs::moves::Moves::moved))]
     pub(crate) fn emit(&mut self)
         requires facts { IsProcessor self.old.plan self.old.state }
         requires allowed { row_bar self.old.plan self.old.state mv.Emit ≡ None }
@@ -99,7 +99,7 @@ impl Processor {
 
     /// The instruction of the highest stage leaves, and what is seen of it from outside.
     #[inline(never)]
-    #[tactic(auto, unfolding(cf_semantics::specs::Moves::moved))]
+    #[tactic(auto, unfolding(cf_semantics::specs::moves::Moves::moved))]
     pub(crate) fn leave(&mut self) -> Event
         requires facts { IsProcessor self.old.plan self.old.state }
         requires allowed { row_bar self.old.plan self.old.state mv.Leave ≡ None }

@@ -1,8 +1,8 @@
 //! Which stages a move can change.
 
 ghost use Rattle.std.specs.Prelude.{◌≡◌, ◌<◌, ◌≤◌, None, length};
-ghost use Rattle.cf_semantics.specs.Bars.{row_bar};
-ghost use Rattle.cf_semantics.specs.Options.{on};
+ghost use Rattle.cf_semantics.specs.moves.Bars.{row_bar};
+ghost use Rattle.cf_semantics.specs.state.Options.{on};
 ghost use Rattle.cf_core.specs.Marks.{home_at, sites as sites_of, touched as touched_by};
 ghost use Rattle.cf_core.specs.Processors.{IsProcessor};
 

@@ -2,7 +2,7 @@
 
 ghost use Rattle.std.specs.Prelude.{◌≡◌, None};
 ghost use Rattle.cf_bind.specs.declared.moves.Move.TheVariants as mv;
-ghost use Rattle.cf_semantics.specs.Bars.{row_bar, source_bar as bar_of_sources};
+ghost use Rattle.cf_semantics.specs.moves.Bars.{row_bar, source_bar as bar_of_sources};
 ghost use Rattle.cf_core.specs.Processors.{after_move, IsProcessor};
 
 use crate::processor::Processor;
@@ -44,7 +44,7 @@ impl Processor {
 
     /// A unit of the stage executes its instruction.
     #[inline(never)]
-    #[tactic(auto, using(cf_passengers::proofs::Computing::computing), unfolding(cf_semantics::specs::Moves::moved))]
+    #[tactic(auto, using(cf_passengers::proofs::Computing::computing), unfolding(cf_semantics::specs::moves::Moves::moved))]
     pub(crate) fn execute(&mut self, i: u32)
         requires facts { IsProcessor self.old.plan self.old.state }
         requires allowed { row_bar self.old.plan self.old.state (mv.Execute i) ≡ None }
@@ -76,7 +76,7 @@ impl Processor {
 
     /// The instruction of the stage sends what it owes.
     #[inline(never)]
-    #[tactic(auto, using(crate::proofs::Sending::sending), unfolding(cf_semantics::specs::Moves::moved))]
+    #[tactic(auto, using(crate::proofs::Sending::sending), unfolding(cf_semantics::specs::moves::Moves::moved))]
     pub(crate) fn send(&mut self, i: u32)
         requires { row_bar self.old.plan self.old.state (mv.Send i) ≡ None }
         ensures { self.new ≡ after_move self.old (mv.Send i) }

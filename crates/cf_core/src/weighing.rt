@@ -1,7 +1,7 @@
 //! The weight of what stands in the processor, which each move but Issue lowers.
 
 ghost use Rattle.std.specs.Prelude.{◌≡◌, ◌+◌, ◌*◌, ◌<◌, ◌≤◌, length};
-ghost use Rattle.cf_semantics.specs.Weight.{counts as counts_where, most_cells, passenger_weight as weight_of_passenger, cell_weight as weight_of_cell, cells_weight as weight_of_cells, op_weight as weight_of_op, siding_weight as weight_of_siding, sidings_weight as weight_of_sidings, weight};
+ghost use Rattle.cf_semantics.specs.claims.Weight.{counts as counts_where, most_cells, passenger_weight as weight_of_passenger, cell_weight as weight_of_cell, cells_weight as weight_of_cells, op_weight as weight_of_op, siding_weight as weight_of_siding, sidings_weight as weight_of_sidings, weight};
 ghost use Rattle.cf_core.specs.Processors.{IsProcessor};
 
 use crate::counterflow::Core;
@@ -47,7 +47,7 @@ fn passenger_weight(passenger: &Passenger, place: Place) -> u64
 
 /// The weight of what stands in a stage.
 #[inline(always)]
-#[tactic(auto, unfolding(cf_semantics::specs::Weight::cell_weight))]
+#[tactic(auto, unfolding(cf_semantics::specs::claims::Weight::cell_weight))]
 fn cell_weight(cell: &Cell, place: Place) -> u64
     requires above { 0 < place.stage }
     requires within { place.stage ≤ place.stages }
@@ -90,7 +90,7 @@ fn cells_weight(stages: &Stages, cells: u64) -> u64
 
 /// The weight of what stands in the cell of this index in a siding of this many cells.
 #[inline(always)]
-#[tactic(auto, unfolding(cf_semantics::specs::Weight::op_weight, cf_semantics::specs::Instructions::kind_of))]
+#[tactic(auto, unfolding(cf_semantics::specs::claims::Weight::op_weight, cf_semantics::specs::moves::Instructions::kind_of))]
 fn op_weight(op: &Option<Op>, index: u64, count: u64) -> u64
     requires within { index ≤ count }
     requires cells { count ≤ 8 }
@@ -155,7 +155,7 @@ impl Processor {
 impl Core {
     /// The weight of what stands in the processor. Each move but Issue lowers it, so that no more moves than this can be
     /// made before the next Issue.
-    #[tactic(auto, unfolding(cf_semantics::specs::Weight::weight))]
+    #[tactic(auto, unfolding(cf_semantics::specs::claims::Weight::weight))]
     pub fn bound(&self) -> u64
         ensures { result ≡ weight self.now.plan self.now.state }
     {

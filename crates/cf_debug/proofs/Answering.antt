@@ -7,8 +7,8 @@ use Rattle.cf_io.specs.declared.failed.Failed.{Failed}
 use Rattle.cf_bind.specs.declared.moves.Bar.{Bar}
 use Rattle.cf_bind.specs.declared.moves.Move.{Move as AnyMove}
 use Rattle.cf_semantics.specs.declared.event.Event.{Event}
-use Rattle.cf_semantics.specs.Bars.{bar}
-use Rattle.cf_semantics.specs.Kept.{Kept, restored}
+use Rattle.cf_semantics.specs.moves.Bars.{bar}
+use Rattle.cf_semantics.specs.moves.Kept.{Kept, restored}
 use Rattle.cf_core.specs.Processors.{Processor, in_state}
 use Rattle.cf_texts.specs.Texts.{counted_line}
 use Rattle.cf_closing.specs.Lines.{bar_text}

@@ -3,7 +3,7 @@ use Rattle.std.proofs.Common.{◌≡◌, ℕ, zero, suc, ◌-◌, ◌<◌, List,
 use Rattle.std.specs.Prelude.{slice_get, MatchOption}
 use Rattle.std.proofs.lemmas.List.{drop-map, length-map, map-append}
 use Rattle.circular_buffer.specs.Buffer.{keep_last, last_item}
-use Rattle.cf_semantics.specs.Kept.{Kept}
+use Rattle.cf_semantics.specs.moves.Kept.{Kept}
 use Rattle.cf_core.specs.declared.undo.Undo.{Undo}
 use Rattle.cf_core.specs.Undo.{kept_by}
 use Rattle.cf_debug.specs.Rings.{with_record}

@@ -7,10 +7,10 @@ use Rattle.cf_layout.specs.Layout.{Plan}
 use Rattle.cf_bind.specs.declared.moves.Move.{Move}
 use Rattle.cf_bind.specs.declared.moves.Move.TheVariants.{Issue, Emit, Climb, Fall, Meet, Execute, Send, Launch, Slide, Access, Recover, Leave, Exit, Serve}
 use Rattle.cf_semantics.specs.declared.event.Event.{Event}
-use Rattle.cf_semantics.specs.Bars.{bar}
-use Rattle.cf_semantics.specs.Kept.{Kept, kept}
-use Rattle.cf_semantics.specs.Moves.{moved, next}
-use Rattle.cf_semantics.specs.State.{Moment, State}
+use Rattle.cf_semantics.specs.moves.Bars.{bar}
+use Rattle.cf_semantics.specs.moves.Kept.{Kept, kept}
+use Rattle.cf_semantics.specs.moves.Moves.{moved, next}
+use Rattle.cf_semantics.specs.state.State.{Moment, State}
 use Rattle.cf_core.specs.Processors.{Processor, in_state}
 use Rattle.cf_core.specs.Stepping.{Makes, MakesOrFails as StepsOrFails}
 use Rattle.cf_core.specs.Undo.{CanStand, kept_by}

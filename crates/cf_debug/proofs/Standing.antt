@@ -8,13 +8,13 @@ use Rattle.cf_layout.specs.Layout.{Plan}
 use Rattle.cf_bind.specs.declared.moves.Move.{Move}
 use Rattle.cf_bind.specs.declared.moves.Move.TheVariants.{Serve}
 use Rattle.cf_semantics.specs.declared.event.Event.{Event}
-use Rattle.cf_semantics.specs.Bars.{bar}
-use Rattle.cf_semantics.specs.Candidates.{candidates, held_back}
-use Rattle.cf_semantics.specs.Holding.{is_held, offered}
-use Rattle.cf_semantics.specs.Kept.{Kept, kept, restored}
-use Rattle.cf_semantics.specs.Moves.{moved, next}
-use Rattle.cf_semantics.specs.Runs.{IsReached, IsRun, opened as opened_on, run, start as start_on}
-use Rattle.cf_semantics.specs.State.{Moment, State}
+use Rattle.cf_semantics.specs.moves.Bars.{bar}
+use Rattle.cf_semantics.specs.moves.Candidates.{candidates, held_back}
+use Rattle.cf_semantics.specs.moves.Holding.{is_held, offered}
+use Rattle.cf_semantics.specs.moves.Kept.{Kept, kept, restored}
+use Rattle.cf_semantics.specs.moves.Moves.{moved, next}
+use Rattle.cf_semantics.specs.runs.Runs.{IsReached, IsRun, opened as opened_on, run, start as start_on}
+use Rattle.cf_semantics.specs.state.State.{Moment, State}
 use Rattle.cf_confluence.proofs.Laws.{some_pick}
 use Rattle.cf_confluence.proofs.back.TakenBack.{state_back}
 use Rattle.cf_core.specs.Processors.{Processor, in_state, opened}

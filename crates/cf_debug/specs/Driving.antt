@@ -4,8 +4,8 @@ use Rattle.cf_bind.specs.declared.moves.Move.{Move}
 use Rattle.cf_bind.specs.declared.moves.Move.TheVariants.{Serve}
 use Rattle.cf_bind.specs.declared.packet.Fetch.{Fetch}
 use Rattle.cf_bind.specs.declared.packet.Fetch.TheVariants.{Running, Waiting}
-use Rattle.cf_semantics.specs.State.{State}
-use Rattle.cf_semantics.specs.Weight.{is_issue}
+use Rattle.cf_semantics.specs.state.State.{State}
+use Rattle.cf_semantics.specs.claims.Weight.{is_issue}
 use Rattle.cf_sched.specs.Policies.{round_pick, round_on}
 use Rattle.cf_run.specs.Made.{Made, retirement}
 use Rattle.cf_run.specs.Policies.{Chooser, fresh, choice, behind_choice}

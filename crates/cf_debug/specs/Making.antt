@@ -5,9 +5,9 @@ use Rattle.cf_io.specs.declared.failed.Failed.{Failed}
 use Rattle.cf_bind.specs.declared.moves.Move.{Move}
 use Rattle.cf_bind.specs.declared.moves.Move.TheVariants.{Serve}
 use Rattle.cf_semantics.specs.declared.event.Event.{Event}
-use Rattle.cf_semantics.specs.Bars.{bar}
-use Rattle.cf_semantics.specs.Events.{IsEvent}
-use Rattle.cf_semantics.specs.Kept.{Kept}
+use Rattle.cf_semantics.specs.moves.Bars.{bar}
+use Rattle.cf_semantics.specs.moves.Events.{IsEvent}
+use Rattle.cf_semantics.specs.moves.Kept.{Kept}
 use Rattle.cf_core.specs.Processors.{Processor}
 use Rattle.cf_core.specs.Stepping.{Makes, FailsToWrite}
 use Rattle.cf_core.specs.Undo.{CanStand}

@@ -3,8 +3,8 @@ use Rattle.std.specs.Prelude.{◌≡◌, ℕ, List, Option, Some, Bool, Result, 
 use Rattle.cf_io.specs.Puts.{Writes, WritesFront}
 use Rattle.cf_io.specs.declared.failed.Failed.{Failed}
 use Rattle.cf_bind.specs.declared.moves.Move.TheVariants.{Serve}
-use Rattle.cf_semantics.specs.Drained.{is_drained}
-use Rattle.cf_semantics.specs.Holding.{paced}
+use Rattle.cf_semantics.specs.state.Drained.{is_drained}
+use Rattle.cf_semantics.specs.moves.Holding.{paced}
 use Rattle.cf_sched.specs.Paces.{stopped}
 use Rattle.cf_report.specs.Putting.{PutsText}
 use Rattle.cf_run.specs.Made.{Made, retirement}

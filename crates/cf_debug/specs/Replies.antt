@@ -6,9 +6,9 @@ use Rattle.cf_bind.specs.declared.moves.Bar.{Bar}
 use Rattle.cf_bind.specs.declared.moves.Move.{Move as AnyMove}
 use Rattle.cf_bind.specs.MoveTexts.{move_line}
 use Rattle.cf_semantics.specs.declared.event.Event.{Event}
-use Rattle.cf_semantics.specs.Bars.{bar}
-use Rattle.cf_semantics.specs.Kept.{Kept, restored}
-use Rattle.cf_semantics.specs.Weight.{weight}
+use Rattle.cf_semantics.specs.moves.Bars.{bar}
+use Rattle.cf_semantics.specs.moves.Kept.{Kept, restored}
+use Rattle.cf_semantics.specs.claims.Weight.{weight}
 use Rattle.cf_core.specs.Processors.{in_state}
 use Rattle.digits.specs.Hexadecimal.{hex8}
 use Rattle.cf_texts.specs.Texts.{line, counted_line}

@@ -4,10 +4,10 @@ use Rattle.circular_buffer.specs.Buffer.{keep_last}
 use Rattle.cf_layout.specs.Layout.{Plan}
 use Rattle.cf_bind.specs.declared.moves.Move.{Move}
 use Rattle.cf_bind.specs.declared.moves.Move.TheVariants.{Serve}
-use Rattle.cf_semantics.specs.Bars.{bar}
-use Rattle.cf_semantics.specs.Kept.{Kept, kept}
-use Rattle.cf_semantics.specs.Moves.{moved}
-use Rattle.cf_semantics.specs.State.{State}
+use Rattle.cf_semantics.specs.moves.Bars.{bar}
+use Rattle.cf_semantics.specs.moves.Kept.{Kept, kept}
+use Rattle.cf_semantics.specs.moves.Moves.{moved}
+use Rattle.cf_semantics.specs.state.State.{State}
 use Rattle.cf_core.specs.Undo.{CanStand}
 use Rattle.cf_debug.specs.Limits.{most_kept}
 

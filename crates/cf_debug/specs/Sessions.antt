@@ -2,7 +2,7 @@
 use Rattle.std.specs.Prelude.{◌≡◌, ◌≢◌, ◌⊎◌, ℕ, ◌+◌, ◌<◌, ◌≤◌, List, [], ◌∷◌, ◌++◌, length, Option, Some, None, Result, Ok, Err}
 use Rattle.cf_io.specs.Puts.{Writes, WritesFront}
 use Rattle.rv_machine.specs.Streams.{Gives, IsTold}
-use Rattle.cf_semantics.specs.Kept.{Kept}
+use Rattle.cf_semantics.specs.moves.Kept.{Kept}
 use Rattle.cf_core.specs.Processors.{Processor}
 use Rattle.cf_debug.specs.declared.answer.Broken.{Broken}
 use Rattle.cf_debug.specs.declared.answer.Broken.TheVariants as broken

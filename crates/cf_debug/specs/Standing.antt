@@ -1,9 +1,9 @@
 -- Where a session stands: at a moment of a run, whatever moves were made and taken back.
 use Rattle.std.specs.Prelude.{◌≡◌, List, [], length}
 use Rattle.rv_machine.specs.Hart.{Hart}
-use Rattle.cf_semantics.specs.Kept.{Kept}
-use Rattle.cf_semantics.specs.Runs.{IsReached}
-use Rattle.cf_semantics.specs.State.{Moment}
+use Rattle.cf_semantics.specs.moves.Kept.{Kept}
+use Rattle.cf_semantics.specs.runs.Runs.{IsReached}
+use Rattle.cf_semantics.specs.state.State.{Moment}
 use Rattle.cf_core.specs.Processors.{Processor, in_state, opened}
 use Rattle.cf_run.specs.Headline.{machine_on}
 use Rattle.cf_debug.specs.Rings.{Leads}

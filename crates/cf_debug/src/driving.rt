@@ -2,7 +2,7 @@
 
 ghost use Rattle.std.specs.Prelude.{◌≡◌, ◌<◌, false, length, true};
 ghost use Rattle.cf_io.specs.Causes.{HasCause};
-ghost use Rattle.cf_semantics.specs.Holding.{offered};
+ghost use Rattle.cf_semantics.specs.moves.Holding.{offered};
 ghost use Rattle.cf_run.specs.Reaching.{GoesOn};
 ghost use Rattle.cf_run.specs.Policies.{chooser};
 ghost use Rattle.cf_debug.specs.Driving.{breaks};

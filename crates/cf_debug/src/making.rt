@@ -4,7 +4,7 @@
 ghost use Rattle.std.specs.Prelude.{◌≡◌, ◌≢◌, ◌+◌, ◌<◌, ◌^◌, None};
 ghost use Rattle.cf_io.specs.Causes.{HasCause};
 ghost use Rattle.cf_bind.specs.declared.moves.Move.TheVariants as moves;
-ghost use Rattle.cf_semantics.specs.Bars.{bar};
+ghost use Rattle.cf_semantics.specs.moves.Bars.{bar};
 ghost use Rattle.cf_debug.specs.Making.{bench_of, MakesOne, MakesOrFails};
 
 use crate::ring::Ring;

@@ -18,7 +18,7 @@ pub struct Ring {
 
 impl Model for Ring {
     ghost use Rattle.std.specs.Prelude.{◌≡◌, List, map};
-    ghost use Rattle.cf_semantics.specs.Kept.{Kept};
+    ghost use Rattle.cf_semantics.specs.moves.Kept.{Kept};
     ghost use Rattle.cf_core.specs.Undo.{kept_by};
 
     ghost Value = { List Kept };

@@ -1,7 +1,7 @@
 //! The values that are kept at the bottom, so that a later instruction need not request them.
 
 ghost use Rattle.std.specs.Prelude.{◌≡◌, ◌≢◌, ◌<◌, Some, None, slice_get, slice_set};
-ghost use Rattle.cf_semantics.specs.Passengers.{cached as kept_value, forgets, cleared};
+ghost use Rattle.cf_semantics.specs.state.Passengers.{cached as kept_value, forgets, cleared};
 
 use crate::ends::Ends;
 

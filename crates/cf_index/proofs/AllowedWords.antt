@@ -4,7 +4,7 @@ use Rattle.std.specs.Prelude.{filter, slice_get}
 use Rattle.cf_layout.specs.Layout.{Plan}
 use Rattle.cf_bind.specs.declared.moves.Move.{Move}
 use Rattle.cf_bind.specs.declared.moves.Move.TheVariants.{Climb, Fall, Meet, Execute, Send, Launch}
-use Rattle.cf_semantics.specs.State.{State}
+use Rattle.cf_semantics.specs.state.State.{State}
 use Rattle.cf_index.specs.Allowed.{all_passing, fall_on, is_allowed, passing_of}
 use Rattle.cf_index.specs.Listed.{at_word, passing_moves}
 use Rattle.cf_index.proofs.Filled.{passing_chosen}

@@ -14,9 +14,9 @@ use Rattle.cf_bind.specs.declared.moves.Move.{Move}
 use Rattle.cf_bind.specs.declared.moves.Move.TheVariants.{Issue, Emit, Climb, Fall, Meet, Execute, Send, Launch, Slide, Access, Recover, Leave, Exit, Serve}
 use Rattle.cf_bind.specs.declared.passenger.Guess.{Guess}
 use Rattle.cf_bind.specs.declared.passenger.Guess.TheVariants.{Next, Taken, Wait}
-use Rattle.cf_semantics.specs.Candidates.{candidates, counted_from, held_back, other_moves, slides_from}
-use Rattle.cf_semantics.specs.State.{State}
-use Rattle.cf_semantics.specs.Weight.{is_issue}
+use Rattle.cf_semantics.specs.moves.Candidates.{candidates, counted_from, held_back, other_moves, slides_from}
+use Rattle.cf_semantics.specs.state.State.{State}
+use Rattle.cf_semantics.specs.claims.Weight.{is_issue}
 use Rattle.cf_index.specs.Allowed.{all_entering, all_leaving, all_passing, is_allowed}
 use Rattle.cf_index.specs.declared.passing.Passing.{Passing}
 use Rattle.cf_index.specs.Listed.{at_word, passing_moves}

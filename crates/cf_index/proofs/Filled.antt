@@ -10,8 +10,8 @@ use Rattle.cf_layout.specs.Words.{has_bit}
 use Rattle.cf_layout.proofs.Words.{no_bits}
 use Rattle.cf_bind.specs.declared.moves.Move.{Move}
 use Rattle.cf_bind.specs.declared.moves.Move.TheVariants.{Climb, Fall, Meet, Execute, Send, Launch, Slide, Access, Recover, Leave, Exit, Serve}
-use Rattle.cf_semantics.specs.State.{State}
-use Rattle.cf_semantics.specs.Candidates.{counted_from, at_stages, slides_from, all_moves, candidates}
+use Rattle.cf_semantics.specs.state.State.{State}
+use Rattle.cf_semantics.specs.moves.Candidates.{counted_from, at_stages, slides_from, all_moves, candidates}
 use Rattle.cf_core.specs.Processors.{IsProcessor}
 use Rattle.cf_index.specs.Places.{places}
 use Rattle.cf_index.specs.declared.passing.Passing.{Passing}

@@ -11,9 +11,9 @@ use Rattle.cf_bind.specs.declared.moves.Move.{Move}
 use Rattle.cf_bind.specs.declared.moves.Move.TheVariants.{Issue, Emit, Climb, Fall, Meet, Execute, Send, Launch, Slide, Access, Recover, Leave, Exit, Serve}
 use Rattle.cf_bind.specs.declared.passenger.Guess.{Guess}
 use Rattle.cf_bind.specs.declared.passenger.Guess.TheVariants.{Next, Taken, Wait}
-use Rattle.cf_semantics.specs.Candidates.{candidates, counted_from, held_back, other_moves, slides_from}
-use Rattle.cf_semantics.specs.State.{State}
-use Rattle.cf_semantics.specs.Weight.{is_issue}
+use Rattle.cf_semantics.specs.moves.Candidates.{candidates, counted_from, held_back, other_moves, slides_from}
+use Rattle.cf_semantics.specs.state.State.{State}
+use Rattle.cf_semantics.specs.claims.Weight.{is_issue}
 use Rattle.cf_index.specs.Allowed.{all_entering, all_leaving, all_passing, allowed_others, is_allowed, withheld}
 use Rattle.cf_index.specs.Order.{first_behind, kind_place, stands_behind}
 use Rattle.cf_index.proofs.Behinds.{found_behind, found_candidate, found_held, found_second, entering_none, no_issue}

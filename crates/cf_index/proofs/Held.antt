@@ -6,8 +6,8 @@ use Rattle.std.proofs.lemmas.List.{length-append}
 use Rattle.std.proofs.lemmas.List.Elements.{filter-append}
 use Rattle.cf_bind.specs.declared.moves.Move.{Move}
 use Rattle.cf_bind.specs.declared.moves.Move.TheVariants.{Climb, Fall, Meet, Execute, Send, Launch, Recover, Access, Leave, Exit, Serve}
-use Rattle.cf_semantics.specs.Weight.{is_issue}
-use Rattle.cf_semantics.specs.Candidates.{other_moves, held_back}
+use Rattle.cf_semantics.specs.claims.Weight.{is_issue}
+use Rattle.cf_semantics.specs.moves.Candidates.{other_moves, held_back}
 use Rattle.cf_index.specs.declared.passing.Passing.{Passing}
 use Rattle.cf_index.specs.declared.leaving.Leaving.{Leaving}
 use Rattle.cf_index.specs.Places.{places}

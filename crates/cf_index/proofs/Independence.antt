@@ -5,11 +5,11 @@ use Rattle.std.proofs.lemmas.Bool.Decides.{nat_tests}
 use Rattle.cf_layout.specs.Layout.{Plan, SidingPlan, no_siding, siding_at as siding_plan, launch_stage, recover_stage, cells_of}
 use Rattle.cf_bind.specs.declared.moves.Move.{Move}
 use Rattle.cf_bind.specs.declared.moves.Move.TheVariants.{Issue, Emit, Climb, Fall, Meet, Execute, Send, Launch, Slide, Access, Recover, Leave, Exit, Serve}
-use Rattle.cf_semantics.specs.Bars.{bar, row_bar}
-use Rattle.cf_semantics.specs.Layouts.{port}
-use Rattle.cf_semantics.specs.Sites.{Site, Stage, SidingCell, Lane, Fetching, Cache, Registers, Memory, Code, Input, Output, Count, Ended, Failure, AreIndependent, OfStage, among, content, ends_there, uses, reads, writes, only_reads, only_writes, is_way_in, is_way_out, last_number}
-use Rattle.cf_semantics.specs.Moves.{next}
-use Rattle.cf_semantics.specs.State.{State, Moment, cell_at}
+use Rattle.cf_semantics.specs.moves.Bars.{bar, row_bar}
+use Rattle.cf_semantics.specs.state.Layouts.{port}
+use Rattle.cf_semantics.specs.moves.Sites.{Site, Stage, SidingCell, Lane, Fetching, Cache, Registers, Memory, Code, Input, Output, Count, Ended, Failure, AreIndependent, OfStage, among, content, ends_there, uses, reads, writes, only_reads, only_writes, is_way_in, is_way_out, last_number}
+use Rattle.cf_semantics.specs.moves.Moves.{next}
+use Rattle.cf_semantics.specs.state.State.{State, Moment, cell_at}
 use Rattle.cf_bind.specs.declared.cell.Cell.{Cell}
 use Rattle.cf_confluence.proofs.Laws.{move_local}
 use Rattle.cf_refinement.proofs.moves.Rows.{bar_row}

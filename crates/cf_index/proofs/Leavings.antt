@@ -8,8 +8,8 @@ use Rattle.cf_layout.specs.Layout.{Plan, SidingPlan}
 use Rattle.cf_layout.specs.Words.{has_bit}
 use Rattle.cf_bind.specs.declared.moves.Move.{Move}
 use Rattle.cf_bind.specs.declared.moves.Move.TheVariants.{Slide, Access, Recover, Leave, Exit, Serve}
-use Rattle.cf_semantics.specs.Candidates.{counted_from, slides_from}
-use Rattle.cf_semantics.specs.State.{State}
+use Rattle.cf_semantics.specs.moves.Candidates.{counted_from, slides_from}
+use Rattle.cf_semantics.specs.state.State.{State}
 use Rattle.cf_index.specs.Allowed.{is_allowed}
 use Rattle.cf_index.specs.declared.leaving.Leaving.{Leaving}
 use Rattle.cf_index.specs.Listed.{at_word, flagged, leaving_moves, slide_at, slides_of}

@@ -6,7 +6,7 @@ use Rattle.std.proofs.lemmas.Bool.Decides.{nat_tests}
 use Rattle.std.proofs.lemmas.List.{length-append, length-map}
 use Rattle.cf_bind.specs.declared.moves.Move.{Move}
 use Rattle.cf_layout.specs.Words.{has_bit}
-use Rattle.cf_semantics.specs.Candidates.{counted_from}
+use Rattle.cf_semantics.specs.moves.Candidates.{counted_from}
 use Rattle.cf_index.specs.Places.{places}
 use Rattle.cf_index.specs.Listed.{flagged, at_word}
 use Rattle.cf_index.specs.Order.{kind_place, below_or, stands_behind, passed}

@@ -7,7 +7,7 @@ use Rattle.cf_layout.specs.Words.{has_bit}
 use Rattle.cf_bind.specs.declared.passenger.Guess.TheVariants.{Next, Taken, Wait}
 use Rattle.cf_bind.specs.declared.moves.Move.{Move}
 use Rattle.cf_bind.specs.declared.moves.Move.TheVariants.{Issue, Emit, Slide, Access, Recover, Leave, Exit, Serve}
-use Rattle.cf_semantics.specs.Candidates.{counted_from}
+use Rattle.cf_semantics.specs.moves.Candidates.{counted_from}
 use Rattle.cf_index.specs.declared.entering.Entering.{Entering}
 use Rattle.cf_index.specs.declared.leaving.Leaving.{Leaving}
 use Rattle.cf_index.specs.Places.{places}

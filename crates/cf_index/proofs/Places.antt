@@ -12,7 +12,7 @@ use Rattle.std.proofs.lemmas.List.{length-append, length-map, append-nil, length
 use Rattle.std.proofs.lemmas.List.Elements.{filter-append}
 use Rattle.std.proofs.lemmas.List.Filters.{length-filter_both}
 use Rattle.cf_layout.specs.Words.{has_bit}
-use Rattle.cf_semantics.specs.Candidates.{counted_from}
+use Rattle.cf_semantics.specs.moves.Candidates.{counted_from}
 use Rattle.cf_index.specs.Places.{places}
 use Rattle.cf_index.proofs.Counted.{counted_split, filter_same, filter_none, filter_first, filter_shifted, filter_below, filter_above}
 

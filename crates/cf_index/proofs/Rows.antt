@@ -12,9 +12,9 @@ use Rattle.cf_bind.specs.declared.moves.Move.TheVariants.{Climb, Fall, Meet, Exe
 use Rattle.cf_bind.specs.declared.passenger.Passenger.{Passenger}
 use Rattle.cf_layout.specs.Layout.{Plan}
 use Rattle.cf_layout.specs.Words.{has_bit}
-use Rattle.cf_semantics.specs.Bars.{bar, climb_bar, fall_bar, first, first_of, is_full, meet_bar, row_bar, send_bar, stops_at}
-use Rattle.cf_semantics.specs.Options.{on, is_some}
-use Rattle.cf_semantics.specs.State.{State, cell_at}
+use Rattle.cf_semantics.specs.moves.Bars.{bar, climb_bar, fall_bar, first, first_of, is_full, meet_bar, row_bar, send_bar, stops_at}
+use Rattle.cf_semantics.specs.state.Options.{on, is_some}
+use Rattle.cf_semantics.specs.state.State.{State, cell_at}
 use Rattle.cf_stages.specs.Words.{word_of}
 use Rattle.cf_stages.proofs.Bits.{word-bit, word-bit-above}
 use Rattle.cf_core.specs.Masks.{masks_of, stops_there}

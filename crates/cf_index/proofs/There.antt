@@ -11,12 +11,12 @@ use Rattle.cf_bind.specs.declared.moves.Bar.{Bar}
 use Rattle.cf_bind.specs.declared.moves.Bar.TheVariants.{NoSuchSite, OpNotThere, Occupied}
 use Rattle.cf_bind.specs.declared.moves.Move.{Move}
 use Rattle.cf_bind.specs.declared.moves.Move.TheVariants.{Issue, Emit, Climb, Fall, Meet, Execute, Send, Launch, Slide, Access, Recover, Leave, Exit, Serve}
-use Rattle.cf_semantics.specs.Bars.{bar, row_bar, last_op, access_bar, slide_bar, climb_bar, fall_bar, first_of, is_taken}
-use Rattle.cf_semantics.specs.Candidates.{counted_from}
-use Rattle.cf_semantics.specs.Layouts.{port}
-use Rattle.cf_semantics.specs.Options.{on, is_some}
-use Rattle.cf_semantics.specs.Sites.{Site}
-use Rattle.cf_semantics.specs.State.{State, cell_at, siding_at}
+use Rattle.cf_semantics.specs.moves.Bars.{bar, row_bar, last_op, access_bar, slide_bar, climb_bar, fall_bar, first_of, is_taken}
+use Rattle.cf_semantics.specs.moves.Candidates.{counted_from}
+use Rattle.cf_semantics.specs.state.Layouts.{port}
+use Rattle.cf_semantics.specs.state.Options.{on, is_some}
+use Rattle.cf_semantics.specs.moves.Sites.{Site}
+use Rattle.cf_semantics.specs.state.State.{State, cell_at, siding_at}
 use Rattle.cf_refinement.proofs.moves.Rows.{bar_row}
 use Rattle.cf_index.specs.Sites.{AreThere, IsPlace, way_in, way_out, ways_in, ways_out}
 use Rattle.cf_index.proofs.SiteWords.{siding_within}

@@ -5,10 +5,10 @@ use Rattle.cf_layout.specs.Words.{has_bit}
 use Rattle.cf_bind.specs.declared.passenger.Guess.TheVariants as guess
 use Rattle.cf_bind.specs.declared.moves.Move.{Move}
 use Rattle.cf_bind.specs.declared.moves.Move.TheVariants.{Issue, Emit, Climb, Fall, Meet, Execute, Send, Launch, Access, Recover, Leave, Exit, Serve}
-use Rattle.cf_semantics.specs.Options.{is_some}
-use Rattle.cf_semantics.specs.State.{State}
-use Rattle.cf_semantics.specs.Bars.{bar}
-use Rattle.cf_semantics.specs.Candidates.{at_stages, held_back, slides_from}
+use Rattle.cf_semantics.specs.state.Options.{is_some}
+use Rattle.cf_semantics.specs.state.State.{State}
+use Rattle.cf_semantics.specs.moves.Bars.{bar}
+use Rattle.cf_semantics.specs.moves.Candidates.{at_stages, held_back, slides_from}
 use Rattle.cf_stages.specs.Words.{word_of}
 use Rattle.cf_index.specs.declared.passing.Passing.{Passing}
 use Rattle.cf_index.specs.Listed.{at_word}

@@ -3,8 +3,8 @@ use Rattle.std.specs.Prelude.{◌≡◌, ℕ, length, Bool, true, false}
 use Rattle.cf_layout.specs.Layout.{Plan, cells_of}
 use Rattle.cf_bind.specs.declared.moves.Move.{Move}
 use Rattle.cf_bind.specs.declared.moves.Move.TheVariants.{Leave, Serve}
-use Rattle.cf_semantics.specs.Sites.{ends_there}
-use Rattle.cf_semantics.specs.State.{State, siding_at}
+use Rattle.cf_semantics.specs.moves.Sites.{ends_there}
+use Rattle.cf_semantics.specs.state.State.{State, siding_at}
 
 -- Serve, whose call may fail, and the Leave that ends the program
 abbrev pub stands_alone : Plan → State → Move → Bool

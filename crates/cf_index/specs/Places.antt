@@ -1,7 +1,7 @@
 -- Words as sets of small numbers: bit k for number k.
 use Rattle.std.specs.Prelude.{ℕ, List, filter}
 use Rattle.cf_layout.specs.Words.{has_bit}
-use Rattle.cf_semantics.specs.Candidates.{counted_from}
+use Rattle.cf_semantics.specs.moves.Candidates.{counted_from}
 
 -- the numbers below n whose bit the word has, ascending
 unfoldable pub places : ℕ → ℕ → List ℕ

@@ -1,8 +1,8 @@
 -- What the words of a processor say of the moves at a stage, bit by bit: bit k stands for stage k + 1.
 use Rattle.std.specs.Prelude.{ℕ, ◌+◌, ◌-◌, Bool, ◌&&◌, not, nat_lt}
 use Rattle.cf_layout.specs.Words.{has_bit}
-use Rattle.cf_semantics.specs.Options.{is_some}
-use Rattle.cf_semantics.specs.State.{State}
+use Rattle.cf_semantics.specs.state.Options.{is_some}
+use Rattle.cf_semantics.specs.state.State.{State}
 use Rattle.cf_core.specs.declared.masks.Masks.{Masks}
 
 -- both are there, and have not met

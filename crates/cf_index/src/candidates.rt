@@ -1,7 +1,7 @@
 //! The candidates: the moves that are allowed, in the order of all moves.
 
 ghost use Rattle.std.specs.Prelude.{◌≡◌, ◌<◌, IfOk, Some, [], length, nat_eq, slice_get};
-ghost use Rattle.cf_semantics.specs.Candidates.{held_back};
+ghost use Rattle.cf_semantics.specs.moves.Candidates.{held_back};
 
 use crate::bits::{count, nth};
 use crate::entering::Entering;

@@ -1,7 +1,7 @@
 //! The candidates that let something into the two pipes.
 
 ghost use Rattle.std.specs.Prelude.{◌≡◌, ◌<◌, ◌≤◌, Some, length, slice_get};
-ghost use Rattle.cf_semantics.specs.Candidates.{other_moves};
+ghost use Rattle.cf_semantics.specs.moves.Candidates.{other_moves};
 ghost use Rattle.cf_index.specs.Listed.{entering_moves};
 ghost use Rattle.cf_index.specs.Order.{passed};
 

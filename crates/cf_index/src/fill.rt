@@ -3,7 +3,7 @@
 ghost use Rattle.std.specs.Prelude.{◌≡◌, ℕ, ◌+◌, ◌-◌, ◌*◌, ◌/◌, ◌%◌, ◌<◌, ◌≤◌, ◌&&◌, ◌||◌, filter, length, nat_eq, nat_lt};
 ghost use Rattle.cf_layout.specs.Layout.{cells_of};
 ghost use Rattle.cf_layout.specs.Words.{has_bit};
-ghost use Rattle.cf_semantics.specs.Candidates.{candidates, slides_from};
+ghost use Rattle.cf_semantics.specs.moves.Candidates.{candidates, slides_from};
 ghost use Rattle.cf_core.specs.Masks.{masks_of};
 ghost use Rattle.cf_index.specs.Allowed.{all_entering, all_leaving, all_passing, is_allowed};
 ghost use Rattle.cf_index.specs.Listed.{entering_moves, leaving_moves, passing_moves, slide_at, slides_of};

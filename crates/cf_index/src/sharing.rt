@@ -4,8 +4,8 @@ ghost use Rattle.std.specs.Prelude.{◌≡◌, ◌↔◌, IsTrue, true, ℕ, ◌
 ghost use Rattle.cf_layout.specs.Layout.{Plan, cells_of};
 ghost use Rattle.cf_layout.specs.Words.{has_bit};
 ghost use Rattle.cf_layout.specs.Accepted.{IsAccepted};
-ghost use Rattle.cf_semantics.specs.Layouts.{port as port_of};
-ghost use Rattle.cf_semantics.specs.Sites.{Code, Fetching, Lane, Memory, SidingCell, Stage, among};
+ghost use Rattle.cf_semantics.specs.state.Layouts.{port as port_of};
+ghost use Rattle.cf_semantics.specs.moves.Sites.{Code, Fetching, Lane, Memory, SidingCell, Stage, among};
 ghost use Rattle.cf_index.specs.Sites.{AreThere, shares, uses_place, ways_in, ways_out};
 
 use crate::bits::with_bit;
@@ -116,7 +116,7 @@ fn exits(layout: &Layout, i: u32) -> u64
 
 /// The last cell of Memory's siding, at which the port to memory is.
 #[inline(always)]
-#[tactic(auto, unfolding(cf_semantics::specs::Layouts::port))]
+#[tactic(auto, unfolding(cf_semantics::specs::state::Layouts::port))]
 fn port(layout: &Layout) -> u64
     ensures { (j : ℕ) → has_bit result j ≡ (nat_eq (j / 8) (port_of layout.now) && nat_eq (j % 8) (cells_of layout.now (port_of layout.now) - 1)) }
 {

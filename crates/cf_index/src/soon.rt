@@ -2,9 +2,9 @@
 
 ghost use Rattle.std.specs.Prelude.{◌≡◌, ◌≢◌, ◌++◌, false, IfSome, Some, filter, find, slice_get};
 ghost use Rattle.cf_bind.specs.declared.moves.Move.TheVariants as mv;
-ghost use Rattle.cf_semantics.specs.Candidates.{candidates, slides_from};
+ghost use Rattle.cf_semantics.specs.moves.Candidates.{candidates, slides_from};
 ghost use Rattle.cf_core.specs.Masks.{masks_of};
-ghost use Rattle.cf_semantics.specs.Weight.{is_issue};
+ghost use Rattle.cf_semantics.specs.claims.Weight.{is_issue};
 ghost use Rattle.cf_index.specs.Allowed.{all_leaving, all_passing, allowed_others, is_allowed, withheld};
 ghost use Rattle.cf_index.specs.Listed.{at_word, flagged, leaving_moves, slides_of};
 ghost use Rattle.cf_index.specs.Order.{first_behind, kind_place, stands_behind};

@@ -5,8 +5,8 @@ use Rattle.std.specs.List.{AllByRecursion}
 use Rattle.std.proofs.lemmas.List.{length-append}
 use Rattle.cf_layout.specs.Layout.{Plan}
 use Rattle.cf_bind.specs.declared.moves.Move.{Move}
-use Rattle.cf_semantics.specs.Candidates.{counted_from}
-use Rattle.cf_semantics.specs.Sites.{Site, among}
+use Rattle.cf_semantics.specs.moves.Candidates.{counted_from}
+use Rattle.cf_semantics.specs.moves.Sites.{Site, among}
 use Rattle.cf_index.specs.Sites.{shares, used, uses_place}
 use Rattle.cf_timed.specs.Chains.{sum_of_delays}
 use Rattle.cf_timed.specs.Delays.{AreDelays, delay}

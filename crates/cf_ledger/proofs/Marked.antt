@@ -3,7 +3,7 @@ use Rattle.std.proofs.Common.{◌≡◌, ◌∙◌, refl, sym, ap, ℕ, zero, su
 use Rattle.std.specs.Prelude.{slice_set, ◌&&◌, ◌||◌}
 use Rattle.std.specs.List.{AllByRecursion}
 use Rattle.std.proofs.lemmas.Bool.Decides.{nat_tests}
-use Rattle.cf_semantics.specs.Sites.{Site, Stage, SidingCell, Lane, Fetching, Memory, Code, among, same_site}
+use Rattle.cf_semantics.specs.moves.Sites.{Site, Stage, SidingCell, Lane, Fetching, Memory, Code, among, same_site}
 use Rattle.cf_timed.proofs.Following.{IsKept}
 use Rattle.cf_ledger.specs.Ledgers.{mark_at, place_number, put_marks, with_marks}
 use Rattle.cf_ledger.specs.declared.ledger.Ledger.{Ledger}

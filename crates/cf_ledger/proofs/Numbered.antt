@@ -2,7 +2,7 @@
 use Rattle.std.proofs.Common.{◌≡◌, ◌≢◌, ◌∙◌, refl, sym, ap, ℕ, zero, suc, ◌+◌, ◌<◌, ◌≤◌, List, [], ◌∷◌, ◌++◌, length, map, take, Bool, arith}
 use Rattle.std.specs.Prelude.{slice_set}
 use Rattle.std.proofs.lemmas.List.{map-append}
-use Rattle.cf_semantics.specs.Candidates.{counted_from}
+use Rattle.cf_semantics.specs.moves.Candidates.{counted_from}
 use Rattle.cf_index.proofs.Counted.{counted_split}
 use Rattle.cf_timed.specs.Clocks.{number_at}
 use Rattle.cf_ledger.specs.Ledgers.{charged, plus_if}

@@ -3,8 +3,8 @@ use Rattle.std.specs.Prelude.{ℕ, ◌-◌, List, [], ◌∷◌, ◌++◌, lengt
 use Rattle.std.specs.List.{list_any}
 use Rattle.cf_layout.specs.Layout.{Plan}
 use Rattle.cf_bind.specs.declared.moves.Move.{Move}
-use Rattle.cf_semantics.specs.Candidates.{counted_from}
-use Rattle.cf_semantics.specs.Sites.{Site, Stage, SidingCell}
+use Rattle.cf_semantics.specs.moves.Candidates.{counted_from}
+use Rattle.cf_semantics.specs.moves.Sites.{Site, Stage, SidingCell}
 use Rattle.cf_index.specs.Order.{kind_place}
 use Rattle.cf_index.specs.Sites.{shares, used, uses_place}
 use Rattle.cf_timed.specs.Chains.{sum_of_delays}

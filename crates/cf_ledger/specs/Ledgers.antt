@@ -2,8 +2,8 @@
 use Rattle.std.specs.Prelude.{ℕ, ◌+◌, ◌-◌, ◌*◌, ◌^◌, List, [], ◌∷◌, length, map, min, replicate, slice_get, slice_set, unwrap_or, Bool, ◌&&◌, ◌||◌, nat_lt, nat_eq, if◌then◌else◌}
 use Rattle.cf_layout.specs.Layout.{Plan}
 use Rattle.cf_bind.specs.declared.moves.Move.{Move}
-use Rattle.cf_semantics.specs.Candidates.{counted_from}
-use Rattle.cf_semantics.specs.Sites.{Site, Stage, SidingCell, Lane, Fetching, Memory, Code}
+use Rattle.cf_semantics.specs.moves.Candidates.{counted_from}
+use Rattle.cf_semantics.specs.moves.Sites.{Site, Stage, SidingCell, Lane, Fetching, Memory, Code}
 use Rattle.cf_index.specs.Order.{kind_place}
 use Rattle.cf_index.specs.Sites.{used}
 use Rattle.cf_timed.specs.Clocks.{number_at}

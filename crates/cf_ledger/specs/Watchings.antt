@@ -1,7 +1,7 @@
 -- The policy of a timed run of which a ledger is kept: the clock picks, and the ledger is told each move when the clock is.
 use Rattle.std.specs.Prelude.{ℕ, List}
 use Rattle.cf_bind.specs.declared.moves.Move.{Move}
-use Rattle.cf_semantics.specs.Options.{on}
+use Rattle.cf_semantics.specs.state.Options.{on}
 use Rattle.cf_run.specs.declared.answer.Ran.{Ran as Answer}
 use Rattle.cf_run.specs.declared.answer.Ran.TheVariants as ran
 use Rattle.cf_timed.specs.Timings.{Pending, behind_pick, pending_pick}

@@ -1,7 +1,7 @@
 //! The places that a move uses, by their numbers.
 
 ghost use Rattle.std.specs.Prelude.{◌≡◌, ◌+◌, ◌-◌, ◌≤◌, ◌<◌, ◌^◌, ◌++◌, ◌∷◌, [], length, map, if◌then◌else◌};
-ghost use Rattle.cf_semantics.specs.Sites.{SidingCell, Stage};
+ghost use Rattle.cf_semantics.specs.moves.Sites.{SidingCell, Stage};
 ghost use Rattle.cf_index.specs.Sites.{ways_in, ways_out};
 ghost use Rattle.cf_ledger.specs.Ledgers.{place_number, place_numbers};
 

@@ -2,7 +2,7 @@
 
 ghost use Rattle.std.specs.Prelude.{◌≡◌, ◌<◌, ◌≤◌, ◌^◌, length};
 ghost use Rattle.cf_layout.specs.Layout.{Plan};
-ghost use Rattle.cf_semantics.specs.Layouts.{port as port_of};
+ghost use Rattle.cf_semantics.specs.state.Layouts.{port as port_of};
 ghost use Rattle.cf_ledger.specs.Breakdowns.{uses_siding as at_siding, uses_stage as at_stage};
 
 use cf_bind::Move;

@@ -2,9 +2,9 @@
 use Rattle.std.proofs.Common.{◌≡◌, Option, Some, None, refl}
 use Rattle.cf_bind.specs.declared.passenger.Passenger.{Passenger}
 use Rattle.rv_inst.specs.Operands.{class_of}
-use Rattle.cf_semantics.specs.Options.{on}
-use Rattle.cf_semantics.specs.Passengers.{instruction, kind}
-use Rattle.cf_semantics.specs.Instructions.{kind_of}
+use Rattle.cf_semantics.specs.state.Options.{on}
+use Rattle.cf_semantics.specs.state.Passengers.{instruction, kind}
+use Rattle.cf_semantics.specs.moves.Instructions.{kind_of}
 use Rattle.rv_inst.specs.declared.instruction.Instr.{Instr}
 use Rattle.rv_inst.specs.declared.instruction.Instr.TheVariants.{Ebreak}
 use Rattle.rv_inst.specs.declared.classes.Class.TheVariants.{Free}

@@ -11,7 +11,7 @@ use Rattle.cf_layout.specs.Layout.{Plan, place_of, same_class, stages_of, unit_a
 use Rattle.cf_layout.specs.Accepted.{IsAccepted}
 use Rattle.cf_layout.proofs.Reading.{stages_without}
 use Rattle.cf_layout.proofs.Facts.{siding_found, siding_rules}
-use Rattle.cf_semantics.specs.Instructions.{is_memory}
+use Rattle.cf_semantics.specs.moves.Instructions.{is_memory}
 
 -- at no stage is there a unit
 no_unit : (stages : List ℕ) (i : ℕ) → stages ≡ [] → list_any (nat_eq i) stages ≡ true → ⊥

@@ -18,10 +18,10 @@ use Rattle.cf_bind.specs.declared.passenger.Guess.{Guess}
 use Rattle.cf_bind.specs.declared.passenger.End.{End}
 use Rattle.cf_bind.specs.declared.passenger.End.TheVariants.{Exit}
 use Rattle.cf_bind.specs.Meeting.{Met, meeting, garnered, replaced, passed, passenger_met, packet_met}
-use Rattle.cf_semantics.specs.Options.{on}
-use Rattle.cf_semantics.specs.Instructions.{Fetched, Got, Bad, kind_of, free_trap, finish_trap}
-use Rattle.cf_semantics.specs.Passengers.{fresh, fresh_as, fresh_undone, fresh_fence, fresh_end, finish, finished, trapped, with_value, value_packet, instruction, guessed, is_place, value_in}
-use Rattle.cf_semantics.specs.Moves.{back_in, answered, operation}
+use Rattle.cf_semantics.specs.state.Options.{on}
+use Rattle.cf_semantics.specs.moves.Instructions.{Fetched, Got, Bad, kind_of, free_trap, finish_trap}
+use Rattle.cf_semantics.specs.state.Passengers.{fresh, fresh_as, fresh_undone, fresh_fence, fresh_end, finish, finished, trapped, with_value, value_packet, instruction, guessed, is_place, value_in}
+use Rattle.cf_semantics.specs.moves.Moves.{back_in, answered, operation}
 use Rattle.cf_passengers.specs.Facts.{IsWritable, IsBinding, IsPacket, IsInstruction, IsFetched, IsOperation, IsPassenger}
 use Rattle.cf_passengers.proofs.Registers.{issued-src1, issued-src2, issued-dst}
 

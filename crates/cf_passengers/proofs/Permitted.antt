@@ -7,10 +7,10 @@ use Rattle.rv_inst.specs.declared.classes.Class.TheVariants.{Memory}
 use Rattle.rv_inst.specs.Operands.{class_of}
 use Rattle.cf_bind.specs.declared.passenger.Passenger.{Passenger}
 use Rattle.cf_bind.specs.declared.passenger.End.{End}
-use Rattle.cf_semantics.specs.Instructions.{is_memory, access_trap}
-use Rattle.cf_semantics.specs.State.{State}
-use Rattle.cf_semantics.specs.Passengers.{instruction, kind, value_in}
-use Rattle.cf_semantics.specs.Moves.{launch_trap, operation}
+use Rattle.cf_semantics.specs.moves.Instructions.{is_memory, access_trap}
+use Rattle.cf_semantics.specs.state.State.{State}
+use Rattle.cf_semantics.specs.state.Passengers.{instruction, kind, value_in}
+use Rattle.cf_semantics.specs.moves.Moves.{launch_trap, operation}
 use Rattle.cf_passengers.specs.Launching.{trap_at_launch}
 use Rattle.cf_passengers.proofs.Classes.{kind-class}
 

@@ -5,8 +5,8 @@ use Rattle.rv_inst.specs.declared.instruction.Instr.{Instr}
 use Rattle.rv_inst.specs.declared.instruction.Instr.TheVariants.{Lui, Auipc, Jal, Jalr, Branch, Load, Store, OpImm, Op, Fence, Ecall, Ebreak, FenceI, Mul}
 use Rattle.rv_inst.specs.Ranges.{Fits}
 use Rattle.rv_inst.specs.Operands.{sources_of, dest_of}
-use Rattle.cf_semantics.specs.Instructions.{register, src1_of, src2_of, dst_of}
-use Rattle.cf_semantics.specs.Passengers.{source, destination}
+use Rattle.cf_semantics.specs.moves.Instructions.{register, src1_of, src2_of, dst_of}
+use Rattle.cf_semantics.specs.state.Passengers.{source, destination}
 use Rattle.cf_passengers.specs.Facts.{IsBinding}
 
 -- they are below 32 where the fields are in range

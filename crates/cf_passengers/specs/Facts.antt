@@ -10,7 +10,7 @@ use Rattle.cf_bind.specs.declared.cell.Op.{Op}
 use Rattle.cf_bind.specs.declared.packet.Packet.{Packet}
 use Rattle.cf_bind.specs.declared.packet.Packet.TheVariants.{Value, Turn, Halt}
 use Rattle.cf_bind.specs.declared.passenger.Passenger.{Passenger}
-use Rattle.cf_semantics.specs.Instructions.{Fetched, Got, Bad}
+use Rattle.cf_semantics.specs.moves.Instructions.{Fetched, Got, Bad}
 
 -- a register that holds a value: any but x0
 abbrev pub IsWritable : ℕ → Type 0

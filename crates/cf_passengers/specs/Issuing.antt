@@ -2,7 +2,7 @@
 use Rattle.std.specs.Prelude.{Result, Ok, Err}
 use Rattle.rv_inst.specs.declared.instruction.Instr.{Instr}
 use Rattle.cf_bind.specs.declared.passenger.End.{End}
-use Rattle.cf_semantics.specs.Instructions.{Fetched, Got, Bad}
+use Rattle.cf_semantics.specs.moves.Instructions.{Fetched, Got, Bad}
 
 -- what an answer of fetch means
 abbrev pub meant : Result Instr End → Fetched

@@ -3,8 +3,8 @@ use Rattle.std.specs.Prelude.{List, Option, None, if◌then◌else◌}
 use Rattle.mem_regions.specs.Access.{Bounds}
 use Rattle.cf_bind.specs.declared.passenger.Passenger.{Passenger}
 use Rattle.cf_bind.specs.declared.passenger.End.{End}
-use Rattle.cf_semantics.specs.Instructions.{is_memory, access_trap}
-use Rattle.cf_semantics.specs.Passengers.{instruction, kind, value_in}
+use Rattle.cf_semantics.specs.moves.Instructions.{is_memory, access_trap}
+use Rattle.cf_semantics.specs.state.Passengers.{instruction, kind, value_in}
 
 -- the trap of a load or a store that memory of these bounds does not permit
 abbrev pub trap_at_launch : Passenger → List Bounds → Option End

@@ -1,8 +1,8 @@
 -- Which sources a passenger waits for ("Counterflow Pipeline Processor Architecture", 1994: garnering).
 use Rattle.std.specs.Prelude.{ℕ, List, [], ◌∷◌, ◌++◌, Option, Some, None}
 use Rattle.cf_bind.specs.declared.passenger.Passenger.{Passenger}
-use Rattle.cf_semantics.specs.Options.{on}
-use Rattle.cf_semantics.specs.Passengers.{missing}
+use Rattle.cf_semantics.specs.state.Options.{on}
+use Rattle.cf_semantics.specs.state.Passengers.{missing}
 use Rattle.cf_passengers.specs.declared.asking.Asked.{Asked}
 
 -- the register of the first source without a value

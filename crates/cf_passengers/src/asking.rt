@@ -2,7 +2,7 @@
 
 ghost use Rattle.std.specs.Prelude.{◌≡◌, IfSome, length};
 ghost use Rattle.rv_inst.specs.declared.isa.Isa.{Isa as InstructionSet};
-ghost use Rattle.cf_semantics.specs.Passengers.{requests as requested};
+ghost use Rattle.cf_semantics.specs.state.Passengers.{requests as requested};
 ghost use Rattle.cf_passengers.specs.Waiting.{listed};
 ghost use Rattle.cf_passengers.specs.Facts.{IsPassenger, IsWritable};
 

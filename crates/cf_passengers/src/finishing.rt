@@ -4,9 +4,9 @@ ghost use Rattle.std.specs.Prelude.{◌≡◌, false, true, IfNone, IsTrue};
 ghost use Rattle.rv_inst.specs.declared.isa.Isa.{Isa as InstructionSet};
 ghost use Rattle.rv_mul.specs.Values.{computes};
 ghost use Rattle.cf_bind.specs.declared.passenger.End.TheVariants as ending;
-ghost use Rattle.cf_semantics.specs.Instructions.{finish_trap};
-ghost use Rattle.cf_semantics.specs.Passengers.{kind as kind_of_passenger, is_place, with_value as valued, value_packet, trapped as trapped_by, finished as finished_at, finish as finished_by};
-ghost use Rattle.cf_semantics.specs.Moves.{back_in as comes_back, answered as answered_by};
+ghost use Rattle.cf_semantics.specs.moves.Instructions.{finish_trap};
+ghost use Rattle.cf_semantics.specs.state.Passengers.{kind as kind_of_passenger, is_place, with_value as valued, value_packet, trapped as trapped_by, finished as finished_at, finish as finished_by};
+ghost use Rattle.cf_semantics.specs.moves.Moves.{back_in as comes_back, answered as answered_by};
 ghost use Rattle.cf_passengers.specs.Facts.{IsPassenger};
 
 use crate::guessing::{guessed, is_control, word_after};
@@ -17,7 +17,7 @@ use rv_mul::value;
 
 /// The trap of a branch or a jump whose next address is no multiple of 4.
 #[inline(always)]
-#[tactic(auto, unfolding(cf_semantics::specs::Instructions::finish_trap, cf_semantics::specs::Instructions::kind_of))]
+#[tactic(auto, unfolding(cf_semantics::specs::moves::Instructions::finish_trap, cf_semantics::specs::moves::Instructions::kind_of))]
 fn misaligned(i: Instr, pc: u32, a: u32, b: u32) -> Option<End>
     ensures { result ≡ finish_trap i pc a b }
 {
@@ -106,7 +106,7 @@ pub fn trapped(p: Passenger, end: End) -> Passenger
 /// The passenger finishes, with the answer of memory or, without one, with what its unit computes. A branch or a jump whose
 /// next address is no multiple of 4 traps.
 #[inline(always)]
-#[tactic(auto, using(crate::proofs::Classes::finishing), unfolding(cf_semantics::specs::Passengers::finish, cf_semantics::specs::Instructions::kind_of))]
+#[tactic(auto, using(crate::proofs::Classes::finishing), unfolding(cf_semantics::specs::state::Passengers::finish, cf_semantics::specs::moves::Instructions::kind_of))]
 pub fn finish(p: Passenger, answer: Option<u32>) -> Passenger
     requires computing { IfNone answer (IsTrue (computes (kind_of_passenger p))) }
     ensures passenger { result ≡ finished_by p answer }

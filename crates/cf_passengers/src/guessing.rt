@@ -1,9 +1,9 @@
 //! Where the program goes on behind a passenger, and which guesses are made.
 
 ghost use Rattle.std.specs.Prelude.{◌≡◌};
-ghost use Rattle.cf_semantics.specs.Instructions.{is_control as turns_control, is_indirect as is_jalr, target_of, word_after as next_word};
-ghost use Rattle.cf_semantics.specs.Passengers.{goto as goes_to, guessed as place_guessed};
-ghost use Rattle.cf_semantics.specs.Bars.{may_guess as is_allowed};
+ghost use Rattle.cf_semantics.specs.moves.Instructions.{is_control as turns_control, is_indirect as is_jalr, target_of, word_after as next_word};
+ghost use Rattle.cf_semantics.specs.state.Passengers.{goto as goes_to, guessed as place_guessed};
+ghost use Rattle.cf_semantics.specs.moves.Bars.{may_guess as is_allowed};
 
 use crate::reading::{instruction, kind};
 use cf_bind::{Guess, Passenger};
@@ -27,7 +27,7 @@ pub(crate) fn is_control(class: Class) -> bool
 
 /// Whether the target of the jump is not in the instruction.
 #[inline(always)]
-#[tactic(auto, unfolding(cf_semantics::specs::Instructions::is_indirect))]
+#[tactic(auto, unfolding(cf_semantics::specs::moves::Instructions::is_indirect))]
 fn is_indirect(i: Instr) -> bool
     ensures { result ≡ is_jalr i }
 {
@@ -36,7 +36,7 @@ fn is_indirect(i: Instr) -> bool
 
 /// The target of a branch or of JAL; for any other instruction the next word.
 #[inline(always)]
-#[tactic(auto, unfolding(cf_semantics::specs::Instructions::target_of))]
+#[tactic(auto, unfolding(cf_semantics::specs::moves::Instructions::target_of))]
 fn target(i: Instr, pc: u32) -> u32
     ensures { result ≡ target_of i pc }
 {

@@ -3,9 +3,9 @@
 ghost use Rattle.std.specs.Prelude.{◌≡◌, ◌<◌, [], false, IfOk, IfSome};
 ghost use Rattle.rv_inst.specs.Ranges.{Fits};
 ghost use Rattle.rv_inst.specs.declared.isa.Isa.{Isa as InstructionSet};
-ghost use Rattle.cf_semantics.specs.Instructions.{fetched as what_is_fetched, register, free_trap, Got};
-ghost use Rattle.cf_semantics.specs.Passengers.{source as source_of, destination as destination_of, fresh as fresh_passenger, fresh_as, fresh_end, fresh_undone};
-ghost use Rattle.cf_semantics.specs.Layouts.{isa_of as set_of};
+ghost use Rattle.cf_semantics.specs.moves.Instructions.{fetched as what_is_fetched, register, free_trap, Got};
+ghost use Rattle.cf_semantics.specs.state.Passengers.{source as source_of, destination as destination_of, fresh as fresh_passenger, fresh_as, fresh_end, fresh_undone};
+ghost use Rattle.cf_semantics.specs.state.Layouts.{isa_of as set_of};
 ghost use Rattle.cf_passengers.specs.Issuing.{meant};
 ghost use Rattle.cf_passengers.specs.Facts.{IsInstruction, IsPassenger};
 
@@ -31,7 +31,7 @@ pub fn isa_of(layout: &Layout) -> Isa
 /// The instruction of the set at the address, or the trap of that address: cause 0 where 4 does not divide it, 1 where no word
 /// can be fetched there, and 2 where the word stands for no instruction.
 #[inline(always)]
-#[tactic(auto, using(crate::proofs::Decoded::decoding), unfolding(cf_semantics::specs::Instructions::fetched))]
+#[tactic(auto, using(crate::proofs::Decoded::decoding), unfolding(cf_semantics::specs::moves::Instructions::fetched))]
 pub fn fetched(isa: Isa, mem: &Regions, pc: u32) -> Result<Instr, End>
     ensures fetched { meant result ≡ what_is_fetched isa mem.now pc }
     ensures instruction { IfOk result (λ i. IsInstruction isa i) }
@@ -94,7 +94,7 @@ fn destination(rd: u8) -> Option<Binding>
 
 /// The trap of EBREAK; FENCE has none.
 #[inline(always)]
-#[tactic(auto, unfolding(cf_semantics::specs::Instructions::free_trap))]
+#[tactic(auto, unfolding(cf_semantics::specs::moves::Instructions::free_trap))]
 fn trap_when_free(i: Instr, pc: u32) -> Option<End>
     ensures { result ≡ free_trap i pc }
 {
@@ -146,7 +146,7 @@ fn ended(what: Option<Instr>, pc: u32, guess: Guess, end: End) -> Passenger
 
 /// A passenger that has still to be computed, or to be answered by the environment.
 #[inline(always)]
-#[tactic(auto, using(crate::proofs::Kept::issuing_undone), unfolding(cf_semantics::specs::Instructions::src1_of, cf_semantics::specs::Instructions::src2_of, cf_semantics::specs::Instructions::dst_of))]
+#[tactic(auto, using(crate::proofs::Kept::issuing_undone), unfolding(cf_semantics::specs::moves::Instructions::src1_of, cf_semantics::specs::moves::Instructions::src2_of, cf_semantics::specs::moves::Instructions::dst_of))]
 fn undone(ends: &Ends, i: Instr, pc: u32, guess: Guess) -> Passenger
     requires { Fits i }
     ensures passenger { result ≡ fresh_undone ends.now.cache i pc guess }
@@ -180,7 +180,7 @@ fn free(i: Instr, pc: u32, guess: Guess) -> Passenger
 
 /// The passenger that is issued for the instruction.
 #[inline(always)]
-#[tactic(auto, using(crate::proofs::Kept::issuing), unfolding(cf_semantics::specs::Instructions::kind_of, cf_semantics::specs::Passengers::fresh))]
+#[tactic(auto, using(crate::proofs::Kept::issuing), unfolding(cf_semantics::specs::moves::Instructions::kind_of, cf_semantics::specs::state::Passengers::fresh))]
 fn issued(ends: &Ends, i: Instr, pc: u32, guess: Guess) -> Passenger
     requires { Fits i }
     ensures passenger { result ≡ fresh_passenger ends.now.cache (Got i) pc guess }
@@ -196,7 +196,7 @@ fn issued(ends: &Ends, i: Instr, pc: u32, guess: Guess) -> Passenger
 /// done. Any other instruction has its sources and its destination but for x0; a source has the value that is kept for its
 /// register, if one is.
 #[inline(always)]
-#[tactic(auto, using(crate::proofs::Kept::issuing), unfolding(cf_semantics::specs::Passengers::fresh))]
+#[tactic(auto, using(crate::proofs::Kept::issuing), unfolding(cf_semantics::specs::state::Passengers::fresh))]
 pub fn fresh(ends: &Ends, fetched: Result<Instr, End>, pc: u32, guess: Guess) -> Passenger
     requires { IfOk fetched (λ i. Fits i) }
     ensures passenger { result ≡ fresh_passenger ends.now.cache (meant fetched) pc guess }

@@ -3,7 +3,7 @@
 ghost use Rattle.std.specs.Prelude.{◌≡◌, IfSome};
 ghost use Rattle.rv_inst.specs.declared.isa.Isa.{Isa as InstructionSet};
 ghost use Rattle.mem_regions.specs.Access.{bounds_of};
-ghost use Rattle.cf_semantics.specs.Moves.{operation as operation_of};
+ghost use Rattle.cf_semantics.specs.moves.Moves.{operation as operation_of};
 ghost use Rattle.cf_passengers.specs.Launching.{trap_at_launch};
 ghost use Rattle.cf_passengers.specs.Facts.{IsInstruction, IsOperation, IsPassenger};
 
@@ -31,7 +31,7 @@ pub fn operation(p: &Passenger) -> Op
 /// 5 or 7 where the bytes do not lie in a region that permits it, each first for a load and then for a store. Other
 /// instructions have none.
 #[inline(always)]
-#[tactic(auto, unfolding(cf_semantics::specs::Instructions::access_trap, cf_semantics::specs::Instructions::kind_of))]
+#[tactic(auto, unfolding(cf_semantics::specs::moves::Instructions::access_trap, cf_semantics::specs::moves::Instructions::kind_of))]
 pub fn launch_trap(p: &Passenger, mem: &Regions) -> Option<End>
     ensures { result ≡ trap_at_launch p.now (bounds_of mem.now) }
 {

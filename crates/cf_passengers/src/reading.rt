@@ -1,7 +1,7 @@
 //! What is read off a passenger.
 
 ghost use Rattle.std.specs.Prelude.{◌≡◌};
-ghost use Rattle.cf_semantics.specs.Passengers.{instruction as instruction_of, kind as kind_of_passenger, missing as missing_in, value_in as value_held};
+ghost use Rattle.cf_semantics.specs.state.Passengers.{instruction as instruction_of, kind as kind_of_passenger, missing as missing_in, value_in as value_held};
 ghost use Rattle.cf_passengers.specs.Waiting.{first_unknown};
 
 use cf_bind::{Binding, Passenger};
@@ -20,7 +20,7 @@ pub fn instruction(p: &Passenger) -> Instr
 
 /// The class of the instruction; `Free` where there is none.
 #[inline(always)]
-#[tactic(auto, unfolding(cf_semantics::specs::Instructions::kind_of))]
+#[tactic(auto, unfolding(cf_semantics::specs::moves::Instructions::kind_of))]
 pub fn kind(p: &Passenger) -> Class
     ensures { result ≡ kind_of_passenger p.now }
 {

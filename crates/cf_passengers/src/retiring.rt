@@ -2,8 +2,8 @@
 
 ghost use Rattle.std.specs.Prelude.{◌≡◌, IfSome};
 ghost use Rattle.rv_inst.specs.Ranges.{Fits};
-ghost use Rattle.cf_semantics.specs.Lines.{line_of};
-ghost use Rattle.cf_semantics.specs.Events.{IsLeaving, Shows, register_in as register_told};
+ghost use Rattle.cf_semantics.specs.runs.Lines.{line_of};
+ghost use Rattle.cf_semantics.specs.moves.Events.{IsLeaving, Shows, register_in as register_told};
 
 use crate::reading::{instruction, value_in};
 use cf_bind::{Binding, Passenger};

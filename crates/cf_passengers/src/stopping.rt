@@ -1,8 +1,8 @@
 //! Where a passenger stops on its way up.
 
 ghost use Rattle.std.specs.Prelude.{◌≡◌};
-ghost use Rattle.cf_semantics.specs.Layouts.{launches as launches_at, recovers as recovers_at, ends_units as ends_units_at};
-ghost use Rattle.cf_semantics.specs.Bars.{stops_at as stops};
+ghost use Rattle.cf_semantics.specs.state.Layouts.{launches as launches_at, recovers as recovers_at, ends_units as ends_units_at};
+ghost use Rattle.cf_semantics.specs.moves.Bars.{stops_at as stops};
 
 use crate::reading::kind;
 use cf_bind::Passenger;

@@ -19,13 +19,13 @@ use Rattle.cf_bind.specs.declared.binding.Binding.{Binding}
 use Rattle.cf_bind.specs.declared.passenger.End.{End}
 use Rattle.cf_bind.specs.declared.passenger.Guess.{Guess}
 use Rattle.cf_bind.specs.declared.passenger.Passenger.{Passenger}
-use Rattle.cf_semantics.specs.Instructions.{Bad, Fetched, Goes, Got, Stepped, Stops, access_trap, answer_of, behind, dst_of, fetched, finish_trap, free_trap, is_control, is_free, is_serial, kind_of, mem_after, serve_of, src1_of, src2_of, step_here, value_read, value_written, word_after}
-use Rattle.cf_semantics.specs.Laws.{AccessesAsLaunched, ComputesAsFinished, IsReady, ReadsAsIssued, ServesAndPasses, computes, departed, replied, returned}
-use Rattle.cf_semantics.specs.Moves.{written}
-use Rattle.cf_semantics.specs.Options.{on}
-use Rattle.cf_semantics.specs.Passengers.{finish, finished, fresh, fresh_end, fresh_fence, instruction, reg_in, trapped, value_in, with_value}
-use Rattle.cf_semantics.specs.Soundness.{Holds}
-use Rattle.cf_semantics.specs.Steps.{onward, served, stepped_as}
+use Rattle.cf_semantics.specs.moves.Instructions.{Bad, Fetched, Goes, Got, Stepped, Stops, access_trap, answer_of, behind, dst_of, fetched, finish_trap, free_trap, is_control, is_free, is_serial, kind_of, mem_after, serve_of, src1_of, src2_of, step_here, value_read, value_written, word_after}
+use Rattle.cf_semantics.specs.claims.Laws.{AccessesAsLaunched, ComputesAsFinished, IsReady, ReadsAsIssued, ServesAndPasses, computes, departed, replied, returned}
+use Rattle.cf_semantics.specs.moves.Moves.{written}
+use Rattle.cf_semantics.specs.state.Options.{on}
+use Rattle.cf_semantics.specs.state.Passengers.{finish, finished, fresh, fresh_end, fresh_fence, instruction, reg_in, trapped, value_in, with_value}
+use Rattle.cf_semantics.specs.claims.Soundness.{Holds}
+use Rattle.cf_semantics.specs.moves.Steps.{onward, served, stepped_as}
 use Rattle.cf_refinement.proofs.invariant.Suited.{is_plain}
 use Rattle.cf_refinement.proofs.instructions.Fetches.{fetched_alike}
 use Rattle.cf_refinement.proofs.instructions.Steps.{bad_step, fetched_is, plain_steps, step_executes, step_is, step_keeps, straight_next, straight_trap, word_is}

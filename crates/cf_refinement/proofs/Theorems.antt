@@ -4,12 +4,12 @@ use Rattle.rv_machine.specs.Machine.{Machine}
 use Rattle.cf_layout.specs.Accepted.{IsAccepted}
 use Rattle.cf_layout.specs.Layout.{Plan}
 use Rattle.cf_bind.specs.declared.moves.Move.{Move}
-use Rattle.cf_semantics.specs.Bars.{bar}
-use Rattle.cf_semantics.specs.Heeds.{Heeds}
-use Rattle.cf_semantics.specs.Lines.{lines}
-use Rattle.cf_semantics.specs.Refines.{IsPrefix, Refines}
-use Rattle.cf_semantics.specs.Runs.{IsRun, run, start}
-use Rattle.cf_semantics.specs.SoundAfter.{IsSoundAfter}
+use Rattle.cf_semantics.specs.moves.Bars.{bar}
+use Rattle.cf_semantics.specs.claims.Heeds.{Heeds}
+use Rattle.cf_semantics.specs.runs.Lines.{lines}
+use Rattle.cf_semantics.specs.claims.Refines.{IsPrefix, Refines}
+use Rattle.cf_semantics.specs.runs.Runs.{IsRun, run, start}
+use Rattle.cf_semantics.specs.claims.SoundAfter.{IsSoundAfter}
 use Rattle.cf_refinement.proofs.invariant.Invariant.{HoldsAfter}
 use Rattle.cf_refinement.proofs.layouts.Accepted.{accepted_suits}
 use Rattle.cf_refinement.proofs.claims.Heeds as heeds

@@ -6,7 +6,7 @@ use Rattle.std.proofs.lemmas.Option.{unwrap_or-slice_get}
 use Rattle.cf_layout.specs.Layout.{Plan, SidingPlan, no_siding, cells_of}
 use Rattle.cf_layout.specs.Accepted.{IsAccepted}
 use Rattle.cf_texts.specs.Texts.{register_name}
-use Rattle.cf_semantics.specs.Passengers.{cached}
+use Rattle.cf_semantics.specs.state.Passengers.{cached}
 use Rattle.cf_report.specs.Picture.{or_dash, requests_text, kept_text, kept_below}
 
 pub requests-listed : (lane : List ℕ) → 0 < length lane → or_dash (requests_text lane) ≡ requests_text lane

@@ -5,11 +5,11 @@ use Rattle.std.specs.List.{AllByRecursion, find}
 use Rattle.std.proofs.lemmas.List.Folds.{list_any-append}
 use Rattle.cf_layout.specs.Layout.{Plan}
 use Rattle.cf_bind.specs.declared.moves.Move.{Move}
-use Rattle.cf_semantics.specs.Bars.{bar}
-use Rattle.cf_semantics.specs.Candidates.{all_moves, candidates, held_back, other_moves}
-use Rattle.cf_semantics.specs.Options.{is_some, on}
-use Rattle.cf_semantics.specs.State.{State}
-use Rattle.cf_semantics.specs.Weight.{is_issue}
+use Rattle.cf_semantics.specs.moves.Bars.{bar}
+use Rattle.cf_semantics.specs.moves.Candidates.{all_moves, candidates, held_back, other_moves}
+use Rattle.cf_semantics.specs.state.Options.{is_some, on}
+use Rattle.cf_semantics.specs.state.State.{State}
+use Rattle.cf_semantics.specs.claims.Weight.{is_issue}
 use Rattle.cf_index.specs.Alone.{HasSidings, stands_alone}
 use Rattle.cf_index.specs.Sites.{shares}
 use Rattle.cf_rounds.specs.Rounds.{AreApart, AreCandidates, IsAllowed, IsFull, IsRound, IsTaken, round_of, shares_any, taken}

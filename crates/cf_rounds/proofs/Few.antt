@@ -9,8 +9,8 @@ use Rattle.cf_layout.specs.Accepted.{IsAccepted}
 use Rattle.cf_layout.specs.Layout.{Plan, cells_of}
 use Rattle.cf_bind.specs.declared.moves.Move.{Move}
 use Rattle.cf_bind.specs.declared.moves.Move.TheVariants.{Issue, Emit, Climb, Fall, Meet, Execute, Send, Launch, Slide, Access, Recover, Leave, Exit, Serve}
-use Rattle.cf_semantics.specs.Layouts.{port}
-use Rattle.cf_semantics.specs.Sites.{Site, Stage, SidingCell}
+use Rattle.cf_semantics.specs.state.Layouts.{port}
+use Rattle.cf_semantics.specs.moves.Sites.{Site, Stage, SidingCell}
 use Rattle.cf_index.specs.Sites.{AreThere, IsPlace, shares, uses_place}
 use Rattle.cf_index.proofs.SharedSites.{shared_at, used_there}
 use Rattle.cf_index.proofs.SiteWords.{siding_within}

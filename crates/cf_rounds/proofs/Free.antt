@@ -5,13 +5,13 @@ use Rattle.cf_layout.specs.Layout.{Plan}
 use Rattle.cf_bind.specs.declared.cell.Cell.{Cell}
 use Rattle.cf_bind.specs.declared.moves.Move.{Move}
 use Rattle.cf_bind.specs.declared.moves.Move.TheVariants.{Issue, Emit, Climb, Fall, Meet, Execute, Send, Launch, Slide, Access, Recover, Leave, Exit, Serve}
-use Rattle.cf_semantics.specs.Bars.{bar}
-use Rattle.cf_semantics.specs.Moves.{next}
-use Rattle.cf_semantics.specs.Runs.{IsRun, run}
+use Rattle.cf_semantics.specs.moves.Bars.{bar}
+use Rattle.cf_semantics.specs.moves.Moves.{next}
+use Rattle.cf_semantics.specs.runs.Runs.{IsRun, run}
 use Rattle.std.proofs.Common.{arith}
 use Rattle.std.proofs.lemmas.Bool.Decides.{nat_tests}
-use Rattle.cf_semantics.specs.Sites.{AreIndependent, OfStage, Stage, content, ends_there, reads, writes}
-use Rattle.cf_semantics.specs.State.{State, Moment, cell_at}
+use Rattle.cf_semantics.specs.moves.Sites.{AreIndependent, OfStage, Stage, content, ends_there, reads, writes}
+use Rattle.cf_semantics.specs.state.State.{State, Moment, cell_at}
 use Rattle.cf_confluence.proofs.Laws.{independent_swap, move_local}
 use Rattle.cf_index.specs.Sites.{shares}
 use Rattle.cf_index.proofs.SharedSites.{shared_at, shared_place}

@@ -4,8 +4,8 @@ use Rattle.std.specs.Prelude.{slice_get, if◌then◌else◌}
 use Rattle.std.specs.List.{AllByRecursion, find, list_any}
 use Rattle.cf_layout.specs.Layout.{Plan}
 use Rattle.cf_bind.specs.declared.moves.Move.{Move}
-use Rattle.cf_semantics.specs.Options.{on}
-use Rattle.cf_semantics.specs.State.{State}
+use Rattle.cf_semantics.specs.state.Options.{on}
+use Rattle.cf_semantics.specs.state.State.{State}
 use Rattle.cf_core.specs.Processors.{IsProcessor}
 use Rattle.cf_index.specs.Alone.{stands_alone}
 use Rattle.cf_index.specs.Sites.{AreThere}

@@ -7,12 +7,12 @@ use Rattle.cf_bind.specs.declared.cell.Cell.{Cell}
 use Rattle.cf_bind.specs.declared.moves.Move.{Move}
 use Rattle.cf_bind.specs.declared.moves.Move.TheVariants.{Issue, Emit, Climb, Fall, Meet, Execute, Send, Launch, Slide, Access, Recover, Leave, Exit, Serve}
 use Rattle.cf_semantics.specs.declared.event.Event.{Event}
-use Rattle.cf_semantics.specs.Ahead.{served_count}
-use Rattle.cf_semantics.specs.Bars.{bar}
-use Rattle.cf_semantics.specs.Events.{IsEvent}
-use Rattle.cf_semantics.specs.Moves.{next}
-use Rattle.cf_semantics.specs.Sites.{OfStage, Stage, content, writes}
-use Rattle.cf_semantics.specs.State.{State, Moment, cell_at}
+use Rattle.cf_semantics.specs.claims.Ahead.{served_count}
+use Rattle.cf_semantics.specs.moves.Bars.{bar}
+use Rattle.cf_semantics.specs.moves.Events.{IsEvent}
+use Rattle.cf_semantics.specs.moves.Moves.{next}
+use Rattle.cf_semantics.specs.moves.Sites.{OfStage, Stage, content, writes}
+use Rattle.cf_semantics.specs.state.State.{State, Moment, cell_at}
 use Rattle.cf_confluence.proofs.Laws.{move_local}
 use Rattle.cf_refinement.proofs.claims.Runs.{Counts}
 use Rattle.cf_core.specs.Stepping.{Makes}

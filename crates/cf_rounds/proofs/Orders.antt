@@ -2,8 +2,8 @@
 use Rattle.std.proofs.Common.{◌≡◌, List, [], ◌∷◌, ◌++◌, sym, ap, subst, ◌∙◌}
 use Rattle.cf_layout.specs.Layout.{Plan}
 use Rattle.cf_bind.specs.declared.moves.Move.{Move}
-use Rattle.cf_semantics.specs.Runs.{IsRun, run}
-use Rattle.cf_semantics.specs.State.{Moment}
+use Rattle.cf_semantics.specs.runs.Runs.{IsRun, run}
+use Rattle.cf_semantics.specs.state.State.{Moment}
 use Rattle.cf_index.specs.Alone.{HasSidings}
 use Rattle.cf_rounds.specs.Rounds.{IsOrderOf, IsRound}
 use Rattle.cf_rounds.proofs.Chosen.{Form, alone, together, round_form}

@@ -9,15 +9,15 @@ use Rattle.cf_layout.specs.Layout.{Plan}
 use Rattle.cf_bind.specs.declared.moves.Move.{Move}
 use Rattle.cf_bind.specs.declared.moves.Move.TheVariants.{Issue, Emit, Climb, Fall, Meet, Execute, Send, Launch, Slide, Access, Recover, Leave, Exit, Serve}
 use Rattle.cf_semantics.specs.declared.event.Event.{Event}
-use Rattle.cf_semantics.specs.Bars.{bar}
-use Rattle.cf_semantics.specs.Drained.{IsStuck, is_drained}
-use Rattle.cf_semantics.specs.Holding.{is_held, is_retirement, offered, paced}
-use Rattle.cf_semantics.specs.Lines.{Line, retires}
-use Rattle.cf_semantics.specs.Moves.{next}
-use Rattle.cf_semantics.specs.Options.{on}
-use Rattle.cf_semantics.specs.Sites.{Stage}
-use Rattle.cf_semantics.specs.State.{State, Moment}
-use Rattle.cf_semantics.specs.Weight.{is_issue}
+use Rattle.cf_semantics.specs.moves.Bars.{bar}
+use Rattle.cf_semantics.specs.state.Drained.{IsStuck, is_drained}
+use Rattle.cf_semantics.specs.moves.Holding.{is_held, is_retirement, offered, paced}
+use Rattle.cf_semantics.specs.runs.Lines.{Line, retires}
+use Rattle.cf_semantics.specs.moves.Moves.{next}
+use Rattle.cf_semantics.specs.state.Options.{on}
+use Rattle.cf_semantics.specs.moves.Sites.{Stage}
+use Rattle.cf_semantics.specs.state.State.{State, Moment}
+use Rattle.cf_semantics.specs.claims.Weight.{is_issue}
 use Rattle.cf_confluence.proofs.Candidates.{HasShape}
 use Rattle.cf_refinement.proofs.layouts.Accepted.{accepted_suits}
 use Rattle.cf_untold.proofs.Invariant.{HoldsAnew}

@@ -6,12 +6,12 @@ use Rattle.cf_layout.specs.Accepted.{IsAccepted}
 use Rattle.cf_layout.specs.Layout.{Plan}
 use Rattle.cf_bind.specs.declared.moves.Move.{Move}
 use Rattle.cf_bind.specs.declared.moves.Move.TheVariants.{Serve}
-use Rattle.cf_semantics.specs.Candidates.{candidates, held_back}
-use Rattle.cf_semantics.specs.Holding.{is_held, offered}
-use Rattle.cf_semantics.specs.Lines.{Line}
-use Rattle.cf_semantics.specs.Moves.{next}
-use Rattle.cf_semantics.specs.Runs.{start as start_on}
-use Rattle.cf_semantics.specs.State.{State, Moment}
+use Rattle.cf_semantics.specs.moves.Candidates.{candidates, held_back}
+use Rattle.cf_semantics.specs.moves.Holding.{is_held, offered}
+use Rattle.cf_semantics.specs.runs.Lines.{Line}
+use Rattle.cf_semantics.specs.moves.Moves.{next}
+use Rattle.cf_semantics.specs.runs.Runs.{start as start_on}
+use Rattle.cf_semantics.specs.state.State.{State, Moment}
 use Rattle.cf_untold.specs.Paced.{PacesTo}
 use Rattle.cf_untold.proofs.Theorems.{anew_started}
 use Rattle.cf_core.specs.Processors.{Processor, IsProcessor}

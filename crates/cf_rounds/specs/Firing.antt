@@ -5,8 +5,8 @@ use Rattle.cf_bind.specs.declared.moves.Move.{Move}
 use Rattle.cf_bind.specs.declared.moves.Move.TheVariants.{Serve}
 use Rattle.cf_semantics.specs.declared.event.Event.{Event}
 use Rattle.cf_semantics.specs.declared.event.Event.TheVariants as event
-use Rattle.cf_semantics.specs.Drained.{is_drained}
-use Rattle.cf_semantics.specs.Holding.{paced}
+use Rattle.cf_semantics.specs.state.Drained.{is_drained}
+use Rattle.cf_semantics.specs.moves.Holding.{paced}
 use Rattle.cf_sched.specs.Paces.{Count, HasCounted}
 use Rattle.cf_run.specs.declared.answer.Ran.TheVariants as ran
 use Rattle.cf_run.specs.declared.show.Show.TheVariants as show

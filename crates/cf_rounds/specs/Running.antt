@@ -2,8 +2,8 @@
 use Rattle.std.specs.Prelude.{◌≡◌, ℕ, ◌+◌, List, [], ◌∷◌, ◌++◌, length, Err}
 use Rattle.cf_layout.specs.Layout.{Plan}
 use Rattle.cf_bind.specs.declared.moves.Move.TheVariants.{Serve}
-use Rattle.cf_semantics.specs.Holding.{offered}
-use Rattle.cf_semantics.specs.State.{State}
+use Rattle.cf_semantics.specs.moves.Holding.{offered}
+use Rattle.cf_semantics.specs.state.State.{State}
 use Rattle.cf_run.specs.declared.answer.Ran.{Ran as Answer}
 use Rattle.cf_run.specs.declared.answer.Ran.TheVariants as ran
 use Rattle.cf_run.specs.declared.answer.Scripted.TheVariants.{Ran}

@@ -2,7 +2,7 @@
 
 ghost use Rattle.std.specs.Prelude.{◌≡◌, ◌<◌, ◌++◌, ◌∷◌, [], length, if◌then◌else◌};
 ghost use Rattle.std.specs.List.{AllByRecursion, find};
-ghost use Rattle.cf_semantics.specs.Sites.{ends_there as ends_there_of};
+ghost use Rattle.cf_semantics.specs.moves.Sites.{ends_there as ends_there_of};
 ghost use Rattle.cf_index.specs.Sites.{AreThere};
 ghost use Rattle.cf_index.specs.Alone.{stands_alone};
 ghost use Rattle.cf_rounds.specs.Rounds.{AreCandidates, IsFull, IsRound, round_of, shares_any, taken};

@@ -3,8 +3,8 @@
 ghost use Rattle.std.specs.Prelude.{◌≡◌, List};
 ghost use Rattle.cf_layout.specs.Layout.{Plan};
 ghost use Rattle.cf_bind.specs.declared.moves.Move.{Move as AnyMove};
-ghost use Rattle.cf_semantics.specs.Runs.{IsRun, run};
-ghost use Rattle.cf_semantics.specs.State.{Moment};
+ghost use Rattle.cf_semantics.specs.runs.Runs.{IsRun, run};
+ghost use Rattle.cf_semantics.specs.state.State.{Moment};
 ghost use Rattle.cf_index.specs.Alone.{HasSidings};
 ghost use Rattle.cf_rounds.specs.Rounds.{IsOrderOf, IsRound};
 

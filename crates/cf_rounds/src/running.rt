@@ -4,7 +4,7 @@
 ghost use Rattle.std.specs.Prelude.{◌≡◌, ℕ, ◌+◌, ◌<◌, ◌≤◌, ◌^◌, None, Some, length};
 ghost use Rattle.cf_io.specs.Causes.{HasCause};
 ghost use Rattle.rv_machine.specs.Streams.{streams_of};
-ghost use Rattle.cf_semantics.specs.Holding.{offered};
+ghost use Rattle.cf_semantics.specs.moves.Holding.{offered};
 ghost use Rattle.cf_sched.specs.Paces.{HasCounted};
 ghost use Rattle.cf_run.specs.declared.answer.Scripted.TheVariants as scripted;
 ghost use Rattle.cf_run.specs.Ending.{EndsSequentially};

@@ -7,9 +7,9 @@ use Rattle.rv_machine.specs.Streams.{IsTold, Leaves}
 use Rattle.cf_layout.specs.Accepted.{IsAccepted}
 use Rattle.cf_layout.specs.Layout.{Plan}
 use Rattle.cf_bind.specs.declared.moves.Move.{Move}
-use Rattle.cf_semantics.specs.Lines.{Line, lines}
-use Rattle.cf_semantics.specs.Runs.{IsRun, opened as opened_on, start as start_on}
-use Rattle.cf_semantics.specs.State.{State, Moment}
+use Rattle.cf_semantics.specs.runs.Lines.{Line, lines}
+use Rattle.cf_semantics.specs.runs.Runs.{IsRun, opened as opened_on, start as start_on}
+use Rattle.cf_semantics.specs.state.State.{State, Moment}
 use Rattle.cf_refinement.proofs.claims.Runs.{opened_retired}
 use Rattle.cf_refinement.proofs.Theorems.{run_refines}
 use Rattle.cf_core.specs.Processors.{Processor, in_state, opened}

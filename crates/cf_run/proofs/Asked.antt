@@ -3,8 +3,8 @@ use Rattle.std.proofs.Common.{◌≡◌, ℕ, List, [], ◌∷◌, ◌++◌, Opt
 use Rattle.std.specs.Prelude.{◌⊎◌, Result, Ok}
 use Rattle.cf_layout.specs.Layout.{Plan}
 use Rattle.cf_bind.specs.declared.moves.Move.{Move}
-use Rattle.cf_semantics.specs.Moves.{next}
-use Rattle.cf_semantics.specs.State.{State, Moment}
+use Rattle.cf_semantics.specs.moves.Moves.{next}
+use Rattle.cf_semantics.specs.state.State.{State, Moment}
 use Rattle.cf_core.specs.Processors.{Processor}
 use Rattle.cf_scripts.specs.Scripts.{next_of}
 use Rattle.cf_run.specs.declared.show.Show.{Show}

@@ -7,11 +7,11 @@ use Rattle.cf_bind.specs.declared.cell.Cell.{Cell}
 use Rattle.cf_bind.specs.declared.passenger.Passenger.{Passenger}
 use Rattle.cf_bind.specs.declared.moves.Move.{Move}
 use Rattle.cf_bind.specs.declared.moves.Move.TheVariants.{Issue, Emit, Climb, Fall, Meet, Execute, Send, Launch, Slide, Access, Recover, Leave, Exit, Serve}
-use Rattle.cf_semantics.specs.Options.{on}
-use Rattle.cf_semantics.specs.Instructions.{serve_of}
-use Rattle.cf_semantics.specs.Moves.{moved, next, served, asked}
-use Rattle.cf_semantics.specs.Passengers.{instruction}
-use Rattle.cf_semantics.specs.State.{State, Moment, cell_at}
+use Rattle.cf_semantics.specs.state.Options.{on}
+use Rattle.cf_semantics.specs.moves.Instructions.{serve_of}
+use Rattle.cf_semantics.specs.moves.Moves.{moved, next, served, asked}
+use Rattle.cf_semantics.specs.state.Passengers.{instruction}
+use Rattle.cf_semantics.specs.state.State.{State, Moment, cell_at}
 
 -- the moment with an output that was written before
 abbrev pub behind : List ℕ → Moment → Moment

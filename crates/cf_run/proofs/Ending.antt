@@ -12,18 +12,18 @@ use Rattle.cf_layout.specs.Layout.{Plan}
 use Rattle.cf_bind.specs.declared.moves.Move.{Move}
 use Rattle.cf_bind.specs.declared.passenger.End.{End}
 use Rattle.cf_bind.specs.declared.passenger.End.TheVariants as ending
-use Rattle.cf_semantics.specs.Ahead.{served_count}
+use Rattle.cf_semantics.specs.claims.Ahead.{served_count}
 use Rattle.cf_semantics.specs.declared.event.Event.{Event}
-use Rattle.cf_semantics.specs.Bars.{bar}
-use Rattle.cf_semantics.specs.Determined.{IsSame}
-use Rattle.cf_semantics.specs.Events.{IsEvent}
-use Rattle.cf_semantics.specs.Instructions.{Stops, step_at, step_here, stepped}
-use Rattle.cf_semantics.specs.Layouts.{isa_of}
-use Rattle.cf_semantics.specs.Lines.{Line, lines}
-use Rattle.cf_semantics.specs.Moves.{next}
-use Rattle.cf_semantics.specs.Refines.{Refines, gained}
-use Rattle.cf_semantics.specs.Runs.{IsRun, opened as opened_on, run, start as start_on}
-use Rattle.cf_semantics.specs.State.{State, Moment}
+use Rattle.cf_semantics.specs.moves.Bars.{bar}
+use Rattle.cf_semantics.specs.claims.Determined.{IsSame}
+use Rattle.cf_semantics.specs.moves.Events.{IsEvent}
+use Rattle.cf_semantics.specs.moves.Instructions.{Stops, step_at, step_here, stepped}
+use Rattle.cf_semantics.specs.state.Layouts.{isa_of}
+use Rattle.cf_semantics.specs.runs.Lines.{Line, lines}
+use Rattle.cf_semantics.specs.moves.Moves.{next}
+use Rattle.cf_semantics.specs.claims.Refines.{Refines, gained}
+use Rattle.cf_semantics.specs.runs.Runs.{IsRun, opened as opened_on, run, start as start_on}
+use Rattle.cf_semantics.specs.state.State.{State, Moment}
 use Rattle.cf_confluence.proofs.drains.Counted.{after_counts}
 use Rattle.cf_confluence.proofs.drains.Rested.{drained_is}
 use Rattle.cf_refinement.proofs.claims.Level.{retired_unserved}

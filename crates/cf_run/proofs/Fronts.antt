@@ -16,15 +16,15 @@ use Rattle.cf_layout.specs.Accepted.{IsAccepted}
 use Rattle.cf_bind.specs.declared.cell.Cell.{Cell}
 use Rattle.cf_bind.specs.declared.moves.Move.TheVariants.{Serve}
 use Rattle.cf_bind.specs.declared.passenger.Passenger.{Passenger}
-use Rattle.cf_semantics.specs.Ahead.{served_count, has_served, one}
-use Rattle.cf_semantics.specs.Bars.{bar}
-use Rattle.cf_semantics.specs.Instructions.{is_serial, serve_of}
-use Rattle.cf_semantics.specs.Layouts.{isa_of}
-use Rattle.cf_semantics.specs.Moves.{answered, next, served, with_passenger}
-use Rattle.cf_semantics.specs.Options.{on, Where}
-use Rattle.cf_semantics.specs.Passengers.{instruction, kind}
-use Rattle.cf_semantics.specs.Refines.{Spoke, gained}
-use Rattle.cf_semantics.specs.State.{Moment, cell_at, put_cell}
+use Rattle.cf_semantics.specs.claims.Ahead.{served_count, has_served, one}
+use Rattle.cf_semantics.specs.moves.Bars.{bar}
+use Rattle.cf_semantics.specs.moves.Instructions.{is_serial, serve_of}
+use Rattle.cf_semantics.specs.state.Layouts.{isa_of}
+use Rattle.cf_semantics.specs.moves.Moves.{answered, next, served, with_passenger}
+use Rattle.cf_semantics.specs.state.Options.{on, Where}
+use Rattle.cf_semantics.specs.state.Passengers.{instruction, kind}
+use Rattle.cf_semantics.specs.claims.Refines.{Spoke, gained}
+use Rattle.cf_semantics.specs.state.State.{Moment, cell_at, put_cell}
 use Rattle.cf_refinement.proofs.invariant.Invariant.{HoldsAfter, HoldsAt, Sound}
 use Rattle.cf_refinement.proofs.invariant.Sure as sure
 use Rattle.cf_refinement.proofs.layouts.Accepted.{accepted_suits}

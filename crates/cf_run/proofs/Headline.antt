@@ -5,7 +5,7 @@ use Rattle.rv_machine.specs.Machine.{Machine}
 use Rattle.cf_layout.specs.Accepted.{IsAccepted}
 use Rattle.cf_layout.specs.Layout.{Plan}
 use Rattle.cf_bind.specs.declared.moves.Move.{Move}
-use Rattle.cf_semantics.specs.Runs.{opened as opened_on}
+use Rattle.cf_semantics.specs.runs.Runs.{opened as opened_on}
 use Rattle.cf_core.specs.Processors.{Processor, opened}
 use Rattle.cf_untold.proofs.Theorems.{refines_held}
 use Rattle.cf_run.specs.declared.answer.Scripted.{Scripted}

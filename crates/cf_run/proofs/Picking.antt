@@ -4,12 +4,12 @@ use Rattle.rv_machine.specs.Machine.{Machine}
 use Rattle.cf_layout.specs.Accepted.{IsAccepted}
 use Rattle.cf_layout.specs.Layout.{Plan}
 use Rattle.cf_bind.specs.declared.moves.Move.{Move}
-use Rattle.cf_semantics.specs.Drained.{IsStuck, is_drained}
-use Rattle.cf_semantics.specs.Holding.{is_held, paced}
-use Rattle.cf_semantics.specs.Lines.{Line, retires}
-use Rattle.cf_semantics.specs.Moves.{next}
-use Rattle.cf_semantics.specs.State.{State, Moment}
-use Rattle.cf_semantics.specs.Weight.{is_issue}
+use Rattle.cf_semantics.specs.state.Drained.{IsStuck, is_drained}
+use Rattle.cf_semantics.specs.moves.Holding.{is_held, paced}
+use Rattle.cf_semantics.specs.runs.Lines.{Line, retires}
+use Rattle.cf_semantics.specs.moves.Moves.{next}
+use Rattle.cf_semantics.specs.state.State.{State, Moment}
+use Rattle.cf_semantics.specs.claims.Weight.{is_issue}
 use Rattle.cf_refinement.proofs.layouts.Accepted.{accepted_suits}
 use Rattle.cf_refinement.proofs.claims.Runs.{going}
 use Rattle.cf_untold.specs.Anew.{finding}

@@ -11,12 +11,12 @@ use Rattle.cf_bind.specs.declared.cell.Cell.{Cell}
 use Rattle.cf_bind.specs.declared.packet.Packet.{Packet}
 use Rattle.cf_semantics.specs.declared.event.Event.{Event}
 use Rattle.cf_semantics.specs.declared.event.Event.TheVariants as event
-use Rattle.cf_semantics.specs.Bars.{bar}
-use Rattle.cf_semantics.specs.Events.{IsEvent, IsLeaving, Shows, meeting_event}
-use Rattle.cf_semantics.specs.Lines.{Line, line_of, lines, retired_by, retires}
-use Rattle.cf_semantics.specs.Moves.{left, next}
-use Rattle.cf_semantics.specs.Options.{on}
-use Rattle.cf_semantics.specs.State.{State, Moment, cell_at}
+use Rattle.cf_semantics.specs.moves.Bars.{bar}
+use Rattle.cf_semantics.specs.moves.Events.{IsEvent, IsLeaving, Shows, meeting_event}
+use Rattle.cf_semantics.specs.runs.Lines.{Line, line_of, lines, retired_by, retires}
+use Rattle.cf_semantics.specs.moves.Moves.{left, next}
+use Rattle.cf_semantics.specs.state.Options.{on}
+use Rattle.cf_semantics.specs.state.State.{State, Moment, cell_at}
 use Rattle.cf_refinement.proofs.moves.Rows.{bar_row}
 use Rattle.cf_refinement.proofs.moves.Leave.{Leaves, leave_ready, next_leave}
 use Rattle.cf_refinement.proofs.claims.Runs.{going, access_counts, climb_counts, emit_counts, execute_counts, exit_counts, fall_counts, issue_counts, launch_counts, meet_counts, recover_counts, send_counts, serve_counts, slide_counts}

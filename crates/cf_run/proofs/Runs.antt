@@ -9,11 +9,11 @@ use Rattle.rv_machine.proofs.Told.{rest-told, stays, leaves-again}
 use Rattle.cf_layout.specs.Layout.{Plan}
 use Rattle.cf_bind.specs.declared.moves.Move.{Move}
 use Rattle.cf_semantics.specs.declared.event.Event.{Event}
-use Rattle.cf_semantics.specs.Bars.{bar}
-use Rattle.cf_semantics.specs.Events.{IsEvent}
-use Rattle.cf_semantics.specs.Moves.{next}
-use Rattle.cf_semantics.specs.Runs.{IsRun, run}
-use Rattle.cf_semantics.specs.State.{State, Moment}
+use Rattle.cf_semantics.specs.moves.Bars.{bar}
+use Rattle.cf_semantics.specs.moves.Events.{IsEvent}
+use Rattle.cf_semantics.specs.moves.Moves.{next}
+use Rattle.cf_semantics.specs.runs.Runs.{IsRun, run}
+use Rattle.cf_semantics.specs.state.State.{State, Moment}
 use Rattle.cf_core.specs.Processors.{Processor, in_state}
 use Rattle.cf_core.specs.Stepping.{Makes}
 use Rattle.cf_report.specs.declared.tally.Tally.{Tally}

@@ -7,15 +7,15 @@ use Rattle.cf_layout.specs.Layout.{Plan}
 use Rattle.cf_bind.specs.declared.moves.Bar.{Bar}
 use Rattle.cf_bind.specs.declared.moves.Move.{Move}
 use Rattle.cf_bind.specs.declared.passenger.End.{End}
-use Rattle.cf_semantics.specs.Bars.{bar}
-use Rattle.cf_semantics.specs.Determined.{Drains, EndAlike, EndsAs}
-use Rattle.cf_semantics.specs.Drained.{IsStuck}
-use Rattle.cf_semantics.specs.Moves.{next}
-use Rattle.cf_semantics.specs.Options.{is_some}
-use Rattle.cf_semantics.specs.Candidates.{all_moves, candidates, other_moves}
-use Rattle.cf_semantics.specs.Runs.{IsRun, run, start}
-use Rattle.cf_semantics.specs.State.{State, Moment}
-use Rattle.cf_semantics.specs.Weight.{counts, is_issue, moves_per_issue, weight}
+use Rattle.cf_semantics.specs.moves.Bars.{bar}
+use Rattle.cf_semantics.specs.claims.Determined.{Drains, EndAlike, EndsAs}
+use Rattle.cf_semantics.specs.state.Drained.{IsStuck}
+use Rattle.cf_semantics.specs.moves.Moves.{next}
+use Rattle.cf_semantics.specs.state.Options.{is_some}
+use Rattle.cf_semantics.specs.moves.Candidates.{all_moves, candidates, other_moves}
+use Rattle.cf_semantics.specs.runs.Runs.{IsRun, run, start}
+use Rattle.cf_semantics.specs.state.State.{State, Moment}
+use Rattle.cf_semantics.specs.claims.Weight.{counts, is_issue, moves_per_issue, weight}
 use Rattle.cf_refinement.proofs.invariant.Invariant.{HoldsAfter, HoldsAt, Sound}
 use Rattle.cf_refinement.proofs.invariant.Suited.{Suits}
 use Rattle.cf_refinement.proofs.layouts.Accepted.{accepted_suits}

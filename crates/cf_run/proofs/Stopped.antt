@@ -5,10 +5,10 @@ use Rattle.std.specs.Prelude.{◌||◌, if◌then◌else◌}
 use Rattle.cf_layout.specs.Layout.{Plan}
 use Rattle.cf_bind.specs.declared.moves.Move.{Move}
 use Rattle.cf_semantics.specs.declared.event.Event.{Event}
-use Rattle.cf_semantics.specs.Holding.{is_held, is_retirement, offered, paced}
-use Rattle.cf_semantics.specs.State.{State}
-use Rattle.cf_semantics.specs.Weight.{is_issue}
-use Rattle.cf_semantics.specs.Candidates.{candidates, held_back}
+use Rattle.cf_semantics.specs.moves.Holding.{is_held, is_retirement, offered, paced}
+use Rattle.cf_semantics.specs.state.State.{State}
+use Rattle.cf_semantics.specs.claims.Weight.{is_issue}
+use Rattle.cf_semantics.specs.moves.Candidates.{candidates, held_back}
 use Rattle.cf_sched.specs.Paces.{Count, offers, stopped}
 
 held_stopped : (plan : Plan) (count : ℕ) → is_held plan (stopped plan.stages count) ≡ is_held plan count

@@ -8,9 +8,9 @@ use Rattle.cf_layout.specs.Accepted.{IsAccepted}
 use Rattle.cf_bind.specs.declared.moves.Move.{Move}
 use Rattle.cf_bind.specs.declared.moves.Move.TheVariants.{Serve}
 use Rattle.cf_semantics.specs.declared.event.Event.{Event}
-use Rattle.cf_semantics.specs.Bars.{bar}
-use Rattle.cf_semantics.specs.Lines.{Line}
-use Rattle.cf_semantics.specs.State.{State, Moment}
+use Rattle.cf_semantics.specs.moves.Bars.{bar}
+use Rattle.cf_semantics.specs.runs.Lines.{Line}
+use Rattle.cf_semantics.specs.state.State.{State, Moment}
 use Rattle.cf_refinement.proofs.invariant.Invariant.{HoldsAfter}
 use Rattle.cf_core.specs.Processors.{Processor, in_state}
 use Rattle.cf_core.specs.Stepping.{FailsToRead, FailsToWrite}

@@ -7,13 +7,13 @@ use Rattle.rv_machine.specs.Streams.{Streams, Becomes, Leaves}
 use Rattle.cf_layout.specs.Accepted.{IsAccepted}
 use Rattle.cf_layout.specs.Layout.{Plan}
 use Rattle.cf_bind.specs.declared.moves.Move.{Move}
-use Rattle.cf_semantics.specs.Layouts.{isa_of}
-use Rattle.cf_semantics.specs.Lines.{Line, retires}
-use Rattle.cf_semantics.specs.Moves.{next}
-use Rattle.cf_semantics.specs.Refines.{gained}
-use Rattle.cf_semantics.specs.Runs.{start as start_on}
-use Rattle.cf_semantics.specs.State.{Moment}
-use Rattle.cf_semantics.specs.Weight.{issues, weight}
+use Rattle.cf_semantics.specs.state.Layouts.{isa_of}
+use Rattle.cf_semantics.specs.runs.Lines.{Line, retires}
+use Rattle.cf_semantics.specs.moves.Moves.{next}
+use Rattle.cf_semantics.specs.claims.Refines.{gained}
+use Rattle.cf_semantics.specs.runs.Runs.{start as start_on}
+use Rattle.cf_semantics.specs.state.State.{Moment}
+use Rattle.cf_semantics.specs.claims.Weight.{issues, weight}
 use Rattle.cf_refinement.proofs.claims.Runs.{opened_retired}
 use Rattle.cf_untold.specs.Anew.{finding, GoesTo, LeadsTo}
 use Rattle.cf_untold.proofs.Invariant.{HoldsAnew}

@@ -2,7 +2,7 @@
 use Rattle.std.specs.Prelude.{◌≡◌, ◌⊎◌, ℕ, List, [], ◌∷◌, Some, Ok}
 use Rattle.cf_layout.specs.Layout.{Plan}
 use Rattle.cf_bind.specs.declared.moves.Move.{Move}
-use Rattle.cf_semantics.specs.State.{State}
+use Rattle.cf_semantics.specs.state.State.{State}
 use Rattle.cf_core.specs.Processors.{Processor}
 use Rattle.cf_core.specs.Asking.{AsksInput, AsksOutput}
 use Rattle.cf_scripts.specs.Scripts.{Told, next_of}

@@ -8,8 +8,8 @@ use Rattle.rv_machine.specs.Outcome.{Exit, Trap}
 use Rattle.rv_machine.specs.Step.{step}
 use Rattle.rv_machine.specs.Streams.{Leaves}
 use Rattle.cf_layout.specs.Layout.{Plan}
-use Rattle.cf_semantics.specs.Layouts.{isa_of}
-use Rattle.cf_semantics.specs.Lines.{Line}
+use Rattle.cf_semantics.specs.state.Layouts.{isa_of}
+use Rattle.cf_semantics.specs.runs.Lines.{Line}
 use Rattle.cf_untold.specs.Anew.{GoesTo}
 use Rattle.cf_core.specs.Processors.{opened}
 use Rattle.cf_run.specs.declared.answer.Ran.{Ran as Answer}

@@ -10,15 +10,15 @@ use Rattle.rv_machine.specs.declared.outcome.Retired.{Retired}
 use Rattle.cf_layout.specs.Layout.{Plan}
 use Rattle.cf_bind.specs.declared.moves.Move.{Move}
 use Rattle.cf_bind.specs.declared.moves.Move.TheVariants.{Serve}
-use Rattle.cf_semantics.specs.Bars.{bar}
-use Rattle.cf_semantics.specs.Determined.{Drains, EndsAs, EndAlike}
-use Rattle.cf_semantics.specs.Events.{Shows}
-use Rattle.cf_semantics.specs.Layouts.{isa_of}
-use Rattle.cf_semantics.specs.Lines.{Line, lines, sequence}
-use Rattle.cf_semantics.specs.Refines.{Refines, gained}
-use Rattle.cf_semantics.specs.Runs.{IsRun, run, start as start_on}
-use Rattle.cf_semantics.specs.State.{State, Moment}
-use Rattle.cf_semantics.specs.Weight.{issues, weight}
+use Rattle.cf_semantics.specs.moves.Bars.{bar}
+use Rattle.cf_semantics.specs.claims.Determined.{Drains, EndsAs, EndAlike}
+use Rattle.cf_semantics.specs.moves.Events.{Shows}
+use Rattle.cf_semantics.specs.state.Layouts.{isa_of}
+use Rattle.cf_semantics.specs.runs.Lines.{Line, lines, sequence}
+use Rattle.cf_semantics.specs.claims.Refines.{Refines, gained}
+use Rattle.cf_semantics.specs.runs.Runs.{IsRun, run, start as start_on}
+use Rattle.cf_semantics.specs.state.State.{State, Moment}
+use Rattle.cf_semantics.specs.claims.Weight.{issues, weight}
 use Rattle.cf_untold.specs.Anew.{GoesTo, LeadsTo}
 use Rattle.cf_core.specs.Processors.{in_state, opened}
 use Rattle.cf_core.specs.Stepping.{FailsToRead, FailsToWrite}

@@ -5,7 +5,7 @@ use Rattle.cf_bind.specs.declared.moves.Move.{Move}
 use Rattle.cf_bind.specs.declared.moves.Move.TheVariants.{Meet}
 use Rattle.cf_semantics.specs.declared.event.Event.{Event}
 use Rattle.cf_semantics.specs.declared.event.Event.TheVariants as event
-use Rattle.cf_semantics.specs.State.{State}
+use Rattle.cf_semantics.specs.state.State.{State}
 use Rattle.cf_report.specs.declared.tally.Tally.{Tally}
 use Rattle.cf_report.specs.Lines.{retired_line, numbered_move}
 use Rattle.cf_report.specs.Picture.{picture}

@@ -5,8 +5,8 @@ use Rattle.rv_machine.specs.Streams.{Streams}
 use Rattle.cf_bind.specs.declared.moves.Move.{Move}
 use Rattle.cf_bind.specs.declared.moves.Move.TheVariants.{Serve}
 use Rattle.cf_semantics.specs.declared.event.Event.{Event}
-use Rattle.cf_semantics.specs.Bars.{bar as first_bar}
-use Rattle.cf_semantics.specs.Events.{IsEvent}
+use Rattle.cf_semantics.specs.moves.Bars.{bar as first_bar}
+use Rattle.cf_semantics.specs.moves.Events.{IsEvent}
 use Rattle.cf_core.specs.Processors.{Processor}
 use Rattle.cf_core.specs.Stepping.{Makes, FailsToRead, FailsToWrite}
 use Rattle.cf_report.specs.declared.tally.Tally.{Tally}

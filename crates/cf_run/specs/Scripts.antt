@@ -2,7 +2,7 @@
 use Rattle.std.specs.Prelude.{◌≡◌, ℕ, List, map, take, drop, length, Option, Some, None, Result, Ok, Err}
 use Rattle.cf_bind.specs.declared.moves.Move.{Move}
 use Rattle.cf_semantics.specs.declared.event.Event.{Event}
-use Rattle.cf_semantics.specs.Bars.{bar as first_bar}
+use Rattle.cf_semantics.specs.moves.Bars.{bar as first_bar}
 use Rattle.cf_report.specs.declared.tally.Tally.{Tally}
 use Rattle.cf_scripts.specs.Scripts.{Told, next_of, behind_next}
 use Rattle.cf_run.specs.declared.answer.Ran.TheVariants as ran

@@ -4,7 +4,7 @@
 ghost use Rattle.std.specs.Prelude.{◌≡◌, ◌+◌, ◌<◌, ◌^◌, None};
 ghost use Rattle.cf_io.specs.Causes.{HasCause};
 ghost use Rattle.rv_machine.specs.Streams.{streams_of};
-ghost use Rattle.cf_semantics.specs.Bars.{bar};
+ghost use Rattle.cf_semantics.specs.moves.Bars.{bar};
 ghost use Rattle.cf_core.specs.Asking.{AsksInput, AsksOutput};
 ghost use Rattle.cf_run.specs.Moving.{place_of, Does, input_done, output_done, report_done};
 

@@ -2,7 +2,7 @@
 use Rattle.std.proofs.Common.{◌≡◌, ℕ, arith}
 use Rattle.std.proofs.lemmas.Bool.Decides.{nat_tests}
 use Rattle.cf_layout.specs.Layout.{Plan}
-use Rattle.cf_semantics.specs.Holding.{is_held}
+use Rattle.cf_semantics.specs.moves.Holding.{is_held}
 use Rattle.cf_sched.specs.Paces.{Count, HasCounted, holds}
 
 -- whether Issue is held back

@@ -3,8 +3,8 @@ use Rattle.std.proofs.Common.{◌≡◌, Bool, Some}
 use Rattle.std.specs.Prelude.{slice_get}
 use Rattle.cf_bind.specs.declared.moves.Move.{Move}
 use Rattle.cf_layout.specs.Layout.{Plan}
-use Rattle.cf_semantics.specs.Candidates.{candidates}
-use Rattle.cf_semantics.specs.State.{State}
+use Rattle.cf_semantics.specs.moves.Candidates.{candidates}
+use Rattle.cf_semantics.specs.state.State.{State}
 use Rattle.cf_index.specs.Allowed.{withheld}
 use Rattle.cf_index.specs.Order.{first_behind}
 use Rattle.cf_sched.specs.Paces.{Count, holds, offers}

@@ -3,9 +3,9 @@ use Rattle.std.specs.Prelude.{◌≡◌, ℕ, ◌*◌, List, min, Bool, nat_le, 
 use Rattle.cf_layout.specs.Layout.{Plan}
 use Rattle.cf_bind.specs.declared.moves.Move.{Move}
 use Rattle.cf_semantics.specs.declared.event.Event.{Event}
-use Rattle.cf_semantics.specs.State.{State}
-use Rattle.cf_semantics.specs.Candidates.{candidates, held_back}
-use Rattle.cf_semantics.specs.Holding.{paced}
+use Rattle.cf_semantics.specs.state.State.{State}
+use Rattle.cf_semantics.specs.moves.Candidates.{candidates, held_back}
+use Rattle.cf_semantics.specs.moves.Holding.{paced}
 
 -- how many stages there are, and the count, which stops at twice as many
 pub record Count : Type 0 where

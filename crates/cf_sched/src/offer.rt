@@ -1,7 +1,7 @@
 //! What a policy is offered.
 
 ghost use Rattle.std.specs.Prelude.{◌≡◌, ℕ};
-ghost use Rattle.cf_semantics.specs.Holding.{offered};
+ghost use Rattle.cf_semantics.specs.moves.Holding.{offered};
 ghost use Rattle.cf_sched.specs.Paces.{HasCounted, offers};
 
 use crate::pace::Pace;

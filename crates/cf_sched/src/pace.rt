@@ -1,9 +1,9 @@
 //! The rule by which Issue is held back.
 
 ghost use Rattle.std.specs.Prelude.{◌≡◌, ℕ};
-ghost use Rattle.cf_semantics.specs.Holding.{is_held, is_retirement, paced};
+ghost use Rattle.cf_semantics.specs.moves.Holding.{is_held, is_retirement, paced};
 ghost use Rattle.cf_layout.specs.Layout.{Plan};
-ghost use Rattle.cf_semantics.specs.Weight.{is_issue};
+ghost use Rattle.cf_semantics.specs.claims.Weight.{is_issue};
 ghost use Rattle.cf_sched.specs.Paces.{HasCounted, holds, saw};
 
 use cf_bind::Move;
@@ -64,7 +64,7 @@ impl Pace {
 
     /// Takes note of a move: what it tells of itself, and whether the state after it is drained.
     #[inline(always)]
-    #[tactic(auto, unfolding(cf_semantics::specs::Holding::paced))]
+    #[tactic(auto, unfolding(cf_semantics::specs::moves::Holding::paced))]
     pub fn saw(&mut self, mv: Move, event: &Event, drained: bool)
         ensures value { self.new ≡ saw self.old mv event.now drained }
         ensures counted { (stages count : ℕ) → HasCounted stages count self.old → HasCounted stages (paced count mv event.now drained) self.new }

@@ -4,8 +4,8 @@ use Rattle.std.specs.Prelude.{slice_index_or, slice_set}
 use Rattle.cf_bind.specs.declared.cell.Op.{Op}
 use Rattle.mem_regions.specs.Memory.{Memory}
 use Rattle.cf_sidings.specs.Sidings.{CanAccess}
-use Rattle.cf_semantics.specs.Bars.{last_op}
-use Rattle.cf_semantics.specs.Moves.{set_last}
+use Rattle.cf_semantics.specs.moves.Bars.{last_op}
+use Rattle.cf_semantics.specs.moves.Moves.{set_last}
 
 -- the number of cells is one more than the index of the last
 last_index : (cells : List (Option Op)) (n : ℕ) → length cells ≡ suc n → last_op cells ≡ slice_index_or cells n None

@@ -7,7 +7,7 @@ use Rattle.rv_inst.specs.declared.accesses.Access.{Access}
 use Rattle.rv_inst.specs.declared.instruction.Instr.{Instr}
 use Rattle.rv_inst.specs.declared.instruction.Instr.TheVariants.{Load, Store}
 use Rattle.rv_inst.specs.Accesses.{access_made}
-use Rattle.cf_semantics.specs.Instructions.{refused, access_trap}
+use Rattle.cf_semantics.specs.moves.Instructions.{refused, access_trap}
 
 -- an answer that does not refuse
 not_refused : (pc : ℕ) (access : Access) (r : Result (Unit {0}) MemErr) → refused pc access r ≡ None → r ≡ Ok tt

@@ -1,7 +1,7 @@
 //! Loads and stores are made.
 
 ghost use Rattle.std.specs.Prelude.{◌≡◌};
-ghost use Rattle.cf_semantics.specs.Instructions.{answer_of, mem_after};
+ghost use Rattle.cf_semantics.specs.moves.Instructions.{answer_of, mem_after};
 ghost use Rattle.cf_sidings.specs.Sidings.{IsReady};
 
 use cf_bind::Op;
@@ -11,7 +11,7 @@ use rv_inst::{access_of, extend};
 /// Makes a load or a store that memory permits. The answer is the value that a load writes to its register, and 0 for a
 /// store.
 #[inline(always)]
-#[tactic(auto, using(crate::proofs::Permitted::permitted_access), unfolding(cf_semantics::specs::Instructions::answer_of, cf_semantics::specs::Instructions::mem_after))]
+#[tactic(auto, using(crate::proofs::Permitted::permitted_access), unfolding(cf_semantics::specs::moves::Instructions::answer_of, cf_semantics::specs::moves::Instructions::mem_after))]
 pub(crate) fn make(op: Op, mem: &mut Regions) -> u32
     requires { IsReady op mem.old }
     ensures answer { result ≡ answer_of op.instr op.a op.b mem.old }

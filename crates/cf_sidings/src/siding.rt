@@ -2,9 +2,9 @@
 
 ghost use Rattle.std.specs.Prelude.{◌≡◌, ◌+◌, ◌<◌, IfOk, IsSome, None, Some, length, replicate, slice_get, slice_set};
 ghost use Rattle.std.specs.List.{list_any};
-ghost use Rattle.cf_semantics.specs.Options.{is_some};
-ghost use Rattle.cf_semantics.specs.Bars.{last_op};
-ghost use Rattle.cf_semantics.specs.Moves.{set_last};
+ghost use Rattle.cf_semantics.specs.state.Options.{is_some};
+ghost use Rattle.cf_semantics.specs.moves.Bars.{last_op};
+ghost use Rattle.cf_semantics.specs.moves.Moves.{set_last};
 ghost use Rattle.cf_sidings.specs.Sidings.{CanAccess, moved_on, after_access, mem_after_access};
 
 use crate::access::make;

@@ -1,10 +1,10 @@
 //! The sidings of a layout.
 
 ghost use Rattle.std.specs.List.{list_any};
-ghost use Rattle.cf_semantics.specs.Options.{is_some};
+ghost use Rattle.cf_semantics.specs.state.Options.{is_some};
 ghost use Rattle.std.specs.Prelude.{◌≡◌, ◌+◌, ◌<◌, IfOk, IsSome, IsTrue, None, Some, length, map, slice_get, slice_set};
-ghost use Rattle.cf_semantics.specs.Bars.{is_taken};
-ghost use Rattle.cf_semantics.specs.Moves.{set_last};
+ghost use Rattle.cf_semantics.specs.moves.Bars.{is_taken};
+ghost use Rattle.cf_semantics.specs.moves.Moves.{set_last};
 ghost use Rattle.cf_sidings.specs.Sidings.{empty_sidings, cells_in, last_in, with_cells, moved_on, after_access, mem_after_access, CanAccess};
 
 use crate::siding::Siding;

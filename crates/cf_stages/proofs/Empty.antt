@@ -11,9 +11,9 @@ use Rattle.cf_bind.specs.declared.packet.Packet.{Packet}
 use Rattle.cf_bind.specs.declared.passenger.Passenger.{Passenger}
 use Rattle.cf_layout.specs.Words.{has_bit}
 use Rattle.cf_layout.proofs.Words.{no_bits}
-use Rattle.cf_semantics.specs.Options.{on, is_some}
-use Rattle.cf_semantics.specs.Drained.{is_occupied}
-use Rattle.cf_semantics.specs.State.{cell_at}
+use Rattle.cf_semantics.specs.state.Options.{on, is_some}
+use Rattle.cf_semantics.specs.state.Drained.{is_occupied}
+use Rattle.cf_semantics.specs.state.State.{cell_at}
 use Rattle.cf_stages.specs.Changes.{IsCell, empty_cell}
 use Rattle.cf_stages.specs.Parts.{AreParts, cells_from, cells_of}
 use Rattle.cf_stages.specs.Words.{word_of, word_where, passenger_word, packet_word}

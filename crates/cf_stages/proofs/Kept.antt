@@ -6,9 +6,9 @@ use Rattle.cf_bind.specs.declared.cell.Cell.{Cell}
 use Rattle.cf_bind.specs.declared.packet.Packet.{Packet}
 use Rattle.cf_bind.specs.declared.passenger.Passenger.{Passenger}
 use Rattle.cf_layout.specs.Words.{has_bit}
-use Rattle.cf_semantics.specs.Moves.{with_passenger}
-use Rattle.cf_semantics.specs.Options.{on, is_some}
-use Rattle.cf_semantics.specs.State.{cell_at, put_cell}
+use Rattle.cf_semantics.specs.moves.Moves.{with_passenger}
+use Rattle.cf_semantics.specs.state.Options.{on, is_some}
+use Rattle.cf_semantics.specs.state.State.{cell_at, put_cell}
 use Rattle.cf_stages.specs.Changes.{IsCell, changed, has_met_at, packet_at, passenger_at, with_new_passenger}
 use Rattle.cf_stages.specs.Parts.{AreParts, cells_of, with_place}
 use Rattle.cf_stages.specs.Words.{word_where, with_bit}

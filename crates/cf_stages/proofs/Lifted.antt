@@ -6,7 +6,7 @@ use Rattle.std.proofs.lemmas.Option.{slice_get-get_or}
 use Rattle.cf_bind.specs.declared.cell.Cell.{Cell}
 use Rattle.cf_bind.specs.declared.packet.Packet.{Packet}
 use Rattle.cf_bind.specs.declared.passenger.Passenger.{Passenger}
-use Rattle.cf_semantics.specs.Options.{on, is_some}
+use Rattle.cf_semantics.specs.state.Options.{on, is_some}
 use Rattle.cf_stages.specs.Changes.{changed, climbs, climbed, falls, fallen, packet_at, passenger_at, with_new_passenger}
 use Rattle.cf_stages.specs.Parts.{AreParts, cells_of, with_place}
 use Rattle.cf_stages.specs.Words.{with_bit}

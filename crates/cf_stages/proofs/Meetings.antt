@@ -6,10 +6,10 @@ use Rattle.cf_bind.specs.Meeting.{meeting}
 use Rattle.cf_bind.specs.declared.cell.Cell.{Cell}
 use Rattle.cf_bind.specs.declared.packet.Packet.{Packet}
 use Rattle.cf_bind.specs.declared.passenger.Passenger.{Passenger}
-use Rattle.cf_semantics.specs.Bars.{is_full}
-use Rattle.cf_semantics.specs.Moves.{with_passenger}
-use Rattle.cf_semantics.specs.Options.{on, is_some}
-use Rattle.cf_semantics.specs.State.{cell_at, put_cell}
+use Rattle.cf_semantics.specs.moves.Bars.{is_full}
+use Rattle.cf_semantics.specs.moves.Moves.{with_passenger}
+use Rattle.cf_semantics.specs.state.Options.{on, is_some}
+use Rattle.cf_semantics.specs.state.State.{cell_at, put_cell}
 use Rattle.cf_stages.specs.Changes.{changed, is_full_at, met_in, packet_at, passenger_at, rider_met}
 use Rattle.cf_stages.specs.Parts.{with_place}
 use Rattle.cf_stages.proofs.Parts.{cell-put, stage-high, stage-low}

@@ -4,9 +4,9 @@ use Rattle.std.specs.Prelude.{IsSome}
 use Rattle.cf_bind.specs.declared.cell.Cell.{Cell}
 use Rattle.cf_bind.specs.declared.packet.Packet.{Packet}
 use Rattle.cf_bind.specs.declared.passenger.Passenger.{Passenger}
-use Rattle.cf_semantics.specs.Options.{on}
-use Rattle.cf_semantics.specs.State.{cell_at, put_cell}
-use Rattle.cf_semantics.specs.Moves.{without_passenger, without_packet}
+use Rattle.cf_semantics.specs.state.Options.{on}
+use Rattle.cf_semantics.specs.state.State.{cell_at, put_cell}
+use Rattle.cf_semantics.specs.moves.Moves.{without_passenger, without_packet}
 use Rattle.cf_stages.specs.Changes.{can_climb, can_fall, changed, passenger_at, packet_at, climbed, fallen, climbs, falls, with_new_passenger, with_new_packet}
 use Rattle.cf_stages.specs.Parts.{with_place}
 use Rattle.cf_stages.proofs.Parts.{cell-put-other, stage-low, stage-high}

@@ -5,10 +5,10 @@ use Rattle.std.proofs.lemmas.List.{map-append}
 use Rattle.cf_bind.specs.declared.cell.Cell.{Cell}
 use Rattle.cf_bind.specs.declared.packet.Packet.{Packet}
 use Rattle.cf_bind.specs.declared.passenger.Passenger.{Passenger}
-use Rattle.cf_semantics.specs.Options.{on}
-use Rattle.cf_semantics.specs.State.{cell_at, put_cell}
-use Rattle.cf_semantics.specs.Column.{passenger_in, packet_in, in_order, items, column_from}
-use Rattle.cf_semantics.specs.Moves.{without_passenger, without_packet}
+use Rattle.cf_semantics.specs.state.Options.{on}
+use Rattle.cf_semantics.specs.state.State.{cell_at, put_cell}
+use Rattle.cf_semantics.specs.state.Column.{passenger_in, packet_in, in_order, items, column_from}
+use Rattle.cf_semantics.specs.moves.Moves.{without_passenger, without_packet}
 use Rattle.cf_stages.specs.Changes.{can_climb, can_fall, climbs, falls, climbed, fallen, with_new_passenger, with_new_packet}
 use Rattle.cf_stages.specs.Contents.{Content, content, contents}
 

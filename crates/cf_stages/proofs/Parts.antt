@@ -7,8 +7,8 @@ use Rattle.cf_bind.specs.declared.cell.Cell.{Cell}
 use Rattle.cf_bind.specs.declared.packet.Packet.{Packet}
 use Rattle.cf_bind.specs.declared.passenger.Passenger.{Passenger}
 use Rattle.cf_layout.specs.Words.{has_bit}
-use Rattle.cf_semantics.specs.Options.{on}
-use Rattle.cf_semantics.specs.State.{cell_at, put_cell}
+use Rattle.cf_semantics.specs.state.Options.{on}
+use Rattle.cf_semantics.specs.state.State.{cell_at, put_cell}
 use Rattle.cf_stages.specs.Parts.{cells_from, cells_of}
 use Rattle.cf_stages.specs.Words.{word_of, word_where, with_bit}
 use Rattle.cf_stages.proofs.Bits.{word-agrees, word-with-bit}

@@ -5,8 +5,8 @@ use Rattle.std.proofs.lemmas.List.{set-set}
 use Rattle.cf_bind.specs.declared.cell.Cell.{Cell}
 use Rattle.cf_bind.specs.declared.packet.Packet.{Packet}
 use Rattle.cf_bind.specs.declared.passenger.Passenger.{Passenger}
-use Rattle.cf_semantics.specs.Options.{is_some}
-use Rattle.cf_semantics.specs.State.{cell_at, put_cell}
+use Rattle.cf_semantics.specs.state.Options.{is_some}
+use Rattle.cf_semantics.specs.state.State.{cell_at, put_cell}
 use Rattle.cf_stages.specs.Changes.{IsCell, changed, passenger_at, with_new_passenger}
 use Rattle.cf_stages.specs.Parts.{with_place}
 use Rattle.cf_stages.proofs.Parts.{cell-put}

@@ -3,11 +3,11 @@ use Rattle.std.specs.Prelude.{â„•, List, Option, Some, None, Bool, false, not, â
 use Rattle.cf_bind.specs.declared.cell.Cell.{Cell}
 use Rattle.cf_bind.specs.declared.packet.Packet.{Packet}
 use Rattle.cf_bind.specs.declared.passenger.Passenger.{Passenger}
-use Rattle.cf_semantics.specs.Options.{on, is_some}
-use Rattle.cf_semantics.specs.State.{cell_at, put_cell}
-use Rattle.cf_semantics.specs.Bars.{is_full}
+use Rattle.cf_semantics.specs.state.Options.{on, is_some}
+use Rattle.cf_semantics.specs.state.State.{cell_at, put_cell}
+use Rattle.cf_semantics.specs.moves.Bars.{is_full}
 use Rattle.cf_bind.specs.Meeting.{meeting}
-use Rattle.cf_semantics.specs.Moves.{with_passenger, without_passenger, without_packet, cell_met}
+use Rattle.cf_semantics.specs.moves.Moves.{with_passenger, without_passenger, without_packet, cell_met}
 
 -- a stage in which nothing stands
 abbrev pub empty_cell : Cell

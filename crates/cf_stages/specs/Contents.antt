@@ -3,7 +3,7 @@ use Rattle.std.specs.Prelude.{List, map}
 use Rattle.cf_bind.specs.declared.cell.Cell.{Cell}
 use Rattle.cf_bind.specs.declared.packet.Packet.{Packet}
 use Rattle.cf_bind.specs.declared.passenger.Passenger.{Passenger}
-use Rattle.cf_semantics.specs.Column.{Item, Up, Down, column_from}
+use Rattle.cf_semantics.specs.state.Column.{Item, Up, Down, column_from}
 
 -- an instruction or a result
 pub data Content : Type 0 where

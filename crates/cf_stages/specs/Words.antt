@@ -3,8 +3,8 @@ use Rattle.std.specs.Prelude.{ℕ, zero, suc, ◌+◌, ◌*◌, ◌^◌, List, B
 use Rattle.std.specs.Int.{bit_not, w32}
 use Rattle.std.specs.Int.RustNames.{bit_and, bit_or}
 use Rattle.cf_bind.specs.declared.cell.Cell.{Cell}
-use Rattle.cf_semantics.specs.Options.{on, is_some}
-use Rattle.cf_semantics.specs.State.{cell_at}
+use Rattle.cf_semantics.specs.state.Options.{on, is_some}
+use Rattle.cf_semantics.specs.state.State.{cell_at}
 
 -- 1 where the test holds
 abbrev pub flag : Bool → ℕ

@@ -2,8 +2,8 @@
 
 ghost use Rattle.std.specs.Prelude.{◌≡◌, ◌<◌, ◌≤◌, IsTrue, IsSome, IsNone, None, Some, false, length};
 ghost use Rattle.cf_bind.specs.Meeting.{meeting};
-ghost use Rattle.cf_semantics.specs.Moves.{without_passenger, without_packet, with_passenger};
-ghost use Rattle.cf_semantics.specs.Options.{on};
+ghost use Rattle.cf_semantics.specs.moves.Moves.{without_passenger, without_packet, with_passenger};
+ghost use Rattle.cf_semantics.specs.state.Options.{on};
 ghost use Rattle.cf_stages.specs.Changes.{changed, is_full_at, met_in, packet_at, passenger_at, rider_met, with_new_passenger, with_packet};
 
 use crate::stages::Stages;

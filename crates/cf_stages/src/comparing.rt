@@ -2,7 +2,7 @@
 
 ghost use Rattle.std.specs.List.{list_any};
 ghost use Rattle.std.specs.Prelude.{◌≡◌, ◌↔◌, IsTrue, not};
-ghost use Rattle.cf_semantics.specs.Drained.{is_occupied};
+ghost use Rattle.cf_semantics.specs.state.Drained.{is_occupied};
 
 use crate::stages::Stages;
 use cf_bind::{Packet, Passenger};

@@ -1,9 +1,9 @@
 //! One place of a pipe gets another content, and the words keep up with it.
 
 ghost use Rattle.std.specs.Prelude.{◌≡◌, ◌-◌, ◌<◌, ◌≤◌, IsSome, IsTrue, None, length, slice_index_or, slice_set};
-ghost use Rattle.cf_semantics.specs.Moves.{with_passenger};
-ghost use Rattle.cf_semantics.specs.Options.{is_some};
-ghost use Rattle.cf_semantics.specs.State.{put_cell};
+ghost use Rattle.cf_semantics.specs.moves.Moves.{with_passenger};
+ghost use Rattle.cf_semantics.specs.state.Options.{is_some};
+ghost use Rattle.cf_semantics.specs.state.State.{put_cell};
 ghost use Rattle.cf_stages.specs.Changes.{IsCell, changed, climbed, climbs, fallen, falls, passenger_at, with_new_passenger};
 ghost use Rattle.cf_stages.specs.Parts.{with_place};
 

@@ -1,7 +1,7 @@
 //! The stages of the two pipes, and what stands in each.
 
 ghost use Rattle.std.specs.Prelude.{◌≡◌, ◌<◌, ◌≤◌, IfOk, length, replicate, Some};
-ghost use Rattle.cf_semantics.specs.State.{cell_at};
+ghost use Rattle.cf_semantics.specs.state.State.{cell_at};
 ghost use Rattle.cf_stages.specs.Changes.{empty_cell, IsCell, has_met_at, is_full_at, packet_at, passenger_at};
 ghost use Rattle.cf_stages.specs.Words.{met_word, packet_word, passenger_word};
 

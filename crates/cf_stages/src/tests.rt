@@ -2,7 +2,7 @@
 //! out by hand: two additions of 1 to x1 stand one above the other, and x1 is 0.
 
 ghost use Rattle.std.specs.Prelude.{◌≡◌, Some};
-ghost use Rattle.cf_semantics.specs.State.{cell_at};
+ghost use Rattle.cf_semantics.specs.state.State.{cell_at};
 
 use crate::Stages;
 use cf_bind::{Binding, Cell, Guess, Packet, Passenger};

@@ -2,7 +2,7 @@
 
 ghost use Rattle.std.specs.Prelude.{◌≡◌, ◌<◌, ◌≤◌, ◌-◌};
 ghost use Rattle.cf_layout.specs.Words.{has_bit as is_bit_set};
-ghost use Rattle.cf_semantics.specs.Options.{is_some};
+ghost use Rattle.cf_semantics.specs.state.Options.{is_some};
 ghost use Rattle.cf_stages.specs.Words.{with_bit as with_bit_put};
 
 /// Whether the bit of a stage is set: bit i - 1 for stage i.

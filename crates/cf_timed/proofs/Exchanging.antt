@@ -5,11 +5,11 @@ use Rattle.rv_machine.specs.Machine.{Machine}
 use Rattle.cf_layout.specs.Layout.{Plan, SidingPlan, cells_of, no_siding}
 use Rattle.cf_bind.specs.declared.cell.Op.{Op}
 use Rattle.cf_bind.specs.declared.moves.Move.{Move}
-use Rattle.cf_semantics.specs.Bars.{bar}
-use Rattle.cf_semantics.specs.Moves.{next}
-use Rattle.cf_semantics.specs.Options.{on}
-use Rattle.cf_semantics.specs.Runs.{IsRun, empty_siding, opened, run, start}
-use Rattle.cf_semantics.specs.State.{Moment}
+use Rattle.cf_semantics.specs.moves.Bars.{bar}
+use Rattle.cf_semantics.specs.moves.Moves.{next}
+use Rattle.cf_semantics.specs.state.Options.{on}
+use Rattle.cf_semantics.specs.runs.Runs.{IsRun, empty_siding, opened, run, start}
+use Rattle.cf_semantics.specs.state.State.{Moment}
 use Rattle.cf_confluence.proofs.Laws.{independent_before, independent_swap, move_local}
 use Rattle.cf_index.specs.Alone.{HasSidings, stands_alone}
 use Rattle.cf_index.specs.Sites.{shares}

@@ -6,7 +6,7 @@ use Rattle.std.proofs.lemmas.Bool.Decides.{nat_tests}
 use Rattle.cf_layout.specs.Layout.{Plan}
 use Rattle.cf_layout.specs.Accepted.{IsAccepted}
 use Rattle.cf_bind.specs.declared.moves.Move.{Move}
-use Rattle.cf_semantics.specs.Sites.{Site, Stage, SidingCell, Lane, Fetching, Memory, Code, among, same_site}
+use Rattle.cf_semantics.specs.moves.Sites.{Site, Stage, SidingCell, Lane, Fetching, Memory, Code, among, same_site}
 use Rattle.cf_index.specs.Sites.{AreThere, IsPlace, shares, used, uses_place}
 use Rattle.cf_index.proofs.SharedSites.{IsOne, is_other, same_site_is, used_ones}
 use Rattle.cf_index.proofs.SiteWords.{siding_within}

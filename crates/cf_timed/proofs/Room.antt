@@ -9,14 +9,14 @@ use Rattle.cf_layout.proofs.Facts.{memory_siding, siding_found}
 use Rattle.cf_bind.specs.declared.passenger.Guess.TheVariants as guess
 use Rattle.cf_bind.specs.declared.moves.Move.{Move}
 use Rattle.cf_bind.specs.declared.moves.Move.TheVariants.{Issue, Emit, Climb, Fall, Meet, Execute, Send, Launch, Slide, Access, Recover, Leave, Exit, Serve}
-use Rattle.cf_semantics.specs.Bars.{bar}
-use Rattle.cf_semantics.specs.Options.{is_some}
-use Rattle.cf_semantics.specs.Candidates.{all_moves, at_stages, candidates, counted_from, held_back, other_moves, slides_from}
-use Rattle.cf_semantics.specs.Holding.{is_held, offered}
-use Rattle.cf_semantics.specs.Layouts.{port}
-use Rattle.cf_semantics.specs.Sites.{Site}
-use Rattle.cf_semantics.specs.State.{State}
-use Rattle.cf_semantics.specs.Weight.{is_issue}
+use Rattle.cf_semantics.specs.moves.Bars.{bar}
+use Rattle.cf_semantics.specs.state.Options.{is_some}
+use Rattle.cf_semantics.specs.moves.Candidates.{all_moves, at_stages, candidates, counted_from, held_back, other_moves, slides_from}
+use Rattle.cf_semantics.specs.moves.Holding.{is_held, offered}
+use Rattle.cf_semantics.specs.state.Layouts.{port}
+use Rattle.cf_semantics.specs.moves.Sites.{Site}
+use Rattle.cf_semantics.specs.state.State.{State}
+use Rattle.cf_semantics.specs.claims.Weight.{is_issue}
 use Rattle.cf_index.specs.Sites.{sidings_where, way_in, way_out, ways_in, ways_out}
 use Rattle.cf_index.proofs.SiteWords.{siding_within}
 use Rattle.cf_timed.proofs.Following.{AreKept, IsKept}

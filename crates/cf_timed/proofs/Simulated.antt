@@ -5,9 +5,9 @@ use Rattle.std.specs.List.{AllByRecursion, slice_index_or}
 use Rattle.cf_layout.specs.Layout.{Plan}
 use Rattle.cf_layout.specs.Accepted.{IsAccepted}
 use Rattle.cf_bind.specs.declared.moves.Move.{Move}
-use Rattle.cf_semantics.specs.Drained.{is_drained}
-use Rattle.cf_semantics.specs.Holding.{offered, paced}
-use Rattle.cf_semantics.specs.State.{State}
+use Rattle.cf_semantics.specs.state.Drained.{is_drained}
+use Rattle.cf_semantics.specs.moves.Holding.{offered, paced}
+use Rattle.cf_semantics.specs.state.State.{State}
 use Rattle.cf_index.specs.Order.{kind_place}
 use Rattle.cf_index.specs.Sites.{shares}
 use Rattle.cf_run.specs.Made.{Made, moves_of}

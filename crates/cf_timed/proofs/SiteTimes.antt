@@ -5,8 +5,8 @@ use Rattle.cf_layout.specs.Layout.{Plan}
 use Rattle.std.proofs.lemmas.Option.{unwrap_or-slice_get}
 use Rattle.std.proofs.lemmas.List.{map-append}
 use Rattle.std.proofs.lemmas.List.Elements.{filter-append}
-use Rattle.cf_semantics.specs.Candidates.{counted_from}
-use Rattle.cf_semantics.specs.Sites.{Site, Stage, SidingCell, Lane, Fetching, Memory, Code}
+use Rattle.cf_semantics.specs.moves.Candidates.{counted_from}
+use Rattle.cf_semantics.specs.moves.Sites.{Site, Stage, SidingCell, Lane, Fetching, Memory, Code}
 use Rattle.cf_index.proofs.Counted.{counted_split}
 use Rattle.cf_timed.specs.Times.{greatest}
 use Rattle.cf_timed.specs.Clocks.{NoneLater, SiteTimes, allowed, number_at, put_time, put_times, row_at, started, time_at}

@@ -2,7 +2,7 @@
 use Rattle.std.specs.Prelude.{◌≡◌, ◌≤◌, ℕ, ◌+◌, List, [], ◌∷◌, map, max, min, ◌-◌, ◌^◌, replicate, slice_get, slice_set, unwrap_or}
 use Rattle.cf_layout.specs.Layout.{Plan}
 use Rattle.cf_bind.specs.declared.moves.Move.{Move}
-use Rattle.cf_semantics.specs.Sites.{Site, Stage, SidingCell, Lane, Fetching, Memory, Code}
+use Rattle.cf_semantics.specs.moves.Sites.{Site, Stage, SidingCell, Lane, Fetching, Memory, Code}
 use Rattle.cf_index.specs.Sites.{AreThere, used}
 use Rattle.cf_timed.specs.Delays.{delay}
 use Rattle.cf_timed.specs.Times.{Done, greatest, greatest_time, time_behind}

@@ -6,7 +6,7 @@ use Rattle.cf_scripts.specs.Kinds.{place_named}
 use Rattle.cf_scripts.specs.MoveLines.{is_ascii}
 use Rattle.cf_scripts.specs.Scripts.{is_skipped}
 use Rattle.cf_scripts.specs.Words.{words_of, first_word}
-use Rattle.cf_semantics.specs.Options.{on, is_some}
+use Rattle.cf_semantics.specs.state.Options.{on, is_some}
 use Rattle.cf_timed.specs.declared.refusal.DelayErr.{DelayErr}
 use Rattle.cf_timed.specs.declared.refusal.DelayKind.{DelayKind}
 use Rattle.cf_timed.specs.declared.refusal.DelayKind.TheVariants.{NotAscii, UnknownKind, KindTwice, BadDelay, ExtraWords}

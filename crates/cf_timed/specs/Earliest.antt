@@ -3,7 +3,7 @@ use Rattle.std.specs.Prelude.{ℕ, List, ◌∷◌, slice_get, nat_le}
 use Rattle.std.specs.List.{list_all, position_or_len}
 use Rattle.cf_layout.specs.Layout.{Plan}
 use Rattle.cf_bind.specs.declared.moves.Move.{Move}
-use Rattle.cf_semantics.specs.Options.{on}
+use Rattle.cf_semantics.specs.state.Options.{on}
 use Rattle.cf_timed.specs.Times.{Done, done_behind, time_behind}
 
 -- the place of the first move whose time is no greater than that of any

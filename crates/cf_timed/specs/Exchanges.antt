@@ -2,8 +2,8 @@
 use Rattle.std.specs.Prelude.{◌≡◌, ℕ, List, ◌∷◌, ◌++◌}
 use Rattle.cf_layout.specs.Layout.{Plan}
 use Rattle.cf_bind.specs.declared.moves.Move.{Move}
-use Rattle.cf_semantics.specs.Runs.{IsRun, run}
-use Rattle.cf_semantics.specs.State.{Moment}
+use Rattle.cf_semantics.specs.runs.Runs.{IsRun, run}
+use Rattle.cf_semantics.specs.state.State.{Moment}
 use Rattle.cf_timed.specs.Times.{Done, done_at, times}
 
 -- each move has the same time in both orders; of the times the last stands first

@@ -1,7 +1,7 @@
 -- The policy of a timed run as it is carried out: by a clock, which is told a move once it was made.
 use Rattle.std.specs.Prelude.{ℕ, List, Option, slice_get}
 use Rattle.cf_bind.specs.declared.moves.Move.{Move}
-use Rattle.cf_semantics.specs.Options.{on}
+use Rattle.cf_semantics.specs.state.Options.{on}
 use Rattle.cf_run.specs.declared.answer.Ran.{Ran as Answer}
 use Rattle.cf_run.specs.declared.answer.Ran.TheVariants as ran
 use Rattle.cf_timed.specs.Clocks.{SiteTimes, capped, stamped}

@@ -7,7 +7,7 @@ ghost use Rattle.rv_machine.specs.Machine.{Machine as Sequential};
 ghost use Rattle.cf_layout.specs.Layout.{Plan};
 ghost use Rattle.cf_layout.specs.Accepted.{IsAccepted};
 ghost use Rattle.cf_bind.specs.declared.moves.Move.{Move};
-ghost use Rattle.cf_semantics.specs.Runs.{IsRun, run, start};
+ghost use Rattle.cf_semantics.specs.runs.Runs.{IsRun, run, start};
 ghost use Rattle.cf_index.specs.Alone.{stands_alone};
 ghost use Rattle.cf_index.specs.Sites.{AreThere, shares};
 ghost use Rattle.cf_timed.specs.Chains.{IsLongest};

@@ -1,8 +1,8 @@
 //! The times of the places that a move uses are put.
 
 ghost use Rattle.std.specs.Prelude.{◌≡◌, ◌+◌, ◌-◌, ◌≤◌, if◌then◌else◌, slice_set};
-ghost use Rattle.cf_semantics.specs.Sites.{Code, Fetching, Lane, Memory, SidingCell, Stage};
-ghost use Rattle.cf_semantics.specs.Layouts.{port as port_of};
+ghost use Rattle.cf_semantics.specs.moves.Sites.{Code, Fetching, Lane, Memory, SidingCell, Stage};
+ghost use Rattle.cf_semantics.specs.state.Layouts.{port as port_of};
 ghost use Rattle.cf_index.specs.Sites.{used, way_out, ways_in, ways_out};
 ghost use Rattle.cf_timed.specs.Clocks.{put_time, put_times};
 

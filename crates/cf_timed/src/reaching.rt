@@ -1,8 +1,8 @@
 //! The times of the places that a move uses are read.
 
 ghost use Rattle.std.specs.Prelude.{◌≡◌, ◌+◌, ◌-◌, ◌<◌, ◌^◌, if◌then◌else◌, map};
-ghost use Rattle.cf_semantics.specs.Sites.{SidingCell, Stage};
-ghost use Rattle.cf_semantics.specs.Layouts.{port as port_of};
+ghost use Rattle.cf_semantics.specs.moves.Sites.{SidingCell, Stage};
+ghost use Rattle.cf_semantics.specs.state.Layouts.{port as port_of};
 ghost use Rattle.cf_index.specs.Sites.{used, way_out, ways_in, ways_out};
 ghost use Rattle.cf_timed.specs.Times.{greatest};
 ghost use Rattle.cf_timed.specs.Clocks.{time_at};
@@ -14,7 +14,7 @@ use rv_inst::Class;
 
 /// The numbers of Memory's siding and of its last cell, at which the port to memory is.
 #[inline(always)]
-#[tactic(auto, unfolding(cf_semantics::specs::Layouts::port))]
+#[tactic(auto, unfolding(cf_semantics::specs::state::Layouts::port))]
 pub fn port(layout: &Layout) -> (usize, usize)
     ensures cell { SidingCell result.0 result.1 ≡ way_out layout.now (port_of layout.now) }
     ensures siding { result.0 < 2 ^ 32 }

@@ -5,12 +5,12 @@ use Rattle.cf_layout.specs.Accepted.{IsAccepted}
 use Rattle.cf_layout.specs.Layout.{Plan}
 use Rattle.cf_bind.specs.declared.moves.Move.{Move}
 use Rattle.cf_bind.specs.declared.moves.Move.TheVariants.{Serve}
-use Rattle.cf_semantics.specs.Bars.{bar}
-use Rattle.cf_semantics.specs.Lines.{Line, retires}
-use Rattle.cf_semantics.specs.Moves.{next}
-use Rattle.cf_semantics.specs.Runs.{start}
-use Rattle.cf_semantics.specs.State.{Moment}
-use Rattle.cf_semantics.specs.Weight.{counts, is_issue, issues, moves_per_issue, weight}
+use Rattle.cf_semantics.specs.moves.Bars.{bar}
+use Rattle.cf_semantics.specs.runs.Lines.{Line, retires}
+use Rattle.cf_semantics.specs.moves.Moves.{next}
+use Rattle.cf_semantics.specs.runs.Runs.{start}
+use Rattle.cf_semantics.specs.state.State.{Moment}
+use Rattle.cf_semantics.specs.claims.Weight.{counts, is_issue, issues, moves_per_issue, weight}
 use Rattle.cf_refinement.proofs.invariant.Invariant.{HoldsAfter}
 use Rattle.cf_refinement.proofs.invariant.Suited.{Suits}
 use Rattle.cf_refinement.proofs.layouts.Accepted.{accepted_suits}

@@ -7,12 +7,12 @@ use Rattle.cf_bind.specs.declared.passenger.Passenger.{Passenger}
 use Rattle.cf_refinement.proofs.column.Fold.{IsWalk, Replaces, replaced}
 use Rattle.cf_refinement.proofs.walks.PathMeet.{met_items}
 use Rattle.cf_refinement.proofs.invariant.Stands.{Blank}
-use Rattle.cf_semantics.specs.Column.{Down, Item, Up, column}
-use Rattle.cf_semantics.specs.Instructions.{is_serial}
-use Rattle.cf_semantics.specs.Passengers.{cached, kind}
-use Rattle.cf_semantics.specs.Path.{has_reg}
-use Rattle.cf_semantics.specs.State.{State}
-use Rattle.cf_semantics.specs.Walks.{walk, Everywhere}
+use Rattle.cf_semantics.specs.state.Column.{Down, Item, Up, column}
+use Rattle.cf_semantics.specs.moves.Instructions.{is_serial}
+use Rattle.cf_semantics.specs.state.Passengers.{cached, kind}
+use Rattle.cf_semantics.specs.claims.Path.{has_reg}
+use Rattle.cf_semantics.specs.state.State.{State}
+use Rattle.cf_semantics.specs.claims.Walks.{walk, Everywhere}
 
 -- live, of the class that needs the whole machine, and not answered yet
 abbrev pub awaits : Passenger → Bool

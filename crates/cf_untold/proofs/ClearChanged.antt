@@ -24,12 +24,12 @@ use Rattle.cf_refinement.proofs.moves.Serve.{Serves, next_serve, quit, serve_rea
 use Rattle.cf_refinement.proofs.moves.Slide.{next_slide, slide_ready}
 use Rattle.cf_refinement.proofs.column.Spot.{spot}
 use Rattle.cf_refinement.proofs.invariant.Invariant.{Sound}
-use Rattle.cf_semantics.specs.Bars.{bar, row_bar}
-use Rattle.cf_semantics.specs.Column.{Down, Item, Up}
-use Rattle.cf_semantics.specs.Instructions.{serve_of}
-use Rattle.cf_semantics.specs.Moves.{answered, back_in, cell_met, launch_trap, launched, moved, next, operation, served, set_last, with_passenger}
-use Rattle.cf_semantics.specs.Passengers.{finish, instruction, trapped}
-use Rattle.cf_semantics.specs.State.{Moment, State, siding_at, with_cell, with_siding}
+use Rattle.cf_semantics.specs.moves.Bars.{bar, row_bar}
+use Rattle.cf_semantics.specs.state.Column.{Down, Item, Up}
+use Rattle.cf_semantics.specs.moves.Instructions.{serve_of}
+use Rattle.cf_semantics.specs.moves.Moves.{answered, back_in, cell_met, launch_trap, launched, moved, next, operation, served, set_last, with_passenger}
+use Rattle.cf_semantics.specs.state.Passengers.{finish, instruction, trapped}
+use Rattle.cf_semantics.specs.state.State.{Moment, State, siding_at, with_cell, with_siding}
 use Rattle.rv_machine.specs.Call.{Called}
 use Rattle.rv_machine.specs.Call as called
 use Rattle.rv_machine.specs.Machine.{Machine}

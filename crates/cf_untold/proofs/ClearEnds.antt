@@ -19,16 +19,16 @@ use Rattle.cf_refinement.proofs.moves.Rows.{bar_row}
 use Rattle.cf_refinement.proofs.moves.Leave.{leave_ready, left_cells, next_leave}
 use Rattle.cf_refinement.proofs.invariant.Invariant.{Sound}
 use Rattle.cf_refinement.proofs.invariant.Suited.{Suits}
-use Rattle.cf_semantics.specs.Bars.{bar}
-use Rattle.cf_semantics.specs.Column.{Down, Item, Up, column, column_from, items, packet_in}
-use Rattle.cf_semantics.specs.Instructions.{fetched}
-use Rattle.cf_semantics.specs.Layouts.{isa_of}
-use Rattle.cf_semantics.specs.Moves.{fetch_at, keeps, left, moved, turned, without_packet, without_passenger}
-use Rattle.cf_semantics.specs.Passengers.{cached, cleared, forgets, fresh, goto, reg_in, requests}
-use Rattle.cf_semantics.specs.Path.{has_reg}
-use Rattle.cf_semantics.specs.Runs.{opened}
-use Rattle.cf_semantics.specs.State.{State, put_cell}
-use Rattle.cf_semantics.specs.Walks.{Everywhere, walk}
+use Rattle.cf_semantics.specs.moves.Bars.{bar}
+use Rattle.cf_semantics.specs.state.Column.{Down, Item, Up, column, column_from, items, packet_in}
+use Rattle.cf_semantics.specs.moves.Instructions.{fetched}
+use Rattle.cf_semantics.specs.state.Layouts.{isa_of}
+use Rattle.cf_semantics.specs.moves.Moves.{fetch_at, keeps, left, moved, turned, without_packet, without_passenger}
+use Rattle.cf_semantics.specs.state.Passengers.{cached, cleared, forgets, fresh, goto, reg_in, requests}
+use Rattle.cf_semantics.specs.claims.Path.{has_reg}
+use Rattle.cf_semantics.specs.runs.Runs.{opened}
+use Rattle.cf_semantics.specs.state.State.{State, put_cell}
+use Rattle.cf_semantics.specs.claims.Walks.{Everywhere, walk}
 use Rattle.cf_untold.proofs.Clear.{Ends, Fits, IsClear, awaits, none_awaited, past}
 use Rattle.cf_refinement.proofs.walks.Cache.{cached_cleared, set_cached}
 use Rattle.cf_refinement.proofs.claims.Runs.{empty_column}

@@ -5,9 +5,9 @@ use Rattle.cf_bind.specs.declared.moves.Move.TheVariants.{Access, Climb, Emit, E
 use Rattle.cf_layout.specs.Layout.{Plan}
 use Rattle.cf_refinement.proofs.invariant.Invariant.{Sound}
 use Rattle.cf_refinement.proofs.invariant.Suited.{Suits}
-use Rattle.cf_semantics.specs.Bars.{bar}
-use Rattle.cf_semantics.specs.Moves.{next}
-use Rattle.cf_semantics.specs.State.{Moment}
+use Rattle.cf_semantics.specs.moves.Bars.{bar}
+use Rattle.cf_semantics.specs.moves.Moves.{next}
+use Rattle.cf_semantics.specs.state.State.{Moment}
 use Rattle.rv_machine.specs.Machine.{Machine}
 use Rattle.cf_untold.proofs.ClearChanged.{access_clear, climb_clear, execute_clear, fall_clear, launch_clear, meet_clear, recover_clear, serve_clear, slide_clear}
 use Rattle.cf_untold.proofs.ClearEnds.{emit_clear, exit_clear, issue_clear, leave_clear}

@@ -14,11 +14,11 @@ use Rattle.cf_refinement.proofs.moves.Send.{next_send, send_ready, send_stretch}
 use Rattle.cf_refinement.proofs.invariant.Invariant.{Sound}
 use Rattle.cf_refinement.proofs.invariant.Lone as lone
 use Rattle.cf_refinement.proofs.invariant.Suited.{Suits}
-use Rattle.cf_semantics.specs.Bars.{bar}
-use Rattle.cf_semantics.specs.Column.{Down, Item, Up, column}
-use Rattle.cf_semantics.specs.Moves.{moved}
-use Rattle.cf_semantics.specs.State.{State, put_cell}
-use Rattle.cf_semantics.specs.Walks.{Everywhere, walk}
+use Rattle.cf_semantics.specs.moves.Bars.{bar}
+use Rattle.cf_semantics.specs.state.Column.{Down, Item, Up, column}
+use Rattle.cf_semantics.specs.moves.Moves.{moved}
+use Rattle.cf_semantics.specs.state.State.{State, put_cell}
+use Rattle.cf_semantics.specs.claims.Walks.{Everywhere, walk}
 use Rattle.cf_untold.proofs.ClearEnds.{fits_up}
 use Rattle.cf_untold.proofs.Clear.{Ends, Fits, IsClear, none_awaited, past}
 use Rattle.cf_refinement.proofs.walks.Lone.{lone_open}

@@ -5,9 +5,9 @@ use Rattle.rv_machine.specs.After.{SameButInput, after, next_machine, step_from}
 use Rattle.rv_machine.specs.Machine.{Machine}
 use Rattle.rv_machine.specs.Outcome as outcome
 use Rattle.rv_machine.specs.Step.{step}
-use Rattle.cf_semantics.specs.Instructions.{Goes, step_at, step_here, stepped}
-use Rattle.cf_semantics.specs.Lines.{Line, lines_at, sequence}
-use Rattle.cf_semantics.specs.Options.{on}
+use Rattle.cf_semantics.specs.moves.Instructions.{Goes, step_at, step_here, stepped}
+use Rattle.cf_semantics.specs.runs.Lines.{Line, lines_at, sequence}
+use Rattle.cf_semantics.specs.state.Options.{on}
 use Rattle.cf_untold.specs.Anew.{GoesTo}
 
 -- a machine that has made no step

@@ -6,14 +6,14 @@ use Rattle.cf_layout.specs.Accepted.{IsAccepted}
 use Rattle.cf_layout.specs.Layout.{Plan}
 use Rattle.cf_bind.specs.declared.moves.Bar.{Bar}
 use Rattle.cf_bind.specs.declared.moves.Move.{Move}
-use Rattle.cf_semantics.specs.Bars.{bar}
-use Rattle.cf_semantics.specs.Candidates.{all_moves, candidates, held_back, other_moves}
-use Rattle.cf_semantics.specs.Drained.{IsStuck}
-use Rattle.cf_semantics.specs.Holding.{is_held, offered}
-use Rattle.cf_semantics.specs.Lines.{Line}
-use Rattle.cf_semantics.specs.Options.{is_some}
-use Rattle.cf_semantics.specs.State.{Moment, State}
-use Rattle.cf_semantics.specs.Weight.{is_issue}
+use Rattle.cf_semantics.specs.moves.Bars.{bar}
+use Rattle.cf_semantics.specs.moves.Candidates.{all_moves, candidates, held_back, other_moves}
+use Rattle.cf_semantics.specs.state.Drained.{IsStuck}
+use Rattle.cf_semantics.specs.moves.Holding.{is_held, offered}
+use Rattle.cf_semantics.specs.runs.Lines.{Line}
+use Rattle.cf_semantics.specs.state.Options.{is_some}
+use Rattle.cf_semantics.specs.state.State.{Moment, State}
+use Rattle.cf_semantics.specs.claims.Weight.{is_issue}
 use Rattle.cf_refinement.proofs.invariant.Invariant.{HoldsAt, Sound}
 use Rattle.cf_refinement.proofs.layouts.Accepted.{accepted_suits}
 use Rattle.cf_confluence.proofs.Candidates.{HasShape, has_some, held_stuck, kept_passes, some_pick}

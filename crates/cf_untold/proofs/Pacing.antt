@@ -7,18 +7,18 @@ use Rattle.cf_layout.specs.Layout.{Plan}
 use Rattle.cf_bind.specs.declared.moves.Move.{Move}
 use Rattle.cf_bind.specs.declared.passenger.End.{End}
 use Rattle.cf_semantics.specs.declared.event.Event.{Event}
-use Rattle.cf_semantics.specs.Bars.{bar}
-use Rattle.cf_semantics.specs.Determined.{IsSame}
-use Rattle.cf_semantics.specs.Drained.{IsStuck, is_drained}
-use Rattle.cf_semantics.specs.Events.{IsEvent}
-use Rattle.cf_semantics.specs.Holding.{is_held, is_retirement, paced}
-use Rattle.cf_semantics.specs.Lines.{Line, lines, retires}
-use Rattle.cf_semantics.specs.Moves.{next}
-use Rattle.cf_semantics.specs.Paced.{IsPaced}
-use Rattle.cf_semantics.specs.Refines.{gained}
-use Rattle.cf_semantics.specs.Runs.{opened, run, start}
-use Rattle.cf_semantics.specs.State.{Moment}
-use Rattle.cf_semantics.specs.Weight.{counts, is_issue, issues, moves_per_issue}
+use Rattle.cf_semantics.specs.moves.Bars.{bar}
+use Rattle.cf_semantics.specs.claims.Determined.{IsSame}
+use Rattle.cf_semantics.specs.state.Drained.{IsStuck, is_drained}
+use Rattle.cf_semantics.specs.moves.Events.{IsEvent}
+use Rattle.cf_semantics.specs.moves.Holding.{is_held, is_retirement, paced}
+use Rattle.cf_semantics.specs.runs.Lines.{Line, lines, retires}
+use Rattle.cf_semantics.specs.moves.Moves.{next}
+use Rattle.cf_semantics.specs.runs.Paced.{IsPaced}
+use Rattle.cf_semantics.specs.claims.Refines.{gained}
+use Rattle.cf_semantics.specs.runs.Runs.{opened, run, start}
+use Rattle.cf_semantics.specs.state.State.{Moment}
+use Rattle.cf_semantics.specs.claims.Weight.{counts, is_issue, issues, moves_per_issue}
 use Rattle.cf_refinement.proofs.invariant.Suited.{Suits}
 use Rattle.cf_refinement.proofs.layouts.Accepted.{accepted_suits}
 use Rattle.cf_refinement.proofs.claims.Runs.{going, opened_retired}

@@ -5,13 +5,13 @@ use Rattle.rv_machine.specs.After.{SameButInput}
 use Rattle.rv_machine.specs.Machine.{Machine}
 use Rattle.cf_layout.specs.Layout.{Plan}
 use Rattle.cf_bind.specs.declared.moves.Move.{Move}
-use Rattle.cf_semantics.specs.Bars.{bar}
-use Rattle.cf_semantics.specs.Instructions.{Goes, step_here}
-use Rattle.cf_semantics.specs.Layouts.{isa_of}
-use Rattle.cf_semantics.specs.Lines.{Line, lines_at, retires}
-use Rattle.cf_semantics.specs.Moves.{next}
-use Rattle.cf_semantics.specs.Refines.{Refines, gained}
-use Rattle.cf_semantics.specs.State.{Moment}
+use Rattle.cf_semantics.specs.moves.Bars.{bar}
+use Rattle.cf_semantics.specs.moves.Instructions.{Goes, step_here}
+use Rattle.cf_semantics.specs.state.Layouts.{isa_of}
+use Rattle.cf_semantics.specs.runs.Lines.{Line, lines_at, retires}
+use Rattle.cf_semantics.specs.moves.Moves.{next}
+use Rattle.cf_semantics.specs.claims.Refines.{Refines, gained}
+use Rattle.cf_semantics.specs.state.State.{Moment}
 
 -- the moment with this left of the input
 abbrev pub finding : List ℕ → Moment → Moment

@@ -3,14 +3,14 @@ use Rattle.std.specs.Prelude.{◌≡◌, ℕ, List, [], ◌∷◌, ◌++◌, Non
 use Rattle.cf_layout.specs.Layout.{Plan}
 use Rattle.cf_bind.specs.declared.moves.Move.{Move}
 use Rattle.cf_semantics.specs.declared.event.Event.{Event}
-use Rattle.cf_semantics.specs.Bars.{bar}
-use Rattle.cf_semantics.specs.Drained.{IsStuck, is_drained}
-use Rattle.cf_semantics.specs.Events.{IsEvent}
-use Rattle.cf_semantics.specs.Holding.{is_held, paced}
-use Rattle.cf_semantics.specs.Lines.{Line, retires}
-use Rattle.cf_semantics.specs.Moves.{next}
-use Rattle.cf_semantics.specs.State.{Moment}
-use Rattle.cf_semantics.specs.Weight.{is_issue}
+use Rattle.cf_semantics.specs.moves.Bars.{bar}
+use Rattle.cf_semantics.specs.state.Drained.{IsStuck, is_drained}
+use Rattle.cf_semantics.specs.moves.Events.{IsEvent}
+use Rattle.cf_semantics.specs.moves.Holding.{is_held, paced}
+use Rattle.cf_semantics.specs.runs.Lines.{Line, retires}
+use Rattle.cf_semantics.specs.moves.Moves.{next}
+use Rattle.cf_semantics.specs.state.State.{Moment}
+use Rattle.cf_semantics.specs.claims.Weight.{is_issue}
 use Rattle.cf_untold.specs.Anew.{finding}
 
 -- with so many Issue moves counted before the first of the moves: they lead from one moment to another, each allowed where it is made and finding some input, and while the candidates are held none is an Issue unless no other move is allowed; and these instructions retire

@@ -8,7 +8,7 @@ use Rattle.cf_bind.specs.declared.packet.Fetch.TheVariants.{Running}
 use Rattle.cf_bind.specs.declared.packet.Packet.TheVariants.{Value}
 use Rattle.cf_bind.specs.declared.passenger.Guess.TheVariants.{Next, Wait}
 use Rattle.cf_bind.specs.declared.moves.Move.TheVariants.{Issue, Climb, Execute, Send, Exit}
-use Rattle.cf_semantics.specs.Runs.{opened}
+use Rattle.cf_semantics.specs.runs.Runs.{opened}
 use Rattle.cf_worked.specs.Samples.{tiny_with_cache, sample, known, issued, done, holds}
 use Rattle.cf_worked.specs.Follows.{Ends}
 use Rattle.cf_worked.proofs.Allowed.{ends}

@@ -15,18 +15,18 @@ use Rattle.rv_machine.specs.Call.{read, write, with_break, call, asks_input, ask
 use Rattle.rv_machine.specs.Step.{retire, compute, access_memory, pass, synchronize, serial, execute, step_on, step}
 use Rattle.cf_layout.specs.Layout.{stages_of, unit_at, serves, siding_of, launch_stage, recover_stage, cells_of, homes, has_mul, last_stage}
 use Rattle.cf_bind.specs.Meeting.{meeting}
-use Rattle.cf_semantics.specs.Ahead.{counted}
-use Rattle.cf_semantics.specs.Bars.{bar}
-use Rattle.cf_semantics.specs.Drained.{is_drained}
-use Rattle.cf_semantics.specs.Instructions.{kind_of, src1_of, src2_of, dst_of, target_of, is_indirect, fetched, finish_trap, free_trap, access_trap, mem_after, answer_of, serve_of, step_at}
-use Rattle.cf_semantics.specs.Kept.{kept, restored}
-use Rattle.cf_semantics.specs.Layouts.{port}
-use Rattle.cf_semantics.specs.Moves.{moved, next}
-use Rattle.cf_semantics.specs.Passengers.{finish, fresh}
-use Rattle.cf_semantics.specs.Candidates.{all_moves, candidates, held_back}
-use Rattle.cf_semantics.specs.Holding.{paced}
-use Rattle.cf_semantics.specs.Runs.{opened, IsRun, run}
-use Rattle.cf_semantics.specs.Weight.{most_cells, cell_weight, op_weight, weight, moves_per_issue}
+use Rattle.cf_semantics.specs.claims.Ahead.{counted}
+use Rattle.cf_semantics.specs.moves.Bars.{bar}
+use Rattle.cf_semantics.specs.state.Drained.{is_drained}
+use Rattle.cf_semantics.specs.moves.Instructions.{kind_of, src1_of, src2_of, dst_of, target_of, is_indirect, fetched, finish_trap, free_trap, access_trap, mem_after, answer_of, serve_of, step_at}
+use Rattle.cf_semantics.specs.moves.Kept.{kept, restored}
+use Rattle.cf_semantics.specs.state.Layouts.{port}
+use Rattle.cf_semantics.specs.moves.Moves.{moved, next}
+use Rattle.cf_semantics.specs.state.Passengers.{finish, fresh}
+use Rattle.cf_semantics.specs.moves.Candidates.{all_moves, candidates, held_back}
+use Rattle.cf_semantics.specs.moves.Holding.{paced}
+use Rattle.cf_semantics.specs.runs.Runs.{opened, IsRun, run}
+use Rattle.cf_semantics.specs.claims.Weight.{most_cells, cell_weight, op_weight, weight, moves_per_issue}
 
 unfoldable pub on_literals : ⊤
 unfolding access_made load_value extended op_value is_taken alu_value next_pc decoded_jalr decoded_branch decoded_load decoded_store decoded_imm decoded_op decoded_fence decoded_system decoded decoded_mul decoded_m decoded_as opcode rd_of funct3 rs1_of rs2_of funct7 high12 imm_i imm_s imm_b imm_u imm_j lower_word upper_word product_of value_of bounds_of is_permitted permits_at fetch_at synced range_of writable_of can_write load_at memory_with stored after read write with_break call asks_input asks_output retire compute access_memory pass synchronize serial execute step_on step stages_of unit_at serves siding_of launch_stage recover_stage cells_of homes has_mul last_stage meeting counted bar is_drained kind_of src1_of src2_of dst_of target_of is_indirect fetched finish_trap free_trap access_trap mem_after answer_of serve_of step_at kept restored port moved next finish fresh all_moves candidates held_back paced opened IsRun run most_cells cell_weight op_weight weight moves_per_issue

@@ -6,9 +6,9 @@ use Rattle.cf_bind.specs.declared.packet.Fetch.TheVariants.{Running}
 use Rattle.cf_bind.specs.declared.passenger.Guess.TheVariants.{Next}
 use Rattle.cf_bind.specs.declared.moves.Move.{Move}
 use Rattle.cf_bind.specs.declared.moves.Move.TheVariants.{Issue, Emit, Climb, Fall, Meet, Execute, Send, Leave, Exit}
-use Rattle.cf_semantics.specs.State.{State}
-use Rattle.cf_semantics.specs.Runs.{opened}
-use Rattle.cf_semantics.specs.Weight.{moves_per_issue, weight}
+use Rattle.cf_semantics.specs.state.State.{State}
+use Rattle.cf_semantics.specs.runs.Runs.{opened}
+use Rattle.cf_semantics.specs.claims.Weight.{moves_per_issue, weight}
 use Rattle.cf_worked.specs.Samples.{tiny, sample}
 use Rattle.cf_worked.specs.Follows.{Ends, after_moves}
 use Rattle.cf_worked.proofs.Allowed.{ends}

@@ -11,7 +11,7 @@ use Rattle.cf_bind.specs.declared.packet.Packet.TheVariants.{Value, Turn}
 use Rattle.cf_bind.specs.declared.passenger.Guess.TheVariants.{Next}
 use Rattle.cf_bind.specs.declared.moves.Move.TheVariants.{Issue, Emit, Climb, Fall, Meet, Execute, Send, Launch, Access, Recover, Exit}
 use Rattle.cf_bind.specs.declared.moves.Bar.TheVariants as bar
-use Rattle.cf_semantics.specs.Runs.{opened, empty_cell}
+use Rattle.cf_semantics.specs.runs.Runs.{opened, empty_cell}
 use Rattle.cf_worked.specs.Samples.{tiny, shifts_aside, sample, unknown, known, issued, done, holds, carries, complete}
 use Rattle.cf_worked.specs.Follows.{Ends, IsBarred}
 use Rattle.cf_worked.proofs.Allowed.{ends, barred}

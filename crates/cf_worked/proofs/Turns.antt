@@ -10,7 +10,7 @@ use Rattle.cf_bind.specs.declared.packet.Packet.TheVariants.{Turn}
 use Rattle.cf_bind.specs.declared.passenger.Guess.TheVariants.{Next}
 use Rattle.cf_bind.specs.declared.moves.Move.TheVariants.{Issue, Climb, Fall, Meet, Execute, Send, Launch, Exit}
 use Rattle.cf_bind.specs.declared.moves.Bar.TheVariants as bar
-use Rattle.cf_semantics.specs.Runs.{opened, empty_cell}
+use Rattle.cf_semantics.specs.runs.Runs.{opened, empty_cell}
 use Rattle.cf_worked.specs.Samples.{tiny, two_jump_units, sample, unknown, issued, done, holds, complete}
 use Rattle.cf_worked.specs.Follows.{Ends, IsBarred}
 use Rattle.cf_worked.proofs.Allowed.{ends, barred}

@@ -10,10 +10,10 @@ use Rattle.cf_bind.specs.declared.passenger.Guess.TheVariants.{Next}
 use Rattle.cf_bind.specs.declared.passenger.End.TheVariants as ending
 use Rattle.cf_bind.specs.declared.moves.Move.TheVariants.{Issue, Emit, Climb, Fall, Meet, Execute, Send, Leave, Exit, Serve}
 use Rattle.cf_bind.specs.declared.moves.Bar.TheVariants as bar
-use Rattle.cf_semantics.specs.Moves.{moved}
-use Rattle.cf_semantics.specs.Runs.{opened, empty_cell}
-use Rattle.cf_semantics.specs.Kept.{kept, restored}
-use Rattle.cf_semantics.specs.Weight.{weight}
+use Rattle.cf_semantics.specs.moves.Moves.{moved}
+use Rattle.cf_semantics.specs.runs.Runs.{opened, empty_cell}
+use Rattle.cf_semantics.specs.moves.Kept.{kept, restored}
+use Rattle.cf_semantics.specs.claims.Weight.{weight}
 use Rattle.cf_worked.specs.Samples.{tiny, sample, unknown, known, issued, done, holds, full, complete}
 use Rattle.cf_worked.specs.Follows.{Ends, IsBarred, after_moves}
 use Rattle.cf_worked.proofs.Allowed.{ends, barred}

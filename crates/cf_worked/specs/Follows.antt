@@ -4,9 +4,9 @@ use Rattle.rv_machine.specs.Machine.{Machine}
 use Rattle.cf_layout.specs.Layout.{Plan}
 use Rattle.cf_bind.specs.declared.moves.Bar.{Bar}
 use Rattle.cf_bind.specs.declared.moves.Move.{Move}
-use Rattle.cf_semantics.specs.State.{State}
-use Rattle.cf_semantics.specs.Bars.{bar}
-use Rattle.cf_semantics.specs.Runs.{IsRun, run, start}
+use Rattle.cf_semantics.specs.state.State.{State}
+use Rattle.cf_semantics.specs.moves.Bars.{bar}
+use Rattle.cf_semantics.specs.runs.Runs.{IsRun, run, start}
 
 -- the state after the moves
 abbrev pub after_moves : Plan → Machine → List Move → State

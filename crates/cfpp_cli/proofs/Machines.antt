@@ -12,9 +12,9 @@ use Rattle.cf_io.specs.declared.failed.Failed.{Failed}
 use Rattle.cf_bind.specs.declared.moves.Move.{Move}
 use Rattle.cf_layout.specs.Layout.{Plan, has_mul}
 use Rattle.cf_core.specs.Processors.{Processor, opened}
-use Rattle.cf_semantics.specs.Instructions.{Goes, step_at, step_here, stepped}
-use Rattle.cf_semantics.specs.Layouts.{isa_of}
-use Rattle.cf_semantics.specs.Lines.{Line}
+use Rattle.cf_semantics.specs.moves.Instructions.{Goes, step_at, step_here, stepped}
+use Rattle.cf_semantics.specs.state.Layouts.{isa_of}
+use Rattle.cf_semantics.specs.runs.Lines.{Line}
 use Rattle.cf_report.specs.declared.tally.Tally.{Tally}
 use Rattle.cf_run.specs.declared.answer.Ran.{Ran as RunAnswer}
 use Rattle.cf_run.specs.declared.answer.Ran.TheVariants as ran

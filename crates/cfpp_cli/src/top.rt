@@ -157,15 +157,7 @@ fn decide<F: Files, S: Source, K: Sink, R: Sink>(
             },
         ) => {
             let World { files, report, .. } = world;
-            let decided = compare_layouts(
-                alloc,
-                delays,
-                program,
-                layouts,
-                options,
-                files,
-                report,
-            );
+            let decided = compare_layouts(alloc, delays, program, layouts, options, files, report);
             put_decided(decided, report)
         }
         Err(index) => {

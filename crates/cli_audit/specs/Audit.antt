@@ -4,7 +4,7 @@ use Rattle.cf_io.specs.Reads.{Told}
 use Rattle.rv_machine.specs.Hart.{Hart}
 use Rattle.rv_machine.specs.Streams.{Becomes}
 use Rattle.cf_layout.specs.Layout.{Plan}
-use Rattle.cf_semantics.specs.State.{Moment}
+use Rattle.cf_semantics.specs.state.State.{Moment}
 use Rattle.cf_core.specs.Processors.{Processor, opened}
 use Rattle.cf_audit.specs.declared.answer.Audit.{Audit}
 use Rattle.cf_audit.specs.declared.answer.Audit.TheVariants as found

@@ -4,7 +4,7 @@ use Rattle.cf_io.specs.declared.failed.Failed.{Failed}
 use Rattle.rv_machine.specs.Hart.{Hart}
 use Rattle.rv_machine.specs.Streams.{Streams}
 use Rattle.cf_layout.specs.Layout.{Plan}
-use Rattle.cf_semantics.specs.Kept.{Kept}
+use Rattle.cf_semantics.specs.moves.Kept.{Kept}
 use Rattle.cf_core.specs.Processors.{Processor, opened}
 use Rattle.cf_debug.specs.declared.answer.Debugged.{Debugged}
 use Rattle.cf_debug.specs.declared.answer.Debugged.TheVariants.{ReportFault}

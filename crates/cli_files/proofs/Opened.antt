@@ -3,7 +3,7 @@ use Rattle.std.proofs.Common.{◌≡◌, false, refl, sym, ap, ◌∙◌}
 use Rattle.rv_machine.specs.Hart.{Hart}
 use Rattle.cf_layout.specs.Layout.{Plan}
 use Rattle.cf_core.specs.Processors.{Processor, opened}
-use Rattle.cf_semantics.specs.Runs.{opened as opened_on}
+use Rattle.cf_semantics.specs.runs.Runs.{opened as opened_on}
 use Rattle.cf_run.specs.Policies.{IsOpened}
 
 -- it has the hart's count, and has not failed

@@ -4,7 +4,7 @@ use Rattle.std.specs.Prelude.{reverse, slice_get}
 use Rattle.std.specs.List.{flat_map}
 use Rattle.std.proofs.lemmas.List.{flat_map_more, reverse-append, take_all, take-append-drop}
 use Rattle.std.proofs.lemmas.List.Concat.{flat_map-append}
-use Rattle.cf_semantics.specs.Candidates.{counted_from}
+use Rattle.cf_semantics.specs.moves.Candidates.{counted_from}
 use Rattle.cli_time.proofs.Lists.{take-next}
 
 -- with the text of the next one there are those of one more

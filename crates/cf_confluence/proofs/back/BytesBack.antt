@@ -13,8 +13,8 @@ use Rattle.mem_regions.specs.Writing.{overwritten, area_with, first_changed, mem
 use Rattle.mem_regions.proofs.Writes.{writes-lies}
 use Rattle.mem_regions.proofs.WriteBack.{overwritten-between, stored-back}
 use Rattle.rv_inst.specs.declared.accesses.Access.{Access}
-use Rattle.cf_semantics.specs.Options.{on}
-use Rattle.cf_semantics.specs.Kept.{bytes_back, kept_range}
+use Rattle.cf_semantics.specs.state.Options.{on}
+use Rattle.cf_semantics.specs.moves.Kept.{bytes_back, kept_range}
 
 -- a range that may be written in a region ends within it
 within : (addr len : ℕ) (a : Area) → writes_in addr len a ≡ true → (addr - a.base) + len ≤ length a.bytes

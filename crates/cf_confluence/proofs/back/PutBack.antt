@@ -3,9 +3,9 @@ use Rattle.std.proofs.Common.{◌≡◌, ◌≢◌, ℕ, zero, suc, List, [], �
 use Rattle.std.specs.Prelude.{slice_get, slice_set}
 use Rattle.cf_bind.specs.declared.cell.Cell.{Cell}
 use Rattle.cf_bind.specs.declared.cell.Op.{Op}
-use Rattle.cf_semantics.specs.Options.{on}
-use Rattle.cf_semantics.specs.State.{State, cell_at, put_cell, siding_at}
-use Rattle.cf_semantics.specs.Kept.{cells_back, kept_cell, kept_op, ops_back}
+use Rattle.cf_semantics.specs.state.Options.{on}
+use Rattle.cf_semantics.specs.state.State.{State, cell_at, put_cell, siding_at}
+use Rattle.cf_semantics.specs.moves.Kept.{cells_back, kept_cell, kept_op, ops_back}
 use Rattle.cf_confluence.proofs.sites.Touches.{set_swap}
 
 -- lists

@@ -12,15 +12,15 @@ use Rattle.cf_bind.specs.declared.passenger.Guess.{Guess}
 use Rattle.cf_bind.specs.declared.passenger.End.{End}
 use Rattle.cf_bind.specs.declared.moves.Move.{Move}
 use Rattle.cf_bind.specs.declared.moves.Move.TheVariants.{Issue, Emit, Climb, Fall, Meet, Execute, Send, Launch, Slide, Access, Recover, Leave, Exit, Serve}
-use Rattle.cf_semantics.specs.Options.{on}
-use Rattle.cf_semantics.specs.Instructions.{fetched, mem_after, answer_of}
+use Rattle.cf_semantics.specs.state.Options.{on}
+use Rattle.cf_semantics.specs.moves.Instructions.{fetched, mem_after, answer_of}
 use Rattle.rv_inst.specs.Accesses.{access_made}
-use Rattle.cf_semantics.specs.State.{State, Moment, cell_at, siding_at, with_cell, with_siding}
-use Rattle.cf_semantics.specs.Passengers.{kind, fresh, finish, trapped, reg_in, requests, value_in}
-use Rattle.cf_semantics.specs.Layouts.{isa_of, port}
-use Rattle.cf_semantics.specs.Bars.{bar, row_bar, last_op, running}
-use Rattle.cf_semantics.specs.Moves.{back_in, cell_met, climbed, fallen, launch_trap, moved, next, operation, sent, set_last, with_passenger, without_packet, without_passenger, written}
-use Rattle.cf_semantics.specs.Kept.{Kept, Same, bytes_back, cells_back, kept, kept_op, last_place, lane_back, ops_back, register_back, restored, taken_back}
+use Rattle.cf_semantics.specs.state.State.{State, Moment, cell_at, siding_at, with_cell, with_siding}
+use Rattle.cf_semantics.specs.state.Passengers.{kind, fresh, finish, trapped, reg_in, requests, value_in}
+use Rattle.cf_semantics.specs.state.Layouts.{isa_of, port}
+use Rattle.cf_semantics.specs.moves.Bars.{bar, row_bar, last_op, running}
+use Rattle.cf_semantics.specs.moves.Moves.{back_in, cell_met, climbed, fallen, launch_trap, moved, next, operation, sent, set_last, with_passenger, without_packet, without_passenger, written}
+use Rattle.cf_semantics.specs.moves.Kept.{Kept, Same, bytes_back, cells_back, kept, kept_op, last_place, lane_back, ops_back, register_back, restored, taken_back}
 use Rattle.cf_refinement.proofs.moves.Rows.{bar_row}
 use Rattle.cf_confluence.proofs.back.BytesBack.{access_back}
 use Rattle.cf_confluence.proofs.sites.Effects.{set_last_is}

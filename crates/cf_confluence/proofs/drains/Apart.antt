@@ -12,20 +12,20 @@ use Rattle.cf_bind.specs.declared.packet.Fetch.TheVariants.{Running}
 use Rattle.cf_bind.specs.declared.passenger.Passenger.{Passenger}
 use Rattle.cf_bind.specs.declared.passenger.End.{End}
 use Rattle.cf_bind.specs.declared.passenger.Guess.{Guess}
-use Rattle.cf_semantics.specs.Options.{is_some}
-use Rattle.cf_semantics.specs.Instructions.{fetched, step_at}
-use Rattle.cf_semantics.specs.State.{State, Moment}
-use Rattle.cf_semantics.specs.Bars.{bar}
-use Rattle.cf_semantics.specs.Column.{Item, Up, column, column_from, items}
-use Rattle.cf_semantics.specs.Layouts.{isa_of}
-use Rattle.cf_semantics.specs.Moves.{fetch_at, moved, next}
-use Rattle.cf_semantics.specs.Passengers.{forgets, fresh, goto, reg_in, requests}
-use Rattle.cf_semantics.specs.Right.{Way, begin, follows, goes, past, stops, way}
-use Rattle.cf_semantics.specs.Runs.{IsRun, run}
-use Rattle.cf_semantics.specs.Walks.{walk}
-use Rattle.cf_semantics.specs.Weight.{cell_weight, cells_weight, counts, is_issue, most_cells, moves_per_issue, op_weight, siding_weight, sidings_weight, weight}
-use Rattle.cf_semantics.specs.Drained.{is_drained, is_empty, is_occupied}
-use Rattle.cf_semantics.specs.Path as trail
+use Rattle.cf_semantics.specs.state.Options.{is_some}
+use Rattle.cf_semantics.specs.moves.Instructions.{fetched, step_at}
+use Rattle.cf_semantics.specs.state.State.{State, Moment}
+use Rattle.cf_semantics.specs.moves.Bars.{bar}
+use Rattle.cf_semantics.specs.state.Column.{Item, Up, column, column_from, items}
+use Rattle.cf_semantics.specs.state.Layouts.{isa_of}
+use Rattle.cf_semantics.specs.moves.Moves.{fetch_at, moved, next}
+use Rattle.cf_semantics.specs.state.Passengers.{forgets, fresh, goto, reg_in, requests}
+use Rattle.cf_semantics.specs.claims.Right.{Way, begin, follows, goes, past, stops, way}
+use Rattle.cf_semantics.specs.runs.Runs.{IsRun, run}
+use Rattle.cf_semantics.specs.claims.Walks.{walk}
+use Rattle.cf_semantics.specs.claims.Weight.{cell_weight, cells_weight, counts, is_issue, most_cells, moves_per_issue, op_weight, siding_weight, sidings_weight, weight}
+use Rattle.cf_semantics.specs.state.Drained.{is_drained, is_empty, is_occupied}
+use Rattle.cf_semantics.specs.claims.Path as trail
 use Rattle.cf_refinement.proofs.invariant.Invariant.{HoldsAfter, Sound}
 use Rattle.cf_refinement.proofs.invariant.Suited.{Suits}
 use Rattle.cf_refinement.proofs.invariant.Sure as sure

@@ -6,14 +6,14 @@ use Rattle.rv_machine.specs.After.{after}
 use Rattle.cf_layout.specs.Layout.{Plan}
 use Rattle.cf_bind.specs.declared.moves.Move.{Move}
 use Rattle.cf_bind.specs.declared.passenger.End.{End}
-use Rattle.cf_semantics.specs.Instructions.{Stops, step_here}
-use Rattle.cf_semantics.specs.State.{State, Moment}
-use Rattle.cf_semantics.specs.Layouts.{isa_of}
-use Rattle.cf_semantics.specs.Refines.{gained}
-use Rattle.cf_semantics.specs.Right.{right, way}
-use Rattle.cf_semantics.specs.Runs.{IsRun, run, opened}
-use Rattle.cf_semantics.specs.Drained.{is_drained}
-use Rattle.cf_semantics.specs.Determined.{Drains, EndAlike, EndsAs, EndsAt, IsDrainedAt, IsEndedAt, IsSame, KeepsRegisters}
+use Rattle.cf_semantics.specs.moves.Instructions.{Stops, step_here}
+use Rattle.cf_semantics.specs.state.State.{State, Moment}
+use Rattle.cf_semantics.specs.state.Layouts.{isa_of}
+use Rattle.cf_semantics.specs.claims.Refines.{gained}
+use Rattle.cf_semantics.specs.claims.Right.{right, way}
+use Rattle.cf_semantics.specs.runs.Runs.{IsRun, run, opened}
+use Rattle.cf_semantics.specs.state.Drained.{is_drained}
+use Rattle.cf_semantics.specs.claims.Determined.{Drains, EndAlike, EndsAs, EndsAt, IsDrainedAt, IsEndedAt, IsSame, KeepsRegisters}
 use Rattle.cf_refinement.proofs.invariant.Invariant.{HoldsAfter, HoldsAt, Sound}
 use Rattle.cf_refinement.proofs.claims.Level.{empty_column}
 use Rattle.cf_refinement.proofs.claims.Runs.{going}

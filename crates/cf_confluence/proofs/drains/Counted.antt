@@ -7,8 +7,8 @@ use Rattle.rv_machine.specs.Machine.{Machine}
 use Rattle.rv_machine.specs.Outcome as outcome
 use Rattle.rv_machine.specs.After.{after, next_machine, step_from}
 use Rattle.rv_machine.specs.Step.{step}
-use Rattle.cf_semantics.specs.Instructions.{Fetched, Got, Bad, fetched, Goes, stepped, step_at, step_here, at_pc}
-use Rattle.cf_semantics.specs.Steps.{stepped_as}
+use Rattle.cf_semantics.specs.moves.Instructions.{Fetched, Got, Bad, fetched, Goes, stepped, step_at, step_here, at_pc}
+use Rattle.cf_semantics.specs.moves.Steps.{stepped_as}
 use Rattle.cf_refinement.proofs.instructions.Steps.{step_is, bad_step}
 
 class_counts : (c : Class) (i : Instr) (a b : ℕ) (m n : Machine) → stepped_as c i a b m ≡ Goes n → n.hart.retired ≡ m.hart.retired + 1

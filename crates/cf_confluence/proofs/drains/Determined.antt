@@ -24,27 +24,27 @@ use Rattle.cf_confluence.proofs.drains.Steadies.{access_steady, climb_steady, ex
 use Rattle.cf_confluence.proofs.drains.Ways.{Steady, fits_way}
 use Rattle.cf_refinement.proofs.invariant.Invariant.{HoldsAfter, HoldsAt, IsOver, Sound}
 use Rattle.cf_refinement.proofs.invariant.Suited.{Suits}
-use Rattle.cf_semantics.specs.Ahead.{one}
-use Rattle.cf_semantics.specs.Bars.{bar}
-use Rattle.cf_semantics.specs.Column.{Down, Item, Up, column, column_from, packet_in}
-use Rattle.cf_semantics.specs.Determined.{Drains, EndsAs, EndsAt, IsDrainedAt, IsEndedAt}
-use Rattle.cf_semantics.specs.Refines.{gained}
-use Rattle.cf_semantics.specs.Instructions.{Goes, Stops, behind, step_at, step_here}
-use Rattle.cf_semantics.specs.Layouts.{isa_of}
-use Rattle.cf_semantics.specs.Lines.{lines_at, retires}
-use Rattle.cf_semantics.specs.Moves.{left, moved, next, without_passenger, written}
-use Rattle.cf_semantics.specs.Right.{Way, begin, follows, goes, past, past_passenger, stops, way}
-use Rattle.cf_semantics.specs.Runs.{IsRun, run}
-use Rattle.cf_semantics.specs.State.{Moment, State, put_cell}
-use Rattle.cf_semantics.specs.Walks.{Everywhere, walk}
-use Rattle.cf_semantics.specs.Weight.{counts, is_issue, issues}
+use Rattle.cf_semantics.specs.claims.Ahead.{one}
+use Rattle.cf_semantics.specs.moves.Bars.{bar}
+use Rattle.cf_semantics.specs.state.Column.{Down, Item, Up, column, column_from, packet_in}
+use Rattle.cf_semantics.specs.claims.Determined.{Drains, EndsAs, EndsAt, IsDrainedAt, IsEndedAt}
+use Rattle.cf_semantics.specs.claims.Refines.{gained}
+use Rattle.cf_semantics.specs.moves.Instructions.{Goes, Stops, behind, step_at, step_here}
+use Rattle.cf_semantics.specs.state.Layouts.{isa_of}
+use Rattle.cf_semantics.specs.runs.Lines.{lines_at, retires}
+use Rattle.cf_semantics.specs.moves.Moves.{left, moved, next, without_passenger, written}
+use Rattle.cf_semantics.specs.claims.Right.{Way, begin, follows, goes, past, past_passenger, stops, way}
+use Rattle.cf_semantics.specs.runs.Runs.{IsRun, run}
+use Rattle.cf_semantics.specs.state.State.{Moment, State, put_cell}
+use Rattle.cf_semantics.specs.claims.Walks.{Everywhere, walk}
+use Rattle.cf_semantics.specs.claims.Weight.{counts, is_issue, issues}
 use Rattle.rv_inst.specs.declared.isa.Isa.{Isa}
 use Rattle.rv_machine.specs.After.{after}
 use Rattle.rv_machine.specs.Machine.{Machine}
 use Rattle.cf_refinement.proofs.walks.Path as paths
 use Rattle.cf_refinement.proofs.claims.Runs as runs
 use Rattle.cf_refinement.proofs.invariant.Sure as sure
-use Rattle.cf_semantics.specs.Path as trail
+use Rattle.cf_semantics.specs.claims.Path as trail
 use Rattle.cf_refinement.proofs.walks.Path.{sure_at}
 use Rattle.cf_refinement.proofs.claims.Lines.{gained_is}
 

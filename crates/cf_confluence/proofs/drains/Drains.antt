@@ -14,24 +14,24 @@ use Rattle.cf_confluence.proofs.drains.Stuck.{Barred, Head, bar_is, first_clear,
 use Rattle.cf_refinement.proofs.invariant.Invariant.{Sound}
 use Rattle.cf_refinement.proofs.invariant.Stands.{Each, Stands}
 use Rattle.cf_refinement.proofs.invariant.Suited.{Suits, is_plain}
-use Rattle.cf_semantics.specs.Bars.{bar, climb_bar, emit_bar, execute_bar, is_taken, last_op, launch_bar, leave_bar, recover_bar, row_bar, send_bar, serve_bar, stops_at}
-use Rattle.cf_semantics.specs.Column.{Item, Up, column}
-use Rattle.cf_semantics.specs.Drained.{IsStuck}
-use Rattle.cf_semantics.specs.Instructions.{fetched, is_free, is_memory, is_serial}
-use Rattle.cf_semantics.specs.Layouts.{ends_units, isa_of, launches, port, recovers}
-use Rattle.cf_semantics.specs.Moves.{operation}
-use Rattle.cf_semantics.specs.Options.{Where, is_some}
-use Rattle.cf_semantics.specs.Passengers.{fresh, kind, missing, requests}
-use Rattle.cf_semantics.specs.State.{State, cell_at, siding_at}
-use Rattle.cf_semantics.specs.Walks.{Everywhere, walk}
+use Rattle.cf_semantics.specs.moves.Bars.{bar, climb_bar, emit_bar, execute_bar, is_taken, last_op, launch_bar, leave_bar, recover_bar, row_bar, send_bar, serve_bar, stops_at}
+use Rattle.cf_semantics.specs.state.Column.{Item, Up, column}
+use Rattle.cf_semantics.specs.state.Drained.{IsStuck}
+use Rattle.cf_semantics.specs.moves.Instructions.{fetched, is_free, is_memory, is_serial}
+use Rattle.cf_semantics.specs.state.Layouts.{ends_units, isa_of, launches, port, recovers}
+use Rattle.cf_semantics.specs.moves.Moves.{operation}
+use Rattle.cf_semantics.specs.state.Options.{Where, is_some}
+use Rattle.cf_semantics.specs.state.Passengers.{fresh, kind, missing, requests}
+use Rattle.cf_semantics.specs.state.State.{State, cell_at, siding_at}
+use Rattle.cf_semantics.specs.claims.Walks.{Everywhere, walk}
 use Rattle.rv_inst.specs.declared.classes.Class.{Class}
 use Rattle.rv_inst.specs.declared.classes.Class.TheVariants.{Serial}
 use Rattle.rv_inst.specs.declared.isa.Isa.{Isa}
 use Rattle.rv_machine.specs.Machine.{Machine}
 use Rattle.std.specs.Prelude.{slice_get}
 use Rattle.cf_refinement.proofs.invariant.Sure as sure
-use Rattle.cf_semantics.specs.Path as trail
-use Rattle.cf_semantics.specs.Soundness.{in_siding, operations_in, operations_of}
+use Rattle.cf_semantics.specs.claims.Path as trail
+use Rattle.cf_semantics.specs.claims.Soundness.{in_siding, operations_in, operations_of}
 use Rattle.cf_refinement.proofs.instructions.Classes.{memory_is, serial_is}
 use Rattle.cf_refinement.proofs.walks.Path.{sure_at}
 use Rattle.cf_confluence.proofs.weight.Bound.{asks_size}

@@ -11,18 +11,18 @@ use Rattle.cf_bind.specs.declared.packet.Packet.{Packet}
 use Rattle.cf_bind.specs.declared.passenger.Passenger.{Passenger}
 use Rattle.cf_bind.specs.declared.passenger.Guess.TheVariants.{Next}
 use Rattle.cf_bind.specs.declared.moves.Move.TheVariants.{Issue}
-use Rattle.cf_semantics.specs.Options.{is_some}
-use Rattle.cf_semantics.specs.State.{State, Moment, siding_at}
-use Rattle.cf_semantics.specs.Bars.{bar}
-use Rattle.cf_semantics.specs.Column.{Item, column, column_from, items, in_order, passenger_in, packet_in}
-use Rattle.cf_semantics.specs.Layouts.{isa_of}
-use Rattle.cf_semantics.specs.Runs.{opened, empty_cell, empty_siding}
-use Rattle.cf_semantics.specs.Refines.{gained}
-use Rattle.cf_semantics.specs.Walks.{walk}
-use Rattle.cf_semantics.specs.Drained.{is_drained, is_occupied, IsStuck}
-use Rattle.cf_semantics.specs.Determined.{IsSame, IsDrainedAt, KeepsRegisters}
-use Rattle.cf_semantics.specs.Path as trail
-use Rattle.cf_semantics.specs.Soundness.{as_launched, operations_in}
+use Rattle.cf_semantics.specs.state.Options.{is_some}
+use Rattle.cf_semantics.specs.state.State.{State, Moment, siding_at}
+use Rattle.cf_semantics.specs.moves.Bars.{bar}
+use Rattle.cf_semantics.specs.state.Column.{Item, column, column_from, items, in_order, passenger_in, packet_in}
+use Rattle.cf_semantics.specs.state.Layouts.{isa_of}
+use Rattle.cf_semantics.specs.runs.Runs.{opened, empty_cell, empty_siding}
+use Rattle.cf_semantics.specs.claims.Refines.{gained}
+use Rattle.cf_semantics.specs.claims.Walks.{walk}
+use Rattle.cf_semantics.specs.state.Drained.{is_drained, is_occupied, IsStuck}
+use Rattle.cf_semantics.specs.claims.Determined.{IsSame, IsDrainedAt, KeepsRegisters}
+use Rattle.cf_semantics.specs.claims.Path as trail
+use Rattle.cf_semantics.specs.claims.Soundness.{as_launched, operations_in}
 use Rattle.cf_refinement.proofs.invariant.Invariant.{HoldsAfter, HoldsAt, Sound}
 use Rattle.cf_refinement.proofs.invariant.Suited.{Suits}
 use Rattle.cf_refinement.proofs.invariant.Port as dock

@@ -10,13 +10,13 @@ use Rattle.cf_bind.specs.declared.packet.Packet.{Packet}
 use Rattle.cf_bind.specs.declared.passenger.Passenger.{Passenger}
 use Rattle.cf_semantics.specs.declared.event.Event.{Event}
 use Rattle.cf_semantics.specs.declared.event.Event.TheVariants as event
-use Rattle.cf_semantics.specs.Bars.{bar}
-use Rattle.cf_semantics.specs.Events.{IsEvent, IsLeaving, meeting_event}
-use Rattle.cf_semantics.specs.Holding.{is_retirement}
-use Rattle.cf_semantics.specs.Moves.{left, moved, next}
-use Rattle.cf_semantics.specs.Options.{is_some, on}
-use Rattle.cf_semantics.specs.State.{State, Moment, cell_at}
-use Rattle.cf_semantics.specs.Weight.{counts, is_issue}
+use Rattle.cf_semantics.specs.moves.Bars.{bar}
+use Rattle.cf_semantics.specs.moves.Events.{IsEvent, IsLeaving, meeting_event}
+use Rattle.cf_semantics.specs.moves.Holding.{is_retirement}
+use Rattle.cf_semantics.specs.moves.Moves.{left, moved, next}
+use Rattle.cf_semantics.specs.state.Options.{is_some, on}
+use Rattle.cf_semantics.specs.state.State.{State, Moment, cell_at}
+use Rattle.cf_semantics.specs.claims.Weight.{counts, is_issue}
 use Rattle.cf_refinement.proofs.moves.Rows.{bar_row}
 use Rattle.cf_refinement.proofs.moves.Leave.{leave_ready, left_dead, left_on, left_over, next_leave}
 use Rattle.cf_refinement.proofs.claims.Runs as runs

@@ -3,13 +3,13 @@ use Rattle.std.proofs.Common.{◌≡◌, ℕ, Bool, true, false, ◌&&◌, refl,
 use Rattle.cf_bind.specs.declared.packet.Packet.{Packet}
 use Rattle.cf_bind.specs.declared.passenger.Passenger.{Passenger}
 use Rattle.cf_refinement.proofs.column.Fold.{IsWalk}
-use Rattle.cf_semantics.specs.Column.{Down, Item, Up}
-use Rattle.cf_semantics.specs.Passengers.{is_place}
-use Rattle.cf_semantics.specs.Right.{Way, follows, past, past_passenger, stops}
+use Rattle.cf_semantics.specs.state.Column.{Down, Item, Up}
+use Rattle.cf_semantics.specs.state.Passengers.{is_place}
+use Rattle.cf_semantics.specs.claims.Right.{Way, follows, past, past_passenger, stops}
 use Rattle.rv_inst.specs.declared.isa.Isa.{Isa}
 use Rattle.cf_refinement.proofs.walks.Path as paths
 use Rattle.cf_refinement.proofs.invariant.Sure as sure
-use Rattle.cf_semantics.specs.Path as trail
+use Rattle.cf_semantics.specs.claims.Path as trail
 
 -- the next sure passenger would be on the path
 abbrev pub ahead : Way → Bool

@@ -8,13 +8,13 @@ use Rattle.cf_refinement.proofs.walks.Launching.{sent_out}
 use Rattle.cf_refinement.proofs.walks.PathFinish.{Finishes}
 use Rattle.cf_refinement.proofs.walks.PathMeet.{met_items}
 use Rattle.cf_confluence.proofs.drains.Right.{ahead}
-use Rattle.cf_semantics.specs.Column.{Down, Up}
-use Rattle.cf_semantics.specs.Instructions.{Stops, finish_trap, step_at}
-use Rattle.cf_semantics.specs.Passengers.{finish, goto, goto_undone, guessed, instruction, kind, value_in}
-use Rattle.cf_semantics.specs.Right.{Way, follows, past, stops}
-use Rattle.cf_semantics.specs.Walks.{walk}
+use Rattle.cf_semantics.specs.state.Column.{Down, Up}
+use Rattle.cf_semantics.specs.moves.Instructions.{Stops, finish_trap, step_at}
+use Rattle.cf_semantics.specs.state.Passengers.{finish, goto, goto_undone, guessed, instruction, kind, value_in}
+use Rattle.cf_semantics.specs.claims.Right.{Way, follows, past, stops}
+use Rattle.cf_semantics.specs.claims.Walks.{walk}
 use Rattle.rv_inst.specs.declared.isa.Isa.{Isa}
-use Rattle.cf_semantics.specs.Path as trail
+use Rattle.cf_semantics.specs.claims.Path as trail
 
 -- Climb, Fall, Launch: another stage, or a mark that is not looked at
 pub rider_label : (isa : Isa) (i j : ℕ) (p : Passenger) (w : Way) → past isa (Up i p) w ≡ past isa (Up j p) w

@@ -37,28 +37,28 @@ use Rattle.cf_confluence.proofs.drains.Ways.{Steady, finished_way, follows_self,
 use Rattle.cf_refinement.proofs.invariant.Invariant.{Sound}
 use Rattle.cf_refinement.proofs.invariant.Stands.{Stands}
 use Rattle.cf_refinement.proofs.invariant.Suited.{Suits}
-use Rattle.cf_semantics.specs.Bars.{bar}
-use Rattle.cf_semantics.specs.Column.{Down, Item, Up}
-use Rattle.cf_semantics.specs.Instructions.{Stops, access_trap, behind, is_memory, serve_of, step_at}
-use Rattle.cf_semantics.specs.Layouts.{isa_of}
-use Rattle.cf_semantics.specs.Moves.{answered, next, back_in, cell_met, launch_trap, launched, moved, operation, set_last, with_passenger}
-use Rattle.cf_semantics.specs.Options.{on}
-use Rattle.cf_semantics.specs.Passengers.{finish, goto_undone, guessed, instruction, kind, missing, trapped, value_in}
-use Rattle.cf_semantics.specs.Right.{way, Way, begin, follows, past, past_passenger, stops}
-use Rattle.cf_semantics.specs.State.{Moment, State, put_cell, siding_at, with_cell, with_siding}
-use Rattle.cf_semantics.specs.Walks.{Everywhere, walk}
+use Rattle.cf_semantics.specs.moves.Bars.{bar}
+use Rattle.cf_semantics.specs.state.Column.{Down, Item, Up}
+use Rattle.cf_semantics.specs.moves.Instructions.{Stops, access_trap, behind, is_memory, serve_of, step_at}
+use Rattle.cf_semantics.specs.state.Layouts.{isa_of}
+use Rattle.cf_semantics.specs.moves.Moves.{answered, next, back_in, cell_met, launch_trap, launched, moved, operation, set_last, with_passenger}
+use Rattle.cf_semantics.specs.state.Options.{on}
+use Rattle.cf_semantics.specs.state.Passengers.{finish, goto_undone, guessed, instruction, kind, missing, trapped, value_in}
+use Rattle.cf_semantics.specs.claims.Right.{way, Way, begin, follows, past, past_passenger, stops}
+use Rattle.cf_semantics.specs.state.State.{Moment, State, put_cell, siding_at, with_cell, with_siding}
+use Rattle.cf_semantics.specs.claims.Walks.{Everywhere, walk}
 use Rattle.mem_regions.specs.Access.{Bounds, bounds_of}
 use Rattle.rv_inst.specs.declared.isa.Isa.{Isa}
 use Rattle.rv_machine.specs.Call.{Called}
 use Rattle.rv_machine.specs.Call as called
 use Rattle.rv_machine.specs.Machine.{Machine}
-use Rattle.cf_semantics.specs.Ahead as ahead
+use Rattle.cf_semantics.specs.claims.Ahead as ahead
 use Rattle.cf_refinement.proofs.invariant.Port as dock
 use Rattle.cf_refinement.proofs.walks.PathMeet as pathmeet
 use Rattle.cf_refinement.proofs.walks.Path as paths
 use Rattle.cf_refinement.proofs.invariant.Sure as sure
-use Rattle.cf_semantics.specs.Path as trail
-use Rattle.cf_semantics.specs.Soundness.{IsAnswer}
+use Rattle.cf_semantics.specs.claims.Path as trail
+use Rattle.cf_semantics.specs.claims.Soundness.{IsAnswer}
 use Rattle.cf_refinement.proofs.walks.Path.{sure_at}
 
 pub climb_steady : {rest out : List ℕ} (l : Plan) (s : State) (x : Machine) (i : ℕ) → bar l s (Climb i) ≡ None → Sound l s rest out x → Steady (way (isa_of l) s x) (way (isa_of l) (moved l s (Climb i)) x)

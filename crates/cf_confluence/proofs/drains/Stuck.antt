@@ -9,12 +9,12 @@ use Rattle.cf_bind.specs.declared.moves.Move.TheVariants.{Exit, Fall, Meet, Slid
 use Rattle.cf_bind.specs.declared.packet.Packet.{Packet}
 use Rattle.cf_bind.specs.declared.passenger.Passenger.{Passenger}
 use Rattle.cf_layout.specs.Layout.{Plan}
-use Rattle.cf_semantics.specs.Bars.{bar, climb_bar, emit_bar, exit_bar, fall_bar, last_op, leave_bar, meet_bar, row_bar, send_bar, stops_at}
-use Rattle.cf_semantics.specs.Column.{Item, Up, column_from, items, passenger_in}
-use Rattle.cf_semantics.specs.Passengers.{missing}
-use Rattle.cf_semantics.specs.State.{State, cell_at, siding_at}
-use Rattle.cf_semantics.specs.Weight.{is_issue}
-use Rattle.cf_semantics.specs.Soundness.{as_launched, operations_in}
+use Rattle.cf_semantics.specs.moves.Bars.{bar, climb_bar, emit_bar, exit_bar, fall_bar, last_op, leave_bar, meet_bar, row_bar, send_bar, stops_at}
+use Rattle.cf_semantics.specs.state.Column.{Item, Up, column_from, items, passenger_in}
+use Rattle.cf_semantics.specs.state.Passengers.{missing}
+use Rattle.cf_semantics.specs.state.State.{State, cell_at, siding_at}
+use Rattle.cf_semantics.specs.claims.Weight.{is_issue}
+use Rattle.cf_semantics.specs.claims.Soundness.{as_launched, operations_in}
 use Rattle.cf_refinement.proofs.invariant.Sure as sure
 
 -- the row alone bars

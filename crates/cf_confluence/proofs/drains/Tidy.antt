@@ -12,16 +12,16 @@ use Rattle.cf_bind.specs.Meeting.{meeting}
 use Rattle.cf_layout.specs.Layout.{siding_of}
 use Rattle.rv_machine.specs.Call.{Called}
 use Rattle.rv_machine.specs.Call as called
-use Rattle.cf_semantics.specs.Instructions.{serve_of}
-use Rattle.cf_semantics.specs.Passengers.{instruction, kind}
-use Rattle.cf_semantics.specs.Layouts.{port}
-use Rattle.cf_semantics.specs.Bars.{bar, running, last_op}
-use Rattle.cf_semantics.specs.Options.{is_some, on}
-use Rattle.cf_semantics.specs.State.{State, Moment, cell_at, put_cell, siding_at}
-use Rattle.cf_semantics.specs.Moves.{asked, cell_met, emitted, launch_trap, launched, left, moved, next, recovered, sent, served, with_passenger}
+use Rattle.cf_semantics.specs.moves.Instructions.{serve_of}
+use Rattle.cf_semantics.specs.state.Passengers.{instruction, kind}
+use Rattle.cf_semantics.specs.state.Layouts.{port}
+use Rattle.cf_semantics.specs.moves.Bars.{bar, running, last_op}
+use Rattle.cf_semantics.specs.state.Options.{is_some, on}
+use Rattle.cf_semantics.specs.state.State.{State, Moment, cell_at, put_cell, siding_at}
+use Rattle.cf_semantics.specs.moves.Moves.{asked, cell_met, emitted, launch_trap, launched, left, moved, next, recovered, sent, served, with_passenger}
 use Rattle.cf_refinement.proofs.moves.Rows.{bar_row}
 use Rattle.cf_refinement.proofs.moves.Send.{send_ready}
-use Rattle.cf_semantics.specs.Runs.{IsRun, run, opened, empty_cell, empty_siding}
+use Rattle.cf_semantics.specs.runs.Runs.{IsRun, run, opened, empty_cell, empty_siding}
 use Rattle.cf_refinement.proofs.moves.Leave.{left_cells}
 
 -- it has met only where both are there

@@ -7,18 +7,18 @@ use Rattle.cf_refinement.proofs.column.Fold.{fit_back, fit_front, walk_append, w
 use Rattle.cf_refinement.proofs.walks.PathFinish.{Finishes, finish_walk, pc_stays, sources_stay}
 use Rattle.cf_confluence.proofs.drains.Right.{Fits, Follows, finish_way, past_path, way_walk}
 use Rattle.cf_confluence.proofs.drains.RightMoves.{finish_ahead, meet_count, packet_label, rider_label, send_count}
-use Rattle.cf_semantics.specs.Column.{Down, Item, Up, column}
-use Rattle.cf_semantics.specs.Instructions.{step_at}
-use Rattle.cf_semantics.specs.Passengers.{finish, goto_undone, guessed, instruction, kind}
-use Rattle.cf_semantics.specs.Right.{Way, begin, past, way}
-use Rattle.cf_semantics.specs.State.{State}
-use Rattle.cf_semantics.specs.Walks.{Everywhere, walk}
+use Rattle.cf_semantics.specs.state.Column.{Down, Item, Up, column}
+use Rattle.cf_semantics.specs.moves.Instructions.{step_at}
+use Rattle.cf_semantics.specs.state.Passengers.{finish, goto_undone, guessed, instruction, kind}
+use Rattle.cf_semantics.specs.claims.Right.{Way, begin, past, way}
+use Rattle.cf_semantics.specs.state.State.{State}
+use Rattle.cf_semantics.specs.claims.Walks.{Everywhere, walk}
 use Rattle.rv_inst.specs.declared.isa.Isa.{Isa}
 use Rattle.rv_machine.specs.Machine.{Machine}
 use Rattle.cf_refinement.proofs.walks.PathMeet as pathmeet
 use Rattle.cf_refinement.proofs.walks.Path as paths
 use Rattle.cf_refinement.proofs.invariant.Sure as sure
-use Rattle.cf_semantics.specs.Path as trail
+use Rattle.cf_semantics.specs.claims.Path as trail
 
 pub record Steady (w v : Way) : Type 0 where
   pub count : v.count ≡ w.count

@@ -14,9 +14,9 @@ use Rattle.mem_regions.specs.declared.access.MemErr.TheVariants.{Misaligned}
 use Rattle.rv_inst.specs.declared.instruction.Instr.{Instr}
 use Rattle.rv_inst.specs.declared.isa.Isa.{Isa}
 use Rattle.rv_inst.specs.Accesses.{access_made, extended}
-use Rattle.cf_semantics.specs.Instructions.{answer_of, fetched, mem_after, number}
-use Rattle.cf_semantics.specs.Sites.{bytes_of, codes_of}
-use Rattle.cf_semantics.specs.Fetches.{Text, area_text, code_of}
+use Rattle.cf_semantics.specs.moves.Instructions.{answer_of, fetched, mem_after, number}
+use Rattle.cf_semantics.specs.moves.Sites.{bytes_of, codes_of}
+use Rattle.cf_semantics.specs.moves.Fetches.{Text, area_text, code_of}
 use Rattle.cf_refinement.proofs.instructions.Fetches.{fetched_alike}
 
 -- a text by its bounds and its code

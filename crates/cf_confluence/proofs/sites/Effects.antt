@@ -10,14 +10,14 @@ use Rattle.cf_bind.specs.declared.passenger.Passenger.{Passenger}
 use Rattle.cf_bind.specs.declared.passenger.End.{End}
 use Rattle.cf_bind.specs.declared.moves.Move.{Move}
 use Rattle.cf_bind.specs.declared.moves.Move.TheVariants.{Issue, Emit, Climb, Fall, Meet, Execute, Send, Launch, Slide, Access, Recover, Leave, Exit, Serve}
-use Rattle.cf_semantics.specs.Options.{on}
-use Rattle.cf_semantics.specs.Instructions.{fetched, mem_after, answer_of}
-use Rattle.cf_semantics.specs.State.{State, cell_at, put_cell, siding_at, with_cell, with_siding}
-use Rattle.cf_semantics.specs.Passengers.{kind, fresh, goto, requests, reg_in, forgets, finish, trapped}
-use Rattle.cf_semantics.specs.Layouts.{isa_of, port}
-use Rattle.cf_semantics.specs.Bars.{last_op, running}
-use Rattle.cf_semantics.specs.Moves.{fetch_at, set_last, without_passenger, without_packet, with_passenger, cell_met, sent, operation, launch_trap, back_in, written, turned, keeps, moved, emitted, accessed, left}
-use Rattle.cf_semantics.specs.Sites.{last_number}
+use Rattle.cf_semantics.specs.state.Options.{on}
+use Rattle.cf_semantics.specs.moves.Instructions.{fetched, mem_after, answer_of}
+use Rattle.cf_semantics.specs.state.State.{State, cell_at, put_cell, siding_at, with_cell, with_siding}
+use Rattle.cf_semantics.specs.state.Passengers.{kind, fresh, goto, requests, reg_in, forgets, finish, trapped}
+use Rattle.cf_semantics.specs.state.Layouts.{isa_of, port}
+use Rattle.cf_semantics.specs.moves.Bars.{last_op, running}
+use Rattle.cf_semantics.specs.moves.Moves.{fetch_at, set_last, without_passenger, without_packet, with_passenger, cell_met, sent, operation, launch_trap, back_in, written, turned, keeps, moved, emitted, accessed, left}
+use Rattle.cf_semantics.specs.moves.Sites.{last_number}
 use Rattle.cf_refinement.proofs.column.Sidings.{cells_in}
 
 -- another content of a stage, or of a cell of a siding

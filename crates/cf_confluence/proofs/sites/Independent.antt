@@ -3,10 +3,10 @@ use Rattle.std.proofs.Common.{◌≡◌, None, Bool, true, false, refl, sym, ap,
 use Rattle.cf_layout.specs.Layout.{Plan}
 use Rattle.cf_bind.specs.declared.moves.Move.{Move}
 use Rattle.cf_bind.specs.declared.moves.Move.TheVariants.{Issue, Emit, Climb, Fall, Meet, Execute, Send, Launch, Slide, Access, Recover, Leave, Exit, Serve}
-use Rattle.cf_semantics.specs.State.{State, Moment}
-use Rattle.cf_semantics.specs.Bars.{bar}
-use Rattle.cf_semantics.specs.Moves.{next}
-use Rattle.cf_semantics.specs.Sites.{AreAlike, AreIndependent, Failure, Site, reads, writes}
+use Rattle.cf_semantics.specs.state.State.{State, Moment}
+use Rattle.cf_semantics.specs.moves.Bars.{bar}
+use Rattle.cf_semantics.specs.moves.Moves.{next}
+use Rattle.cf_semantics.specs.moves.Sites.{AreAlike, AreIndependent, Failure, Site, reads, writes}
 use Rattle.cf_confluence.proofs.sites.Effects.{Effect, effect, moved_applied}
 use Rattle.cf_confluence.proofs.sites.Locals.{has_law}
 use Rattle.cf_confluence.proofs.sites.Touches.{effects_swap, framed, made, touches, untouched}

@@ -13,14 +13,14 @@ use Rattle.cf_bind.specs.declared.moves.Move.{Move}
 use Rattle.cf_bind.specs.declared.moves.Move.TheVariants.{Issue, Emit, Climb, Fall, Meet, Execute, Send, Launch, Slide, Access, Recover, Leave, Exit, Serve}
 use Rattle.cf_bind.specs.declared.moves.Bar.{Bar}
 use Rattle.cf_bind.specs.declared.moves.Bar.TheVariants.{AlreadyDone, Dead, NoSuchSite, NoUnit, NotDone, NotMet, Occupied, OpNotThere}
-use Rattle.cf_semantics.specs.Options.{on, is_some}
-use Rattle.cf_semantics.specs.Instructions.{access_trap, answer_of, fetched, is_memory}
-use Rattle.cf_semantics.specs.State.{State, Moment, cell_at, siding_at}
-use Rattle.cf_semantics.specs.Passengers.{finish, fresh, instruction, kind, value_in}
-use Rattle.cf_semantics.specs.Layouts.{isa_of, port, launches, recovers}
-use Rattle.cf_semantics.specs.Bars.{bar, row_bar, first_of, last_op, running, source_bar, issue_bar, climb_bar, fall_bar, launch_bar, entry_bar, access_bar, recover_bar, exit_op_bar, is_taken, is_full}
-use Rattle.cf_semantics.specs.Moves.{cell_met, keeps, launch_trap, sent, turned, with_passenger, without_packet, without_passenger, written}
-use Rattle.cf_semantics.specs.Sites.{AreAlike, HasFrame, Site, Stage, SidingCell, Lane, Fetching, Cache, Registers, Memory, Code, Count, Ended, Failure, content, among, uses, only_reads, reads, writes, last_number, ends_there, is_way_in, is_way_out, bytes_of, codes_of}
+use Rattle.cf_semantics.specs.state.Options.{on, is_some}
+use Rattle.cf_semantics.specs.moves.Instructions.{access_trap, answer_of, fetched, is_memory}
+use Rattle.cf_semantics.specs.state.State.{State, Moment, cell_at, siding_at}
+use Rattle.cf_semantics.specs.state.Passengers.{finish, fresh, instruction, kind, value_in}
+use Rattle.cf_semantics.specs.state.Layouts.{isa_of, port, launches, recovers}
+use Rattle.cf_semantics.specs.moves.Bars.{bar, row_bar, first_of, last_op, running, source_bar, issue_bar, climb_bar, fall_bar, launch_bar, entry_bar, access_bar, recover_bar, exit_op_bar, is_taken, is_full}
+use Rattle.cf_semantics.specs.moves.Moves.{cell_met, keeps, launch_trap, sent, turned, with_passenger, without_packet, without_passenger, written}
+use Rattle.cf_semantics.specs.moves.Sites.{AreAlike, HasFrame, Site, Stage, SidingCell, Lane, Fetching, Cache, Registers, Memory, Code, Count, Ended, Failure, content, among, uses, only_reads, reads, writes, last_number, ends_there, is_way_in, is_way_out, bytes_of, codes_of}
 use Rattle.cf_refinement.proofs.moves.Rows.{bar_row}
 use Rattle.cf_refinement.proofs.moves.Launch.{launch_ready}
 use Rattle.cf_refinement.proofs.moves.Leave.{leave_ready}

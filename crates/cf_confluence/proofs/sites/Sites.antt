@@ -12,16 +12,16 @@ use Rattle.cf_bind.specs.declared.passenger.Passenger.{Passenger}
 use Rattle.cf_bind.specs.declared.passenger.End.{End}
 use Rattle.cf_bind.specs.declared.moves.Move.{Move}
 use Rattle.cf_bind.specs.declared.moves.Move.TheVariants.{Issue, Emit, Climb, Fall, Meet, Execute, Send, Launch, Slide, Access, Recover, Leave, Exit, Serve}
-use Rattle.cf_semantics.specs.Options.{on}
-use Rattle.cf_semantics.specs.Instructions.{serve_of}
+use Rattle.cf_semantics.specs.state.Options.{on}
+use Rattle.cf_semantics.specs.moves.Instructions.{serve_of}
 use Rattle.cf_semantics.specs.declared.event.Event.{Event}
 use Rattle.cf_semantics.specs.declared.event.Event.TheVariants as event
-use Rattle.cf_semantics.specs.Events.{IsEvent, meeting_event}
-use Rattle.cf_semantics.specs.State.{State, Moment, cell_at, put_cell}
-use Rattle.cf_semantics.specs.Passengers.{instruction}
-use Rattle.cf_semantics.specs.Bars.{bar}
-use Rattle.cf_semantics.specs.Moves.{asked, next, served}
-use Rattle.cf_semantics.specs.Sites.{AreAlike, HasFrame, IsLocal, Site, Stage, SidingCell, Lane, Fetching, Cache, Registers, Memory, Code, Input, Output, Count, Ended, Failure, OfStage, OfCell, OfNumbers, OfFetch, OfCache, OfMemory, OfCode, OfCount, OfEnding, bytes_of, codes_of, content, only_reads, only_writes, reads, uses, writes}
+use Rattle.cf_semantics.specs.moves.Events.{IsEvent, meeting_event}
+use Rattle.cf_semantics.specs.state.State.{State, Moment, cell_at, put_cell}
+use Rattle.cf_semantics.specs.state.Passengers.{instruction}
+use Rattle.cf_semantics.specs.moves.Bars.{bar}
+use Rattle.cf_semantics.specs.moves.Moves.{asked, next, served}
+use Rattle.cf_semantics.specs.moves.Sites.{AreAlike, HasFrame, IsLocal, Site, Stage, SidingCell, Lane, Fetching, Cache, Registers, Memory, Code, Input, Output, Count, Ended, Failure, OfStage, OfCell, OfNumbers, OfFetch, OfCache, OfMemory, OfCode, OfCount, OfEnding, bytes_of, codes_of, content, only_reads, only_writes, reads, uses, writes}
 use Rattle.cf_refinement.proofs.column.Sidings.{cells_in}
 use Rattle.cf_refinement.proofs.instructions.Steps.{served_bounds}
 use Rattle.cf_confluence.proofs.sites.Contents.{after_break, after_same, memory_same}

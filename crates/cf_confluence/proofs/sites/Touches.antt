@@ -8,11 +8,11 @@ use Rattle.cf_bind.specs.declared.cell.Cell.{Cell}
 use Rattle.cf_bind.specs.declared.cell.Op.{Op}
 use Rattle.cf_bind.specs.declared.packet.Fetch.{Fetch}
 use Rattle.cf_bind.specs.declared.passenger.End.{End}
-use Rattle.cf_semantics.specs.Options.{on, is_some}
-use Rattle.cf_semantics.specs.Instructions.{mem_after}
-use Rattle.cf_semantics.specs.State.{State, Moment, cell_at, put_cell}
-use Rattle.cf_semantics.specs.Sites.{HasFrame, Site, Stage, SidingCell, Lane, Fetching, Cache, Registers, Memory, Code, Input, Output, Count, Ended, Failure, OfStage, OfCell, OfNumbers, OfFetch, OfCache, OfCode, OfCount, OfEnding, content, codes_of}
-use Rattle.cf_semantics.specs.Fetches.{Text, area_text, code_of}
+use Rattle.cf_semantics.specs.state.Options.{on, is_some}
+use Rattle.cf_semantics.specs.moves.Instructions.{mem_after}
+use Rattle.cf_semantics.specs.state.State.{State, Moment, cell_at, put_cell}
+use Rattle.cf_semantics.specs.moves.Sites.{HasFrame, Site, Stage, SidingCell, Lane, Fetching, Cache, Registers, Memory, Code, Input, Output, Count, Ended, Failure, OfStage, OfCell, OfNumbers, OfFetch, OfCache, OfCode, OfCount, OfEnding, content, codes_of}
+use Rattle.cf_semantics.specs.moves.Fetches.{Text, area_text, code_of}
 use Rattle.cf_refinement.proofs.column.Sidings.{cells_in}
 use Rattle.cf_refinement.proofs.instructions.Steps.{bounds_after, code_after}
 use Rattle.cf_confluence.proofs.sites.Effects.{Effect, StagePut, CellPut, applied, put_stages, put_op, put_ops}

@@ -18,15 +18,15 @@ use Rattle.cf_refinement.proofs.walks.Stands.{each_back}
 use Rattle.cf_refinement.proofs.invariant.Invariant.{HoldsAfter, HoldsAt, Sound}
 use Rattle.cf_refinement.proofs.invariant.Stands.{Each, Stands}
 use Rattle.cf_refinement.proofs.invariant.Suited.{Suits}
-use Rattle.cf_semantics.specs.Bars.{bar}
-use Rattle.cf_semantics.specs.Column.{Up}
-use Rattle.cf_semantics.specs.Instructions.{fetched}
-use Rattle.cf_semantics.specs.Layouts.{isa_of}
-use Rattle.cf_semantics.specs.Moves.{moved, next}
-use Rattle.cf_semantics.specs.Passengers.{both, fresh, kind, missing, requests}
-use Rattle.cf_semantics.specs.Runs.{IsRun, empty_cell, empty_siding, opened, run, start}
-use Rattle.cf_semantics.specs.State.{Moment, State, cell_at}
-use Rattle.cf_semantics.specs.Weight.{cell_weight, cells_weight, counts, is_issue, issues, most_cells, moves_per_issue, op_weight, siding_weight, sidings_weight, weight}
+use Rattle.cf_semantics.specs.moves.Bars.{bar}
+use Rattle.cf_semantics.specs.state.Column.{Up}
+use Rattle.cf_semantics.specs.moves.Instructions.{fetched}
+use Rattle.cf_semantics.specs.state.Layouts.{isa_of}
+use Rattle.cf_semantics.specs.moves.Moves.{moved, next}
+use Rattle.cf_semantics.specs.state.Passengers.{both, fresh, kind, missing, requests}
+use Rattle.cf_semantics.specs.runs.Runs.{IsRun, empty_cell, empty_siding, opened, run, start}
+use Rattle.cf_semantics.specs.state.State.{Moment, State, cell_at}
+use Rattle.cf_semantics.specs.claims.Weight.{cell_weight, cells_weight, counts, is_issue, issues, most_cells, moves_per_issue, op_weight, siding_weight, sidings_weight, weight}
 use Rattle.rv_inst.specs.declared.classes.Class.TheVariants.{Serial}
 use Rattle.rv_machine.specs.Machine.{Machine}
 use Rattle.std.specs.Prelude.{map, replicate}

@@ -32,15 +32,15 @@ use Rattle.cf_refinement.proofs.moves.Slide.{next_slide, slide_ready, slide_size
 use Rattle.cf_confluence.proofs.weight.Weighs.{cell_weighs, last_weighs, pair_weighs, siding_weighs, slide_weight}
 use Rattle.cf_refinement.proofs.invariant.Invariant.{Sound}
 use Rattle.cf_refinement.proofs.invariant.Suited.{Suits}
-use Rattle.cf_semantics.specs.Bars.{bar, is_full, last_op}
-use Rattle.cf_semantics.specs.Column.{column}
-use Rattle.cf_semantics.specs.Instructions.{answer_of, is_memory, kind_of, serve_of}
-use Rattle.cf_semantics.specs.Layouts.{port}
-use Rattle.cf_semantics.specs.Moves.{back_in, cell_met, launch_trap, launched, left, moved, next, operation, set_last, with_passenger, without_packet, without_passenger}
-use Rattle.cf_semantics.specs.Passengers.{finish, instruction, kind, trapped}
-use Rattle.cf_semantics.specs.State.{Moment, State, cell_at, put_cell, siding_at, with_siding}
-use Rattle.cf_semantics.specs.Weight.{cell_weight, cells_weight, counts, most_cells, op_weight, siding_weight, sidings_weight, weight}
-use Rattle.cf_semantics.specs.Soundness.{operations_in}
+use Rattle.cf_semantics.specs.moves.Bars.{bar, is_full, last_op}
+use Rattle.cf_semantics.specs.state.Column.{column}
+use Rattle.cf_semantics.specs.moves.Instructions.{answer_of, is_memory, kind_of, serve_of}
+use Rattle.cf_semantics.specs.state.Layouts.{port}
+use Rattle.cf_semantics.specs.moves.Moves.{back_in, cell_met, launch_trap, launched, left, moved, next, operation, set_last, with_passenger, without_packet, without_passenger}
+use Rattle.cf_semantics.specs.state.Passengers.{finish, instruction, kind, trapped}
+use Rattle.cf_semantics.specs.state.State.{Moment, State, cell_at, put_cell, siding_at, with_siding}
+use Rattle.cf_semantics.specs.claims.Weight.{cell_weight, cells_weight, counts, most_cells, op_weight, siding_weight, sidings_weight, weight}
+use Rattle.cf_semantics.specs.claims.Soundness.{operations_in}
 use Rattle.rv_inst.specs.declared.classes.Class.TheVariants.{Memory}
 use Rattle.rv_machine.specs.Call.{Called}
 use Rattle.rv_machine.specs.Call as called

@@ -5,10 +5,10 @@ use Rattle.cf_bind.specs.declared.cell.Cell.{Cell}
 use Rattle.cf_bind.specs.declared.cell.Op.{Op}
 use Rattle.cf_refinement.proofs.column.Column.{pair, place}
 use Rattle.cf_refinement.proofs.column.Sidings.{cells_in}
-use Rattle.cf_semantics.specs.Bars.{last_op}
-use Rattle.cf_semantics.specs.Moves.{set_last}
-use Rattle.cf_semantics.specs.State.{cell_at, put_cell}
-use Rattle.cf_semantics.specs.Weight.{cell_weight, cells_weight, op_weight, siding_weight, sidings_weight}
+use Rattle.cf_semantics.specs.moves.Bars.{last_op}
+use Rattle.cf_semantics.specs.moves.Moves.{set_last}
+use Rattle.cf_semantics.specs.state.State.{cell_at, put_cell}
+use Rattle.cf_semantics.specs.claims.Weight.{cell_weight, cells_weight, op_weight, siding_weight, sidings_weight}
 
 cells_weight_append : (n d i : ℕ) (xs ys : List Cell) → cells_weight n d i (xs ++ ys) ≡ cells_weight n d i xs + cells_weight n d (i + length xs) ys
 cells_weight_append n d i [] ys = let e : i + 0 ≡ i = omega arith in ap (λ (j : ℕ). cells_weight n d j ys) (sym e) ∙ zero_plus (cells_weight n d (i + 0) ys)

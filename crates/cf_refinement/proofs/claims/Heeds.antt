@@ -19,30 +19,30 @@ use Rattle.cf_refinement.proofs.claims.Runs.{going, holds_after}
 use Rattle.cf_refinement.proofs.moves.Serve.{serve_ready}
 use Rattle.cf_refinement.proofs.column.Sorted.{Riders, Sorted, over, sorted}
 use Rattle.cf_refinement.proofs.walks.Stands.{each_front}
-use Rattle.cf_semantics.specs.Heeds.{Acted, Heeds, NoneFlies, OnWay, Unmoved, as_launched}
-use Rattle.cf_semantics.specs.Refines.{gained}
+use Rattle.cf_semantics.specs.claims.Heeds.{Acted, Heeds, NoneFlies, OnWay, Unmoved, as_launched}
+use Rattle.cf_semantics.specs.claims.Refines.{gained}
 use Rattle.cf_refinement.proofs.invariant.Invariant.{HoldsAt, Sound}
 use Rattle.cf_refinement.proofs.invariant.Stands.{Each}
 use Rattle.cf_refinement.proofs.invariant.Suited.{Suits}
-use Rattle.cf_semantics.specs.Bars.{bar}
-use Rattle.cf_semantics.specs.Column.{Down, Item, Up, column, column_from, packet_in}
-use Rattle.cf_semantics.specs.Instructions.{Goes, behind, is_memory, step_at}
-use Rattle.cf_semantics.specs.Layouts.{isa_of, port}
-use Rattle.cf_semantics.specs.Moves.{moved, next, without_passenger}
-use Rattle.cf_semantics.specs.Passengers.{kind}
-use Rattle.cf_semantics.specs.Right.{begin}
-use Rattle.cf_semantics.specs.Runs.{IsRun, run, start}
-use Rattle.cf_semantics.specs.State.{Moment, State, with_cell}
-use Rattle.cf_semantics.specs.Walks.{Everywhere, walk}
+use Rattle.cf_semantics.specs.moves.Bars.{bar}
+use Rattle.cf_semantics.specs.state.Column.{Down, Item, Up, column, column_from, packet_in}
+use Rattle.cf_semantics.specs.moves.Instructions.{Goes, behind, is_memory, step_at}
+use Rattle.cf_semantics.specs.state.Layouts.{isa_of, port}
+use Rattle.cf_semantics.specs.moves.Moves.{moved, next, without_passenger}
+use Rattle.cf_semantics.specs.state.Passengers.{kind}
+use Rattle.cf_semantics.specs.claims.Right.{begin}
+use Rattle.cf_semantics.specs.runs.Runs.{IsRun, run, start}
+use Rattle.cf_semantics.specs.state.State.{Moment, State, with_cell}
+use Rattle.cf_semantics.specs.claims.Walks.{Everywhere, walk}
 use Rattle.rv_inst.specs.declared.isa.Isa.{Isa}
 use Rattle.rv_machine.specs.After.{after}
 use Rattle.rv_machine.specs.Machine.{Machine}
 use Rattle.cf_refinement.proofs.invariant.Port as dock
 use Rattle.cf_refinement.proofs.walks.Order as order
-use Rattle.cf_semantics.specs.Right as right
+use Rattle.cf_semantics.specs.claims.Right as right
 use Rattle.cf_refinement.proofs.invariant.Sure as sure
-use Rattle.cf_semantics.specs.Path as trail
-use Rattle.cf_semantics.specs.Soundness.{may_turn}
+use Rattle.cf_semantics.specs.claims.Path as trail
+use Rattle.cf_semantics.specs.claims.Soundness.{may_turn}
 use Rattle.cf_refinement.proofs.walks.Path.{sure_at}
 use Rattle.cf_refinement.proofs.walks.Port.{open_of}
 

@@ -7,14 +7,14 @@ use Rattle.cf_bind.specs.declared.cell.Cell.{Cell}
 use Rattle.cf_bind.specs.declared.moves.Move.{Move}
 use Rattle.cf_bind.specs.declared.moves.Move.TheVariants.{Issue, Emit, Climb, Fall, Meet, Execute, Send, Launch, Slide, Access, Recover, Leave, Exit, Serve}
 use Rattle.cf_bind.specs.declared.passenger.Passenger.{Passenger}
-use Rattle.cf_semantics.specs.Ahead.{counted, has_served, one, ported_count, served_count, uncounted}
-use Rattle.cf_semantics.specs.Bars.{bar}
-use Rattle.cf_semantics.specs.Column.{Item, column, column_from, items}
-use Rattle.cf_semantics.specs.Drained.{is_drained, is_empty, is_occupied}
-use Rattle.cf_semantics.specs.Moves.{moved, next, without_passenger}
-use Rattle.cf_semantics.specs.Options.{is_some, on}
-use Rattle.cf_semantics.specs.State.{Moment, State, cell_at, put_cell}
-use Rattle.cf_semantics.specs.Walks.{walk}
+use Rattle.cf_semantics.specs.claims.Ahead.{counted, has_served, one, ported_count, served_count, uncounted}
+use Rattle.cf_semantics.specs.moves.Bars.{bar}
+use Rattle.cf_semantics.specs.state.Column.{Item, column, column_from, items}
+use Rattle.cf_semantics.specs.state.Drained.{is_drained, is_empty, is_occupied}
+use Rattle.cf_semantics.specs.moves.Moves.{moved, next, without_passenger}
+use Rattle.cf_semantics.specs.state.Options.{is_some, on}
+use Rattle.cf_semantics.specs.state.State.{Moment, State, cell_at, put_cell}
+use Rattle.cf_semantics.specs.claims.Walks.{walk}
 use Rattle.cf_refinement.proofs.moves.Rows.{bar_row}
 use Rattle.cf_refinement.proofs.moves.Leave.{Leaves, leave_ready, left_cells, next_leave}
 use Rattle.cf_refinement.proofs.claims.Runs as runs

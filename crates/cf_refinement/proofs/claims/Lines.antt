@@ -8,18 +8,18 @@ use Rattle.cf_refinement.proofs.moves.Leave.{Left, leave_kept}
 use Rattle.cf_refinement.proofs.claims.Runs.{Counts, access_counts, climb_counts, emit_counts, execute_counts, exit_counts, fall_counts, going, issue_counts, kept, launch_counts, meet_counts, opened_retired, recover_counts, send_counts, serve_counts, slide_counts, started}
 use Rattle.cf_refinement.proofs.invariant.Invariant.{HoldsAfter, HoldsAt, IsOver, Sound}
 use Rattle.cf_refinement.proofs.invariant.Suited.{Suits}
-use Rattle.cf_semantics.specs.Bars.{bar}
-use Rattle.cf_semantics.specs.Instructions.{Goes, step_here}
-use Rattle.cf_semantics.specs.Layouts.{isa_of}
-use Rattle.cf_semantics.specs.Lines.{Line, lines, lines_at, retires, sequence}
-use Rattle.cf_semantics.specs.Moves.{next}
-use Rattle.cf_semantics.specs.Options.{on}
-use Rattle.cf_semantics.specs.Runs.{IsRun, opened, run, start}
-use Rattle.cf_semantics.specs.State.{Moment, State}
+use Rattle.cf_semantics.specs.moves.Bars.{bar}
+use Rattle.cf_semantics.specs.moves.Instructions.{Goes, step_here}
+use Rattle.cf_semantics.specs.state.Layouts.{isa_of}
+use Rattle.cf_semantics.specs.runs.Lines.{Line, lines, lines_at, retires, sequence}
+use Rattle.cf_semantics.specs.moves.Moves.{next}
+use Rattle.cf_semantics.specs.state.Options.{on}
+use Rattle.cf_semantics.specs.runs.Runs.{IsRun, opened, run, start}
+use Rattle.cf_semantics.specs.state.State.{Moment, State}
 use Rattle.rv_inst.specs.declared.isa.Isa.{Isa}
 use Rattle.rv_machine.specs.After.{after}
 use Rattle.rv_machine.specs.Machine.{Machine}
-use Rattle.cf_semantics.specs.Refines.{gained}
+use Rattle.cf_semantics.specs.claims.Refines.{gained}
 
 -- one move adds its lines
 quiet : (isa : Isa) (x0 : Machine) (s t : State) → Counts s t → sequence isa x0 (gained x0 t) ≡ sequence isa x0 (gained x0 s) ++ []

@@ -18,20 +18,20 @@ use Rattle.cf_refinement.proofs.column.Spot.{spot}
 use Rattle.cf_refinement.proofs.walks.Stands.{each_back}
 use Rattle.cf_refinement.proofs.invariant.Invariant.{Sound}
 use Rattle.cf_refinement.proofs.invariant.Stands.{Each, Stands}
-use Rattle.cf_semantics.specs.Ahead.{served_count}
-use Rattle.cf_semantics.specs.Column.{Down, Item, Up, column, column_from, in_order, items, packet_in, passenger_in}
-use Rattle.cf_semantics.specs.Instructions.{Goes, behind, step_at, step_here}
-use Rattle.cf_semantics.specs.Layouts.{isa_of}
-use Rattle.cf_semantics.specs.Refines.{Spoke, gained}
-use Rattle.cf_semantics.specs.State.{State, cell_at}
-use Rattle.cf_semantics.specs.Walks.{walk}
+use Rattle.cf_semantics.specs.claims.Ahead.{served_count}
+use Rattle.cf_semantics.specs.state.Column.{Down, Item, Up, column, column_from, in_order, items, packet_in, passenger_in}
+use Rattle.cf_semantics.specs.moves.Instructions.{Goes, behind, step_at, step_here}
+use Rattle.cf_semantics.specs.state.Layouts.{isa_of}
+use Rattle.cf_semantics.specs.claims.Refines.{Spoke, gained}
+use Rattle.cf_semantics.specs.state.State.{State, cell_at}
+use Rattle.cf_semantics.specs.claims.Walks.{walk}
 use Rattle.rv_inst.specs.declared.isa.Isa.{Isa}
 use Rattle.rv_machine.specs.After.{after}
 use Rattle.rv_machine.specs.Machine.{Machine}
-use Rattle.cf_semantics.specs.Ahead as ahead
+use Rattle.cf_semantics.specs.claims.Ahead as ahead
 use Rattle.cf_refinement.proofs.invariant.Port as dock
 use Rattle.cf_refinement.proofs.invariant.Sure as sure
-use Rattle.cf_semantics.specs.Path as trail
+use Rattle.cf_semantics.specs.claims.Path as trail
 use Rattle.cf_refinement.proofs.walks.Path.{sure_at, sure_is}
 
 pub record Mute (w v : dock.Dock) : Type 0 where

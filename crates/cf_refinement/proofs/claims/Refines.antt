@@ -6,13 +6,13 @@ use Rattle.rv_machine.specs.Machine.{Machine}
 use Rattle.cf_layout.specs.Layout.{Plan}
 use Rattle.cf_bind.specs.declared.moves.Move.{Move}
 use Rattle.cf_bind.specs.declared.passenger.End.{End}
-use Rattle.cf_semantics.specs.Ahead.{ported_count, served_count}
-use Rattle.cf_semantics.specs.Instructions.{Stops}
-use Rattle.cf_semantics.specs.Layouts.{isa_of}
-use Rattle.cf_semantics.specs.Lines.{Line, lines, sequence}
-use Rattle.cf_semantics.specs.Refines.{IsPrefix, Refines, gained}
-use Rattle.cf_semantics.specs.Runs.{IsRun, run, start}
-use Rattle.cf_semantics.specs.State.{Moment}
+use Rattle.cf_semantics.specs.claims.Ahead.{ported_count, served_count}
+use Rattle.cf_semantics.specs.moves.Instructions.{Stops}
+use Rattle.cf_semantics.specs.state.Layouts.{isa_of}
+use Rattle.cf_semantics.specs.runs.Lines.{Line, lines, sequence}
+use Rattle.cf_semantics.specs.claims.Refines.{IsPrefix, Refines, gained}
+use Rattle.cf_semantics.specs.runs.Runs.{IsRun, run, start}
+use Rattle.cf_semantics.specs.state.State.{Moment}
 use Rattle.cf_refinement.proofs.invariant.Invariant.{HoldsAt}
 use Rattle.cf_refinement.proofs.invariant.Suited.{Suits}
 use Rattle.cf_refinement.proofs.claims.Ahead.{memory_ahead}

@@ -10,17 +10,17 @@ use Rattle.cf_layout.specs.Layout.{Plan, SidingPlan, cells_of, no_siding}
 use Rattle.cf_bind.specs.declared.moves.Move.{Move}
 use Rattle.cf_bind.specs.declared.moves.Move.TheVariants.{Access, Climb, Emit, Execute, Exit, Fall, Issue, Launch, Leave, Meet, Recover, Send, Serve, Slide}
 use Rattle.cf_bind.specs.declared.passenger.End.{End}
-use Rattle.cf_semantics.specs.Bars.{bar}
-use Rattle.cf_semantics.specs.Column.{column_from}
-use Rattle.cf_semantics.specs.Instructions.{Goes, stepped, step_at, step_here}
-use Rattle.cf_semantics.specs.Layouts.{isa_of}
-use Rattle.cf_semantics.specs.Lines.{lines_at, retires}
-use Rattle.cf_semantics.specs.Moves.{moved, next}
-use Rattle.cf_semantics.specs.Options.{on}
-use Rattle.cf_semantics.specs.Passengers.{cached}
-use Rattle.cf_semantics.specs.Runs.{IsRun, empty_cell, empty_siding, opened, run, start}
-use Rattle.cf_semantics.specs.State.{State, Moment, siding_at}
-use Rattle.cf_semantics.specs.Soundness.{AreUnanswered, LastAnswered, operations_in}
+use Rattle.cf_semantics.specs.moves.Bars.{bar}
+use Rattle.cf_semantics.specs.state.Column.{column_from}
+use Rattle.cf_semantics.specs.moves.Instructions.{Goes, stepped, step_at, step_here}
+use Rattle.cf_semantics.specs.state.Layouts.{isa_of}
+use Rattle.cf_semantics.specs.runs.Lines.{lines_at, retires}
+use Rattle.cf_semantics.specs.moves.Moves.{moved, next}
+use Rattle.cf_semantics.specs.state.Options.{on}
+use Rattle.cf_semantics.specs.state.Passengers.{cached}
+use Rattle.cf_semantics.specs.runs.Runs.{IsRun, empty_cell, empty_siding, opened, run, start}
+use Rattle.cf_semantics.specs.state.State.{State, Moment, siding_at}
+use Rattle.cf_semantics.specs.claims.Soundness.{AreUnanswered, LastAnswered, operations_in}
 use Rattle.cf_refinement.proofs.invariant.Invariant.{HoldsAfter, HoldsAt, IsOver, Sound}
 use Rattle.cf_refinement.proofs.invariant.Suited.{Suits}
 use Rattle.cf_refinement.proofs.moves.Access.{access_kept}

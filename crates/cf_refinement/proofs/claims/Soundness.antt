@@ -4,11 +4,11 @@ use Rattle.rv_machine.specs.After.{after}
 use Rattle.rv_machine.specs.Machine.{Machine}
 use Rattle.cf_layout.specs.Layout.{Plan}
 use Rattle.cf_bind.specs.declared.moves.Move.{Move}
-use Rattle.cf_semantics.specs.Layouts.{isa_of}
-use Rattle.cf_semantics.specs.Runs.{IsRun, run, start}
-use Rattle.cf_semantics.specs.SoundAfter.{IsSoundAfter}
-use Rattle.cf_semantics.specs.Soundness.{IsSound}
-use Rattle.cf_semantics.specs.State.{State}
+use Rattle.cf_semantics.specs.state.Layouts.{isa_of}
+use Rattle.cf_semantics.specs.runs.Runs.{IsRun, run, start}
+use Rattle.cf_semantics.specs.claims.SoundAfter.{IsSoundAfter}
+use Rattle.cf_semantics.specs.claims.Soundness.{IsSound}
+use Rattle.cf_semantics.specs.state.State.{State}
 use Rattle.cf_refinement.proofs.invariant.Invariant.{HoldsAt, Sound}
 use Rattle.cf_refinement.proofs.invariant.Suited.{Suits}
 use Rattle.cf_refinement.proofs.claims.Lines.{gained_is}

@@ -7,12 +7,12 @@ use Rattle.cf_layout.specs.Layout.{Plan}
 use Rattle.cf_bind.specs.declared.packet.Fetch.TheVariants.{Waiting}
 use Rattle.cf_bind.specs.declared.packet.Packet.{Packet}
 use Rattle.cf_bind.specs.declared.passenger.Passenger.{Passenger}
-use Rattle.cf_semantics.specs.Column.{Down, Item, Up, column}
-use Rattle.cf_semantics.specs.Path.{turns}
-use Rattle.cf_semantics.specs.Places.{IsHarmless}
-use Rattle.cf_semantics.specs.Soundness.{HighBarriers, NoFollower, is_lone}
-use Rattle.cf_semantics.specs.State.{State}
-use Rattle.cf_semantics.specs.Walks.{Everywhere, walk}
+use Rattle.cf_semantics.specs.state.Column.{Down, Item, Up, column}
+use Rattle.cf_semantics.specs.claims.Path.{turns}
+use Rattle.cf_semantics.specs.state.Places.{IsHarmless}
+use Rattle.cf_semantics.specs.claims.Soundness.{HighBarriers, NoFollower, is_lone}
+use Rattle.cf_semantics.specs.state.State.{State}
+use Rattle.cf_semantics.specs.claims.Walks.{Everywhere, walk}
 use Rattle.cf_refinement.proofs.invariant.Invariant.{Sound}
 use Rattle.cf_refinement.proofs.invariant.Lone as lone
 use Rattle.cf_refinement.proofs.layouts.Accepted.{launch_is}

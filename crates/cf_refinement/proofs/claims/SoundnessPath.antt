@@ -8,17 +8,17 @@ use Rattle.cf_bind.specs.declared.packet.Packet.{Packet}
 use Rattle.cf_bind.specs.declared.packet.Packet.TheVariants.{Value, Turn, Halt}
 use Rattle.cf_bind.specs.declared.passenger.End.{End}
 use Rattle.cf_bind.specs.declared.passenger.Passenger.{Passenger}
-use Rattle.cf_semantics.specs.Column.{Down, Item, Up}
-use Rattle.cf_semantics.specs.Instructions.{behind, fetched, step_at}
-use Rattle.cf_semantics.specs.Layouts.{isa_of}
-use Rattle.cf_semantics.specs.Options.{When, is_some}
-use Rattle.cf_semantics.specs.Passengers.{goto}
-use Rattle.cf_semantics.specs.Path as trail
-use Rattle.cf_semantics.specs.Path.{Walk, has_reg, is_sure, is_trap, turns}
-use Rattle.cf_semantics.specs.Places.{known}
-use Rattle.cf_semantics.specs.Soundness.{FirstBarrier, HasValues, Holds, IsFirstBarrier, IsOnItsWay, IsPath, OwesValue, PacketHasValue, SourcesCome, Values, brings_value, owes_value}
-use Rattle.cf_semantics.specs.State.{State}
-use Rattle.cf_semantics.specs.Walks.{Everywhere, walk}
+use Rattle.cf_semantics.specs.state.Column.{Down, Item, Up}
+use Rattle.cf_semantics.specs.moves.Instructions.{behind, fetched, step_at}
+use Rattle.cf_semantics.specs.state.Layouts.{isa_of}
+use Rattle.cf_semantics.specs.state.Options.{When, is_some}
+use Rattle.cf_semantics.specs.state.Passengers.{goto}
+use Rattle.cf_semantics.specs.claims.Path as trail
+use Rattle.cf_semantics.specs.claims.Path.{Walk, has_reg, is_sure, is_trap, turns}
+use Rattle.cf_semantics.specs.state.Places.{known}
+use Rattle.cf_semantics.specs.claims.Soundness.{FirstBarrier, HasValues, Holds, IsFirstBarrier, IsOnItsWay, IsPath, OwesValue, PacketHasValue, SourcesCome, Values, brings_value, owes_value}
+use Rattle.cf_semantics.specs.state.State.{State}
+use Rattle.cf_semantics.specs.claims.Walks.{Everywhere, walk}
 use Rattle.cf_refinement.proofs.invariant.Invariant.{Sound}
 use Rattle.cf_refinement.proofs.invariant.Sure as sure
 use Rattle.cf_refinement.proofs.column.Change.{here}

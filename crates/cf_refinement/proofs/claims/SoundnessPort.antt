@@ -7,17 +7,17 @@ use Rattle.rv_machine.specs.Machine.{Machine}
 use Rattle.cf_layout.specs.Layout.{Plan}
 use Rattle.cf_bind.specs.declared.packet.Packet.{Packet}
 use Rattle.cf_bind.specs.declared.passenger.Passenger.{Passenger}
-use Rattle.cf_semantics.specs.Ahead as ahead
-use Rattle.cf_semantics.specs.Ahead.{served_count}
-use Rattle.cf_semantics.specs.Column.{Down, Item, Up, column}
-use Rattle.cf_semantics.specs.Instructions.{behind, is_memory, step_at}
-use Rattle.cf_semantics.specs.Layouts.{isa_of}
-use Rattle.cf_semantics.specs.Passengers.{kind}
-use Rattle.cf_semantics.specs.Path as trail
-use Rattle.cf_semantics.specs.Places.{machine_behind}
-use Rattle.cf_semantics.specs.Soundness.{MemoryOrder, PortAgrees, may_turn}
-use Rattle.cf_semantics.specs.State.{State}
-use Rattle.cf_semantics.specs.Walks.{Everywhere, walk}
+use Rattle.cf_semantics.specs.claims.Ahead as ahead
+use Rattle.cf_semantics.specs.claims.Ahead.{served_count}
+use Rattle.cf_semantics.specs.state.Column.{Down, Item, Up, column}
+use Rattle.cf_semantics.specs.moves.Instructions.{behind, is_memory, step_at}
+use Rattle.cf_semantics.specs.state.Layouts.{isa_of}
+use Rattle.cf_semantics.specs.state.Passengers.{kind}
+use Rattle.cf_semantics.specs.claims.Path as trail
+use Rattle.cf_semantics.specs.state.Places.{machine_behind}
+use Rattle.cf_semantics.specs.claims.Soundness.{MemoryOrder, PortAgrees, may_turn}
+use Rattle.cf_semantics.specs.state.State.{State}
+use Rattle.cf_semantics.specs.claims.Walks.{Everywhere, walk}
 use Rattle.cf_refinement.proofs.invariant.Invariant.{Sound}
 use Rattle.cf_refinement.proofs.invariant.Port as dock
 use Rattle.cf_refinement.proofs.walks.Answering.{walk_risky}

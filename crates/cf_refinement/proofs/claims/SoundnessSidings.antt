@@ -5,16 +5,16 @@ use Rattle.rv_machine.specs.Machine.{Machine}
 use Rattle.cf_layout.specs.Layout.{Plan}
 use Rattle.cf_bind.specs.declared.packet.Packet.{Packet}
 use Rattle.cf_bind.specs.declared.passenger.Passenger.{Passenger}
-use Rattle.cf_semantics.specs.Ahead.{flies}
-use Rattle.cf_semantics.specs.Column.{Down, Item, Up}
-use Rattle.cf_semantics.specs.Instructions.{behind, step_at}
-use Rattle.cf_semantics.specs.Layouts.{isa_of, port}
-use Rattle.cf_semantics.specs.Options.{When}
-use Rattle.cf_semantics.specs.Path.{Walk, is_sure}
-use Rattle.cf_semantics.specs.Places.{Standing, known}
-use Rattle.cf_semantics.specs.Soundness.{IsAnswer, NoneFlies, SidingsAgree, StopsInTime}
-use Rattle.cf_semantics.specs.State.{State}
-use Rattle.cf_semantics.specs.Walks.{walk}
+use Rattle.cf_semantics.specs.claims.Ahead.{flies}
+use Rattle.cf_semantics.specs.state.Column.{Down, Item, Up}
+use Rattle.cf_semantics.specs.moves.Instructions.{behind, step_at}
+use Rattle.cf_semantics.specs.state.Layouts.{isa_of, port}
+use Rattle.cf_semantics.specs.state.Options.{When}
+use Rattle.cf_semantics.specs.claims.Path.{Walk, is_sure}
+use Rattle.cf_semantics.specs.state.Places.{Standing, known}
+use Rattle.cf_semantics.specs.claims.Soundness.{IsAnswer, NoneFlies, SidingsAgree, StopsInTime}
+use Rattle.cf_semantics.specs.state.State.{State}
+use Rattle.cf_semantics.specs.claims.Walks.{walk}
 use Rattle.cf_refinement.proofs.invariant.Invariant.{Sound}
 use Rattle.cf_refinement.proofs.invariant.Port as dock
 use Rattle.cf_refinement.proofs.invariant.Stands.{Stands}

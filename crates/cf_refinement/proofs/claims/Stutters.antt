@@ -8,19 +8,19 @@ use Rattle.cf_layout.specs.Layout.{Plan}
 use Rattle.cf_bind.specs.declared.moves.Move.{Move}
 use Rattle.cf_bind.specs.declared.moves.Move.TheVariants.{Access, Climb, Emit, Execute, Exit, Fall, Issue, Launch, Leave, Meet, Recover, Send, Serve, Slide}
 use Rattle.cf_bind.specs.declared.passenger.End.{End}
-use Rattle.cf_semantics.specs.Bars.{bar}
-use Rattle.cf_semantics.specs.Column.{Down, Item, Up, column}
-use Rattle.cf_semantics.specs.Instructions.{Goes, behind, serve_of, step_at, step_here}
-use Rattle.cf_semantics.specs.Layouts.{isa_of}
-use Rattle.cf_semantics.specs.Lines.{lines_at, retires}
-use Rattle.cf_semantics.specs.Moves.{moved, next, served}
-use Rattle.cf_semantics.specs.Passengers.{instruction}
-use Rattle.cf_semantics.specs.Refines.{gained}
-use Rattle.cf_semantics.specs.State.{Moment, State}
-use Rattle.cf_semantics.specs.Stutters.{NothingRetires, OneStored, StepsRetired, StepsSpoken, StepsStored, Stutters}
-use Rattle.cf_semantics.specs.Walks.{Everywhere, walk}
-use Rattle.cf_semantics.specs.Ahead as ahead
-use Rattle.cf_semantics.specs.Path as trail
+use Rattle.cf_semantics.specs.moves.Bars.{bar}
+use Rattle.cf_semantics.specs.state.Column.{Down, Item, Up, column}
+use Rattle.cf_semantics.specs.moves.Instructions.{Goes, behind, serve_of, step_at, step_here}
+use Rattle.cf_semantics.specs.state.Layouts.{isa_of}
+use Rattle.cf_semantics.specs.runs.Lines.{lines_at, retires}
+use Rattle.cf_semantics.specs.moves.Moves.{moved, next, served}
+use Rattle.cf_semantics.specs.state.Passengers.{instruction}
+use Rattle.cf_semantics.specs.claims.Refines.{gained}
+use Rattle.cf_semantics.specs.state.State.{Moment, State}
+use Rattle.cf_semantics.specs.claims.Stutters.{NothingRetires, OneStored, StepsRetired, StepsSpoken, StepsStored, Stutters}
+use Rattle.cf_semantics.specs.claims.Walks.{Everywhere, walk}
+use Rattle.cf_semantics.specs.claims.Ahead as ahead
+use Rattle.cf_semantics.specs.claims.Path as trail
 use Rattle.cf_refinement.proofs.invariant.Invariant.{HoldsAfter, HoldsAt, IsOver, Sound}
 use Rattle.cf_refinement.proofs.invariant.Stands.{Each}
 use Rattle.cf_refinement.proofs.invariant.Suited.{Suits}

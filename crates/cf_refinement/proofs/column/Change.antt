@@ -11,12 +11,12 @@ use Rattle.cf_refinement.proofs.instructions.Steps.{step_wide}
 use Rattle.cf_refinement.proofs.invariant.Invariant.{Sound}
 use Rattle.cf_refinement.proofs.invariant.Operations.{IsMoored}
 use Rattle.cf_refinement.proofs.invariant.Stands.{Each}
-use Rattle.cf_semantics.specs.Column.{Down, Item, Up, column, column_from}
-use Rattle.cf_semantics.specs.Layouts.{isa_of}
-use Rattle.cf_semantics.specs.Moves.{operation}
-use Rattle.cf_semantics.specs.Options.{When}
-use Rattle.cf_semantics.specs.State.{State}
-use Rattle.cf_semantics.specs.Walks.{Everywhere, walk}
+use Rattle.cf_semantics.specs.state.Column.{Down, Item, Up, column, column_from}
+use Rattle.cf_semantics.specs.state.Layouts.{isa_of}
+use Rattle.cf_semantics.specs.moves.Moves.{operation}
+use Rattle.cf_semantics.specs.state.Options.{When}
+use Rattle.cf_semantics.specs.state.State.{State}
+use Rattle.cf_semantics.specs.claims.Walks.{Everywhere, walk}
 use Rattle.rv_inst.specs.declared.isa.Isa.{Isa}
 use Rattle.rv_machine.specs.Machine.{Machine}
 use Rattle.cf_refinement.proofs.invariant.Port as dock
@@ -25,8 +25,8 @@ use Rattle.cf_refinement.proofs.walks.Lone as lones
 use Rattle.cf_refinement.proofs.walks.Path as paths
 use Rattle.cf_refinement.proofs.walks.Port as ports
 use Rattle.cf_refinement.proofs.invariant.Sure as sure
-use Rattle.cf_semantics.specs.Path as trail
-use Rattle.cf_semantics.specs.Soundness.{in_siding, operations_of}
+use Rattle.cf_semantics.specs.claims.Path as trail
+use Rattle.cf_semantics.specs.claims.Soundness.{in_siding, operations_of}
 use Rattle.cf_bind.specs.declared.cell.Op.{Op}
 use Rattle.cf_refinement.proofs.walks.Order.{past_path}
 

@@ -3,10 +3,10 @@ use Rattle.std.proofs.Common.{Bool, List, None, Some, [], add-zero, ap, append-n
 use Rattle.cf_bind.specs.declared.cell.Cell.{Cell}
 use Rattle.cf_bind.specs.declared.packet.Packet.{Packet}
 use Rattle.cf_bind.specs.declared.passenger.Passenger.{Passenger}
-use Rattle.cf_semantics.specs.Bars.{is_full}
-use Rattle.cf_semantics.specs.Column.{Down, Item, Up, column_from, in_order, items, packet_in, passenger_in}
-use Rattle.cf_semantics.specs.Moves.{with_passenger, without_packet, without_passenger}
-use Rattle.cf_semantics.specs.State.{cell_at, put_cell}
+use Rattle.cf_semantics.specs.moves.Bars.{is_full}
+use Rattle.cf_semantics.specs.state.Column.{Down, Item, Up, column_from, in_order, items, packet_in, passenger_in}
+use Rattle.cf_semantics.specs.moves.Moves.{with_passenger, without_packet, without_passenger}
+use Rattle.cf_semantics.specs.state.State.{cell_at, put_cell}
 
 pub record Place (cells : List Cell) (i : ℕ) (c : Cell) : Type 0 where
   pub below : List Cell

@@ -5,11 +5,11 @@ use Rattle.cf_bind.specs.declared.cell.Op.{Op}
 use Rattle.cf_bind.specs.declared.passenger.Passenger.{Passenger}
 use Rattle.cf_layout.specs.Layout.{Plan, launch_stage, siding_of}
 use Rattle.cf_refinement.proofs.invariant.Stands.{Each, Stands}
-use Rattle.cf_semantics.specs.Bars.{last_op}
-use Rattle.cf_semantics.specs.Column.{Down, Item, Up}
-use Rattle.cf_semantics.specs.Moves.{set_last}
-use Rattle.cf_semantics.specs.Passengers.{kind}
-use Rattle.cf_semantics.specs.Soundness.{as_launched, in_siding, operations_in, operations_of}
+use Rattle.cf_semantics.specs.moves.Bars.{last_op}
+use Rattle.cf_semantics.specs.state.Column.{Down, Item, Up}
+use Rattle.cf_semantics.specs.moves.Moves.{set_last}
+use Rattle.cf_semantics.specs.state.Passengers.{kind}
+use Rattle.cf_semantics.specs.claims.Soundness.{as_launched, in_siding, operations_in, operations_of}
 
 -- Launch: an operation in the first cell comes after all others
 pub operations_launch : (l : List (Option Op)) (op : Op) → operations_in (Some op ∷ l) ≡ operations_in (None ∷ l) ++ as_launched (Some op)

@@ -1,7 +1,7 @@
 -- A change in the middle of the column, for any walk.
 use Rattle.std.proofs.Common.{◌≡◌, List, [], ◌∷◌, ◌++◌, refl, sym, subst}
-use Rattle.cf_semantics.specs.Column.{Item}
-use Rattle.cf_semantics.specs.Walks.{Everywhere, walk}
+use Rattle.cf_semantics.specs.state.Column.{Item}
+use Rattle.cf_semantics.specs.claims.Walks.{Everywhere, walk}
 
 pub walk_append : {W : Type 0} (past : Item → W → W) (xs ys : List Item) (w : W) → walk past (xs ++ ys) w ≡ walk past ys (walk past xs w)
 walk_append past [] ys w = refl

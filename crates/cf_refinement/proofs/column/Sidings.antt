@@ -8,14 +8,14 @@ use Rattle.cf_refinement.proofs.column.Sorted.{Riders}
 use Rattle.cf_refinement.proofs.invariant.Operations.{IsMoored}
 use Rattle.cf_refinement.proofs.invariant.Stands.{Each, Stands}
 use Rattle.cf_refinement.proofs.invariant.Suited.{Suits}
-use Rattle.cf_semantics.specs.Bars.{last_op}
-use Rattle.cf_semantics.specs.Column.{Down, Item, Up}
-use Rattle.cf_semantics.specs.Layouts.{port}
-use Rattle.cf_semantics.specs.Moves.{set_last}
-use Rattle.cf_semantics.specs.Options.{on}
-use Rattle.cf_semantics.specs.Passengers.{kind}
-use Rattle.cf_semantics.specs.State.{State, siding_at}
-use Rattle.cf_semantics.specs.Soundness.{AreUnanswered, IsUnanswered, LastAnswered, in_siding, operations_in, operations_of}
+use Rattle.cf_semantics.specs.moves.Bars.{last_op}
+use Rattle.cf_semantics.specs.state.Column.{Down, Item, Up}
+use Rattle.cf_semantics.specs.state.Layouts.{port}
+use Rattle.cf_semantics.specs.moves.Moves.{set_last}
+use Rattle.cf_semantics.specs.state.Options.{on}
+use Rattle.cf_semantics.specs.state.Passengers.{kind}
+use Rattle.cf_semantics.specs.state.State.{State, siding_at}
+use Rattle.cf_semantics.specs.claims.Soundness.{AreUnanswered, IsUnanswered, LastAnswered, in_siding, operations_in, operations_of}
 use Rattle.rv_machine.specs.Machine.{Machine}
 use Rattle.cf_refinement.proofs.invariant.Port as dock
 

@@ -3,7 +3,7 @@ use Rattle.std.proofs.Common.{ℕ, suc, ◌+◌, ◌<◌, ◌≤◌, List, [], �
 use Rattle.cf_bind.specs.declared.cell.Cell.{Cell}
 use Rattle.cf_bind.specs.declared.packet.Packet.{Packet}
 use Rattle.cf_bind.specs.declared.passenger.Passenger.{Passenger}
-use Rattle.cf_semantics.specs.Column.{Down, Item, Up, column_from, in_order, items, packet_in, passenger_in}
+use Rattle.cf_semantics.specs.state.Column.{Down, Item, Up, column_from, in_order, items, packet_in, passenger_in}
 
 -- each rider's stage is so
 abbrev pub Riders : (ℕ → Type 0) → List Item → Type 0

@@ -6,11 +6,11 @@ use Rattle.cf_bind.specs.declared.passenger.Passenger.{Passenger}
 use Rattle.cf_refinement.proofs.column.Column.{column_at, place}
 use Rattle.cf_refinement.proofs.walks.Order.{From, from_column}
 use Rattle.cf_refinement.proofs.column.Sorted.{Riders, Sorted, over, sorted, under}
-use Rattle.cf_semantics.specs.Bars.{is_full}
-use Rattle.cf_semantics.specs.Column.{Item, Up, column, column_from, in_order, packet_in, passenger_in}
-use Rattle.cf_semantics.specs.Moves.{with_passenger}
-use Rattle.cf_semantics.specs.Options.{is_some}
-use Rattle.cf_semantics.specs.State.{State, cell_at, put_cell}
+use Rattle.cf_semantics.specs.moves.Bars.{is_full}
+use Rattle.cf_semantics.specs.state.Column.{Item, Up, column, column_from, in_order, packet_in, passenger_in}
+use Rattle.cf_semantics.specs.moves.Moves.{with_passenger}
+use Rattle.cf_semantics.specs.state.Options.{is_some}
+use Rattle.cf_semantics.specs.state.State.{State, cell_at, put_cell}
 
 pub record Spot (s : State) (i : ℕ) (c : Cell) (p : Passenger) : Type 0 where
   pub above : List Item

@@ -1,8 +1,8 @@
 -- A stretch of the column that a move replaces, between what stands above it and below it.
 use Rattle.std.proofs.Common.{◌≡◌, ℕ, suc, List, ◌∷◌, ◌++◌, Some, ap, ◌∙◌, arith, append_assoc, length, length-append}
 use Rattle.cf_bind.specs.declared.cell.Cell.{Cell}
-use Rattle.cf_semantics.specs.Column.{Item, column, column_from, items}
-use Rattle.cf_semantics.specs.State.{State, cell_at, put_cell}
+use Rattle.cf_semantics.specs.state.Column.{Item, column, column_from, items}
+use Rattle.cf_semantics.specs.state.State.{State, cell_at, put_cell}
 use Rattle.cf_refinement.proofs.column.Column.{Pair, column_at, column_pair, place}
 use Rattle.cf_refinement.proofs.moves.Rows.{put_size}
 

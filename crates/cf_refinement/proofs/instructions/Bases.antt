@@ -11,9 +11,9 @@ use Rattle.rv_machine.specs.After.{after, step_from, next_machine}
 use Rattle.rv_machine.specs.Machine.{Machine}
 use Rattle.rv_machine.specs.Outcome as outcome
 use Rattle.rv_machine.specs.Step.{step}
-use Rattle.cf_semantics.specs.Options.{on}
-use Rattle.cf_semantics.specs.Instructions.{Fetched, Got, Bad, fetched, Stepped, Goes, Stops, step_at, step_here, stepped}
-use Rattle.cf_semantics.specs.Lines.{Line, lines_at, lines_in, sequence}
+use Rattle.cf_semantics.specs.state.Options.{on}
+use Rattle.cf_semantics.specs.moves.Instructions.{Fetched, Got, Bad, fetched, Stepped, Goes, Stops, step_at, step_here, stepped}
+use Rattle.cf_semantics.specs.runs.Lines.{Line, lines_at, lines_in, sequence}
 use Rattle.cf_refinement.proofs.instructions.OwnLines.{GivesOwn, own_step}
 use Rattle.cf_refinement.proofs.instructions.Steps.{IsFetched, fetched_is, bad_step, step_executes, step_is}
 

@@ -2,7 +2,7 @@
 use Rattle.std.proofs.Common.{◌≡◌, true, arith}
 use Rattle.rv_inst.specs.declared.classes.Class.{Class}
 use Rattle.rv_inst.specs.declared.classes.Class.TheVariants.{Free, Memory, Serial}
-use Rattle.cf_semantics.specs.Instructions.{is_free, is_memory, is_serial}
+use Rattle.cf_semantics.specs.moves.Instructions.{is_free, is_memory, is_serial}
 
 pub memory_is : (c : Class) → is_memory c ≡ true → c ≡ Memory
 memory_is c e = grind arith

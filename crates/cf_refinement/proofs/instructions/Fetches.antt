@@ -10,8 +10,8 @@ use Rattle.mem_regions.specs.declared.access.MemErr.{MemErr}
 use Rattle.mem_regions.specs.declared.access.MemErr.TheVariants.{Misaligned, NoAccess}
 use Rattle.rv_inst.specs.declared.isa.Isa.{Isa}
 use Rattle.cf_bind.specs.declared.passenger.End.TheVariants.{Trap}
-use Rattle.cf_semantics.specs.Instructions.{Bad, word_read, fetched}
-use Rattle.cf_semantics.specs.Fetches.{Text, area_text, code_of}
+use Rattle.cf_semantics.specs.moves.Instructions.{Bad, word_read, fetched}
+use Rattle.cf_semantics.specs.moves.Fetches.{Text, area_text, code_of}
 
 -- the word lies in the text, which is executable
 abbrev text_holds : ℕ → Text → Bool

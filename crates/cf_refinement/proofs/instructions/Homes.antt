@@ -11,8 +11,8 @@ use Rattle.rv_inst.specs.Decoding.{decoded_as}
 use Rattle.rv_inst.specs.Encoding.{is_base}
 use Rattle.rv_inst.proofs.Reading.{decoded-is_base}
 use Rattle.cf_layout.specs.Layout.{Plan, has_mul, is_homed}
-use Rattle.cf_semantics.specs.Instructions.{kind_of, fetched, Got}
-use Rattle.cf_semantics.specs.Layouts.{isa_of}
+use Rattle.cf_semantics.specs.moves.Instructions.{kind_of, fetched, Got}
+use Rattle.cf_semantics.specs.state.Layouts.{isa_of}
 use Rattle.cf_refinement.proofs.invariant.Suited.{Suits, is_plain, is_extra}
 use Rattle.cf_refinement.proofs.instructions.Steps.{fetched_is}
 

@@ -4,11 +4,11 @@ use Rattle.std.proofs.Common.{◌≡◌, ℕ, Option, Some, None, true, refl, sy
 use Rattle.cf_bind.specs.declared.passenger.Passenger.{Passenger}
 use Rattle.cf_refinement.proofs.walks.PathFinish.{source_read}
 use Rattle.cf_refinement.proofs.instructions.Steps.{kind_is, step_is, word_is}
-use Rattle.cf_semantics.specs.Instructions.{Bad, Fetched, Goes, Got, Stops, access_trap, answer_of, at_pc, dst_of, fetched, is_memory, kind_of, mem_after, src1_of, src2_of, step_at, value_read, value_written, word_after}
-use Rattle.cf_semantics.specs.Options.{on}
-use Rattle.cf_semantics.specs.Passengers.{instruction, kind, missing, value_in}
-use Rattle.cf_semantics.specs.Steps.{onward, stepped_as}
-use Rattle.cf_semantics.specs.Soundness.{Holds}
+use Rattle.cf_semantics.specs.moves.Instructions.{Bad, Fetched, Goes, Got, Stops, access_trap, answer_of, at_pc, dst_of, fetched, is_memory, kind_of, mem_after, src1_of, src2_of, step_at, value_read, value_written, word_after}
+use Rattle.cf_semantics.specs.state.Options.{on}
+use Rattle.cf_semantics.specs.state.Passengers.{instruction, kind, missing, value_in}
+use Rattle.cf_semantics.specs.moves.Steps.{onward, stepped_as}
+use Rattle.cf_semantics.specs.claims.Soundness.{Holds}
 use Rattle.mem_regions.specs.Access.{bounds_of}
 use Rattle.rv_inst.specs.declared.classes.Class.{Class}
 use Rattle.rv_inst.specs.declared.classes.Class.TheVariants.{Free}

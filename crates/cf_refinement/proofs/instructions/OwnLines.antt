@@ -28,8 +28,8 @@ use Rattle.rv_machine.specs.Call.{Called, call}
 use Rattle.rv_machine.specs.Call as called
 use Rattle.rv_machine.specs.Step as machine
 use Rattle.cf_bind.specs.declared.binding.Binding.{Binding}
-use Rattle.cf_semantics.specs.Instructions.{kind_of, Got, fetched, register, dst_of, Goes, stepped, step_at, step_here}
-use Rattle.cf_semantics.specs.Lines.{Line, row, named, line_read, lines_in, lines_at}
+use Rattle.cf_semantics.specs.moves.Instructions.{kind_of, Got, fetched, register, dst_of, Goes, stepped, step_at, step_here}
+use Rattle.cf_semantics.specs.runs.Lines.{Line, row, named, line_read, lines_in, lines_at}
 use Rattle.cf_refinement.proofs.instructions.Steps.{IsFetched, fetched_is, step_executes, dst_below, store_bare, serial_destination, call_destination}
 
 -- the line has the address, the word and the register; its value is the one that the register gets, and 0 where that is x0

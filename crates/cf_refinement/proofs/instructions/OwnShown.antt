@@ -15,11 +15,11 @@ use Rattle.rv_machine.specs.declared.outcome.Retired.{Retired}
 use Rattle.rv_machine.specs.Machine.{Machine}
 use Rattle.rv_machine.specs.Outcome as outcome
 use Rattle.rv_machine.specs.Step.{step}
-use Rattle.cf_semantics.specs.Options.{on}
-use Rattle.cf_semantics.specs.Instructions.{Bad, Fetched, Got, Stops, fetched, step_at, stepped}
-use Rattle.cf_semantics.specs.Passengers.{value_in}
-use Rattle.cf_semantics.specs.Lines.{line_read, named}
-use Rattle.cf_semantics.specs.Events.{Shows, register_in}
+use Rattle.cf_semantics.specs.state.Options.{on}
+use Rattle.cf_semantics.specs.moves.Instructions.{Bad, Fetched, Got, Stops, fetched, step_at, stepped}
+use Rattle.cf_semantics.specs.state.Passengers.{value_in}
+use Rattle.cf_semantics.specs.runs.Lines.{line_read, named}
+use Rattle.cf_semantics.specs.moves.Events.{Shows, register_in}
 use Rattle.cf_refinement.proofs.instructions.OwnLines.{GivesOwn, IsOwn, own_step}
 use Rattle.cf_refinement.proofs.instructions.Steps.{bad_step, fetched_is}
 

@@ -42,13 +42,13 @@ use Rattle.cf_bind.specs.declared.binding.Binding.{Binding}
 use Rattle.cf_bind.specs.declared.passenger.Passenger.{Passenger}
 use Rattle.cf_bind.specs.declared.passenger.End.{End}
 use Rattle.cf_bind.specs.declared.passenger.End.TheVariants.{Trap}
-use Rattle.cf_semantics.specs.Options.{on}
-use Rattle.cf_semantics.specs.Instructions.{kind_of, is_control, is_serial, Fetched, Got, Bad, read_as, word_read, fetched, register, src1_of, src2_of, dst_of, value_read, value_written, word_after, finish_trap, free_trap, refused, access_trap, mem_after, number, answer_of, serve_of, Stepped, Goes, Stops, stepped, step_at, at_pc, behind}
-use Rattle.cf_semantics.specs.Passengers.{kind, instruction, reg_in}
-use Rattle.cf_semantics.specs.Steps.{onward, served, stepped_as}
-use Rattle.cf_semantics.specs.Path.{is_trap, has_reg}
-use Rattle.cf_semantics.specs.Fetches.{area_text, code_of}
-use Rattle.cf_semantics.specs.Soundness.{Holds}
+use Rattle.cf_semantics.specs.state.Options.{on}
+use Rattle.cf_semantics.specs.moves.Instructions.{kind_of, is_control, is_serial, Fetched, Got, Bad, read_as, word_read, fetched, register, src1_of, src2_of, dst_of, value_read, value_written, word_after, finish_trap, free_trap, refused, access_trap, mem_after, number, answer_of, serve_of, Stepped, Goes, Stops, stepped, step_at, at_pc, behind}
+use Rattle.cf_semantics.specs.state.Passengers.{kind, instruction, reg_in}
+use Rattle.cf_semantics.specs.moves.Steps.{onward, served, stepped_as}
+use Rattle.cf_semantics.specs.claims.Path.{is_trap, has_reg}
+use Rattle.cf_semantics.specs.moves.Fetches.{area_text, code_of}
+use Rattle.cf_semantics.specs.claims.Soundness.{Holds}
 use Rattle.cf_refinement.proofs.invariant.Sure.{IsSure}
 use Rattle.cf_refinement.proofs.invariant.Suited.{is_plain}
 

@@ -4,10 +4,10 @@ use Rattle.cf_layout.specs.Layout.{Plan, launch_stage}
 use Rattle.cf_bind.specs.declared.packet.Fetch.{Fetch}
 use Rattle.cf_bind.specs.declared.packet.Fetch.TheVariants.{Waiting}
 use Rattle.cf_bind.specs.declared.passenger.Passenger.{Passenger}
-use Rattle.cf_semantics.specs.Column.{Item, Up, Down}
-use Rattle.cf_semantics.specs.Layouts.{port}
-use Rattle.cf_semantics.specs.Path.{turns}
-use Rattle.cf_semantics.specs.Soundness.{is_lone}
+use Rattle.cf_semantics.specs.state.Column.{Item, Up, Down}
+use Rattle.cf_semantics.specs.state.Layouts.{port}
+use Rattle.cf_semantics.specs.claims.Path.{turns}
+use Rattle.cf_semantics.specs.claims.Soundness.{is_lone}
 
 -- above the stage from which memory is reached
 abbrev pub is_high : Plan → ℕ → Bool

@@ -1,10 +1,10 @@
 -- The operations of a siding are those of the passengers that launched them, in their order.
 use Rattle.std.specs.Prelude.{◌≡◌, ◌≢◌, ℕ, List, length}
 use Rattle.cf_layout.specs.Layout.{Plan, cells_of}
-use Rattle.cf_semantics.specs.State.{State, siding_at}
-use Rattle.cf_semantics.specs.Column.{Item}
-use Rattle.cf_semantics.specs.Layouts.{port}
-use Rattle.cf_semantics.specs.Soundness.{AreUnanswered, LastAnswered, operations_in, operations_of}
+use Rattle.cf_semantics.specs.state.State.{State, siding_at}
+use Rattle.cf_semantics.specs.state.Column.{Item}
+use Rattle.cf_semantics.specs.state.Layouts.{port}
+use Rattle.cf_semantics.specs.claims.Soundness.{AreUnanswered, LastAnswered, operations_in, operations_of}
 
 -- the sidings hold what these items have launched
 pub record IsMoored (plan : Plan) (s : State) (items : List Item) : Type 0 where

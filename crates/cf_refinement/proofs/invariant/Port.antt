@@ -6,14 +6,14 @@ use Rattle.rv_inst.specs.declared.isa.Isa.{Isa}
 use Rattle.rv_machine.specs.Machine.{Machine}
 use Rattle.cf_layout.specs.Layout.{Plan}
 use Rattle.cf_bind.specs.declared.passenger.Passenger.{Passenger}
-use Rattle.cf_semantics.specs.Instructions.{is_memory, step_at, behind, access_trap}
-use Rattle.cf_semantics.specs.State.{State}
-use Rattle.cf_semantics.specs.Column.{Item, Up, Down}
-use Rattle.cf_semantics.specs.Passengers.{instruction, kind, value_in}
-use Rattle.cf_semantics.specs.Ahead.{has_served, flies, has_ported, answer_there}
-use Rattle.cf_semantics.specs.Path as path
-use Rattle.cf_semantics.specs.Fetches.{Text, code_of}
-use Rattle.cf_semantics.specs.Soundness.{IsAnswer, may_turn}
+use Rattle.cf_semantics.specs.moves.Instructions.{is_memory, step_at, behind, access_trap}
+use Rattle.cf_semantics.specs.state.State.{State}
+use Rattle.cf_semantics.specs.state.Column.{Item, Up, Down}
+use Rattle.cf_semantics.specs.state.Passengers.{instruction, kind, value_in}
+use Rattle.cf_semantics.specs.claims.Ahead.{has_served, flies, has_ported, answer_there}
+use Rattle.cf_semantics.specs.claims.Path as path
+use Rattle.cf_semantics.specs.moves.Fetches.{Text, code_of}
+use Rattle.cf_semantics.specs.claims.Soundness.{IsAnswer, may_turn}
 
 -- what is known on the way down, besides the path: whether memory may not be touched further down; what memory, code, input and output have come to; and the answer at the end of Memory's siding, while no passenger so far is its own
 pub record Dock : Type 0 where

@@ -5,11 +5,11 @@ use Rattle.cf_layout.specs.Layout.{Plan, siding_of, launch_stage, recover_stage,
 use Rattle.cf_bind.specs.declared.binding.Binding.{Binding}
 use Rattle.cf_bind.specs.declared.passenger.Guess.TheVariants.{Next}
 use Rattle.cf_bind.specs.declared.passenger.Passenger.{Passenger}
-use Rattle.cf_semantics.specs.Options.{is_some, Where}
-use Rattle.cf_semantics.specs.Instructions.{is_control, is_memory, is_serial, is_free}
-use Rattle.cf_semantics.specs.Column.{Item, Up, Down}
-use Rattle.cf_semantics.specs.Passengers.{kind, missing}
-use Rattle.cf_semantics.specs.Ahead.{has_served}
+use Rattle.cf_semantics.specs.state.Options.{is_some, Where}
+use Rattle.cf_semantics.specs.moves.Instructions.{is_control, is_memory, is_serial, is_free}
+use Rattle.cf_semantics.specs.state.Column.{Item, Up, Down}
+use Rattle.cf_semantics.specs.state.Passengers.{kind, missing}
+use Rattle.cf_semantics.specs.claims.Ahead.{has_served}
 use Rattle.cf_refinement.proofs.invariant.Suited.{is_plain}
 
 -- at or below the last unit stage, or the siding's launch stage

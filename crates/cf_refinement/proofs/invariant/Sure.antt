@@ -9,13 +9,13 @@ use Rattle.cf_bind.specs.declared.packet.Packet.TheVariants.{Value, Turn, Halt}
 use Rattle.cf_bind.specs.declared.packet.Fetch.{Fetch}
 use Rattle.cf_bind.specs.declared.passenger.Passenger.{Passenger}
 use Rattle.cf_bind.specs.declared.passenger.End.{End}
-use Rattle.cf_semantics.specs.Options.{When}
-use Rattle.cf_semantics.specs.Instructions.{src1_of, src2_of, dst_of, fetched, Stepped, step_at}
-use Rattle.cf_semantics.specs.Column.{Item, Up, Down}
-use Rattle.cf_semantics.specs.Passengers.{reg_in, missing, cached}
-use Rattle.cf_semantics.specs.Moves.{fetch_at}
-use Rattle.cf_semantics.specs.Path.{Walk, is_trap, is_sure}
-use Rattle.cf_semantics.specs.Soundness.{HasValues, Holds, PacketHasValue}
+use Rattle.cf_semantics.specs.state.Options.{When}
+use Rattle.cf_semantics.specs.moves.Instructions.{src1_of, src2_of, dst_of, fetched, Stepped, step_at}
+use Rattle.cf_semantics.specs.state.Column.{Item, Up, Down}
+use Rattle.cf_semantics.specs.state.Passengers.{reg_in, missing, cached}
+use Rattle.cf_semantics.specs.moves.Moves.{fetch_at}
+use Rattle.cf_semantics.specs.claims.Path.{Walk, is_trap, is_sure}
+use Rattle.cf_semantics.specs.claims.Soundness.{HasValues, Holds, PacketHasValue}
 
 -- a value that is not known is on its way
 abbrev pub Comes : Option Binding → (ℕ → Bool) → Type 0

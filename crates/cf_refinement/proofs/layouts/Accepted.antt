@@ -8,9 +8,9 @@ use Rattle.rv_inst.specs.declared.classes.Class.TheVariants.{Add, Logic, Shift, 
 use Rattle.cf_layout.specs.Layout.{Plan, cells_of, homes, is_homed, last_of, last_stage, launch_stage, place_of, recover_stage, recovers_by, serves, siding_at, siding_of, stages_of, unit_at, unit_homes}
 use Rattle.cf_layout.specs.Accepted as accepted
 use Rattle.cf_layout.specs.Accepted.{IsAccepted, IsSiding, IsStage, memory_launch}
-use Rattle.cf_semantics.specs.Instructions.{is_control, is_memory}
-use Rattle.cf_semantics.specs.Layouts.{port}
-use Rattle.cf_semantics.specs.Options.{is_some, on}
+use Rattle.cf_semantics.specs.moves.Instructions.{is_control, is_memory}
+use Rattle.cf_semantics.specs.state.Layouts.{port}
+use Rattle.cf_semantics.specs.state.Options.{is_some, on}
 use Rattle.cf_refinement.proofs.invariant.Lone.{is_high}
 use Rattle.cf_refinement.proofs.invariant.Suited.{Suits, is_extra, is_plain}
 use Rattle.cf_refinement.proofs.layouts.Layouts.{computed, homes_are, memory_only, none_or_some, of_any, of_sided, sided_for, sided_is, sidings_of, unit_home, unit_stages, unplaced}

@@ -11,7 +11,7 @@ use Rattle.rv_inst.specs.declared.classes.Class.{Class}
 use Rattle.rv_inst.specs.declared.classes.Class.TheVariants.{Memory}
 use Rattle.cf_layout.specs.Layout.{Plan, SidingPlan, homes, last_of, no_siding, place_of, same_class, serves, siding_at, siding_of, stages_of, unit_homes}
 use Rattle.cf_layout.specs.Accepted.{IsAccepted, IsStage}
-use Rattle.cf_semantics.specs.Options.{is_some}
+use Rattle.cf_semantics.specs.state.Options.{is_some}
 
 -- one passes where some are kept
 first_kept : {A : Type 0} (p : A → Bool) (xs : List A) → is_some (position p xs) ≡ nat_lt 0 (length (filter p xs))

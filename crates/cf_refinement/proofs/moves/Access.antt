@@ -2,7 +2,7 @@
 use Rattle.rv_inst.specs.declared.instruction.Instr.{Instr}
 use Rattle.cf_refinement.proofs.instructions.Steps.{code_after}
 use Rattle.mem_regions.specs.Memory as memory
-use Rattle.cf_semantics.specs.Fetches.{code_of}
+use Rattle.cf_semantics.specs.moves.Fetches.{code_of}
 use Rattle.std.proofs.Common.{◌≡◌, ℕ, suc, ◌<◌, ◌≤◌, List, [], ◌∷◌, ◌++◌, Option, Some, None, Bool, true, false, refl, sym, ap, subst, ◌∙◌, arith, length}
 use Rattle.std.proofs.lemmas.List.{get_or-set_same}
 use Rattle.cf_bind.specs.declared.binding.Binding.{Binding}
@@ -26,24 +26,24 @@ use Rattle.cf_refinement.proofs.instructions.Steps.{sure_dst_below}
 use Rattle.cf_refinement.proofs.invariant.Invariant.{Sound}
 use Rattle.cf_refinement.proofs.invariant.Stands.{Each, Stands}
 use Rattle.cf_refinement.proofs.invariant.Suited.{Suits}
-use Rattle.cf_semantics.specs.Bars.{access_bar, bar, last_op, row_bar}
-use Rattle.cf_semantics.specs.Column.{Down, Item, Up, column}
-use Rattle.cf_semantics.specs.Instructions.{Goes, Stepped, access_trap, answer_of, behind, dst_of, is_memory, mem_after, step_at, value_written}
-use Rattle.cf_semantics.specs.Layouts.{isa_of, port}
-use Rattle.cf_semantics.specs.Moves.{accessed, moved, operation, set_last}
-use Rattle.cf_semantics.specs.Options.{is_some, on}
-use Rattle.cf_semantics.specs.Passengers.{instruction, kind, missing, reg_in, value_in}
-use Rattle.cf_semantics.specs.State.{State, siding_at}
-use Rattle.cf_semantics.specs.Walks.{Everywhere, walk}
+use Rattle.cf_semantics.specs.moves.Bars.{access_bar, bar, last_op, row_bar}
+use Rattle.cf_semantics.specs.state.Column.{Down, Item, Up, column}
+use Rattle.cf_semantics.specs.moves.Instructions.{Goes, Stepped, access_trap, answer_of, behind, dst_of, is_memory, mem_after, step_at, value_written}
+use Rattle.cf_semantics.specs.state.Layouts.{isa_of, port}
+use Rattle.cf_semantics.specs.moves.Moves.{accessed, moved, operation, set_last}
+use Rattle.cf_semantics.specs.state.Options.{is_some, on}
+use Rattle.cf_semantics.specs.state.Passengers.{instruction, kind, missing, reg_in, value_in}
+use Rattle.cf_semantics.specs.state.State.{State, siding_at}
+use Rattle.cf_semantics.specs.claims.Walks.{Everywhere, walk}
 use Rattle.mem_regions.specs.Access.{bounds_of}
 use Rattle.rv_inst.specs.declared.classes.Class.TheVariants.{Memory}
 use Rattle.rv_inst.specs.declared.isa.Isa.{Isa}
 use Rattle.rv_machine.specs.Machine.{Machine}
-use Rattle.cf_semantics.specs.Ahead as ahead
+use Rattle.cf_semantics.specs.claims.Ahead as ahead
 use Rattle.cf_refinement.proofs.invariant.Port as dock
 use Rattle.cf_refinement.proofs.invariant.Sure as sure
-use Rattle.cf_semantics.specs.Path as trail
-use Rattle.cf_semantics.specs.Soundness.{IsAnswer, in_siding, operations_in, operations_of}
+use Rattle.cf_semantics.specs.claims.Path as trail
+use Rattle.cf_semantics.specs.claims.Soundness.{IsAnswer, in_siding, operations_in, operations_of}
 use Rattle.cf_refinement.proofs.instructions.Classes.{memory_is}
 use Rattle.cf_refinement.proofs.walks.Path.{sure_at}
 use Rattle.cf_refinement.proofs.walks.Port.{open_of}

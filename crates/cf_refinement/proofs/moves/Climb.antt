@@ -11,12 +11,12 @@ use Rattle.cf_refinement.proofs.column.Stretch.{Stretch, pair_stretch}
 use Rattle.cf_refinement.proofs.column.Fold.{Replaces}
 use Rattle.cf_refinement.proofs.walks.Stands.{climb_stands}
 use Rattle.cf_refinement.proofs.invariant.Invariant.{Sound}
-use Rattle.cf_semantics.specs.Bars.{bar, climb_bar, is_full, row_bar, stops_at}
-use Rattle.cf_semantics.specs.Column.{Up, packet_in}
-use Rattle.cf_semantics.specs.Layouts.{isa_of}
-use Rattle.cf_semantics.specs.Moves.{climbed, moved, without_passenger}
-use Rattle.cf_semantics.specs.Options.{is_some, on}
-use Rattle.cf_semantics.specs.State.{State, cell_at, put_cell}
+use Rattle.cf_semantics.specs.moves.Bars.{bar, climb_bar, is_full, row_bar, stops_at}
+use Rattle.cf_semantics.specs.state.Column.{Up, packet_in}
+use Rattle.cf_semantics.specs.state.Layouts.{isa_of}
+use Rattle.cf_semantics.specs.moves.Moves.{climbed, moved, without_passenger}
+use Rattle.cf_semantics.specs.state.Options.{is_some, on}
+use Rattle.cf_semantics.specs.state.State.{State, cell_at, put_cell}
 use Rattle.rv_inst.specs.declared.isa.Isa.{Isa}
 use Rattle.rv_machine.specs.Machine.{Machine}
 use Rattle.cf_refinement.proofs.invariant.Port as dock
@@ -24,7 +24,7 @@ use Rattle.cf_refinement.proofs.walks.Lone as lones
 use Rattle.cf_refinement.proofs.walks.Path as paths
 use Rattle.cf_refinement.proofs.walks.Port as ports
 use Rattle.cf_refinement.proofs.invariant.Sure as sure
-use Rattle.cf_semantics.specs.Path as trail
+use Rattle.cf_semantics.specs.claims.Path as trail
 use Rattle.cf_refinement.proofs.moves.Rows.{bar_row}
 
 pub record Climbs (l : Plan) (s : State) (i : ℕ) : Type 0 where

@@ -12,13 +12,13 @@ use Rattle.cf_refinement.proofs.column.Column.{alone, top_cell}
 use Rattle.cf_refinement.proofs.column.Fold.{fit_follows, walk_follows}
 use Rattle.cf_refinement.proofs.moves.Rows.{bar_row, put_size}
 use Rattle.cf_refinement.proofs.invariant.Invariant.{Sound}
-use Rattle.cf_semantics.specs.Bars.{bar, emit_bar, row_bar}
-use Rattle.cf_semantics.specs.Column.{Down, Item, column, column_from, items, passenger_in}
-use Rattle.cf_semantics.specs.Layouts.{isa_of}
-use Rattle.cf_semantics.specs.Moves.{emitted, moved}
-use Rattle.cf_semantics.specs.Options.{on}
-use Rattle.cf_semantics.specs.State.{State, cell_at, put_cell}
-use Rattle.cf_semantics.specs.Walks.{Everywhere, walk}
+use Rattle.cf_semantics.specs.moves.Bars.{bar, emit_bar, row_bar}
+use Rattle.cf_semantics.specs.state.Column.{Down, Item, column, column_from, items, passenger_in}
+use Rattle.cf_semantics.specs.state.Layouts.{isa_of}
+use Rattle.cf_semantics.specs.moves.Moves.{emitted, moved}
+use Rattle.cf_semantics.specs.state.Options.{on}
+use Rattle.cf_semantics.specs.state.State.{State, cell_at, put_cell}
+use Rattle.cf_semantics.specs.claims.Walks.{Everywhere, walk}
 use Rattle.rv_inst.specs.declared.isa.Isa.{Isa}
 use Rattle.rv_machine.specs.Machine.{Machine}
 use Rattle.cf_refinement.proofs.invariant.Port as dock
@@ -26,7 +26,7 @@ use Rattle.cf_refinement.proofs.invariant.Lone as lone
 use Rattle.cf_refinement.proofs.walks.Path as paths
 use Rattle.cf_refinement.proofs.walks.Port as ports
 use Rattle.cf_refinement.proofs.invariant.Sure as sure
-use Rattle.cf_semantics.specs.Path as trail
+use Rattle.cf_semantics.specs.claims.Path as trail
 
 pub record Emits (l : Plan) (s : State) : Type 0 where
   pub here : Cell

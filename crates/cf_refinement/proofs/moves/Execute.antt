@@ -12,20 +12,20 @@ use Rattle.cf_refinement.proofs.walks.PathFinish.{Finishes, finish_fits, finish_
 use Rattle.cf_refinement.proofs.invariant.Invariant.{Sound}
 use Rattle.cf_refinement.proofs.invariant.Stands.{Stands}
 use Rattle.cf_refinement.proofs.invariant.Suited.{Suits, is_plain}
-use Rattle.cf_semantics.specs.Bars.{bar, execute_bar, row_bar}
-use Rattle.cf_semantics.specs.Column.{Up}
-use Rattle.cf_semantics.specs.Instructions.{is_control, step_at}
-use Rattle.cf_semantics.specs.Layouts.{isa_of}
-use Rattle.cf_semantics.specs.Moves.{moved, with_passenger}
-use Rattle.cf_semantics.specs.Options.{on}
-use Rattle.cf_semantics.specs.Passengers.{finish, goto_undone, guessed, instruction, kind, missing}
-use Rattle.cf_semantics.specs.State.{State, cell_at, put_cell, with_cell}
+use Rattle.cf_semantics.specs.moves.Bars.{bar, execute_bar, row_bar}
+use Rattle.cf_semantics.specs.state.Column.{Up}
+use Rattle.cf_semantics.specs.moves.Instructions.{is_control, step_at}
+use Rattle.cf_semantics.specs.state.Layouts.{isa_of}
+use Rattle.cf_semantics.specs.moves.Moves.{moved, with_passenger}
+use Rattle.cf_semantics.specs.state.Options.{on}
+use Rattle.cf_semantics.specs.state.Passengers.{finish, goto_undone, guessed, instruction, kind, missing}
+use Rattle.cf_semantics.specs.state.State.{State, cell_at, put_cell, with_cell}
 use Rattle.rv_inst.specs.declared.classes.Class.{Class}
 use Rattle.rv_inst.specs.declared.isa.Isa.{Isa}
 use Rattle.rv_machine.specs.Machine.{Machine}
 use Rattle.cf_refinement.proofs.invariant.Lone as lone
 use Rattle.cf_refinement.proofs.invariant.Sure as sure
-use Rattle.cf_semantics.specs.Path as trail
+use Rattle.cf_semantics.specs.claims.Path as trail
 use Rattle.cf_refinement.proofs.column.Spot.{spot}
 
 pub record Runs (l : Plan) (s : State) (i : ℕ) : Type 0 where

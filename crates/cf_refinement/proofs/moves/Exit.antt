@@ -15,19 +15,19 @@ use Rattle.cf_refinement.proofs.moves.Rows.{bar_row}
 use Rattle.cf_refinement.proofs.walks.Stands.{each_front}
 use Rattle.cf_refinement.proofs.invariant.Invariant.{Sound}
 use Rattle.cf_refinement.proofs.invariant.Operations.{IsMoored}
-use Rattle.cf_semantics.specs.Bars.{bar, exit_bar, is_full, row_bar}
-use Rattle.cf_semantics.specs.Column.{Down, Item, column, column_from, items, passenger_in}
-use Rattle.cf_semantics.specs.Layouts.{isa_of}
-use Rattle.cf_semantics.specs.Moves.{keeps, moved, turned, without_packet}
-use Rattle.cf_semantics.specs.Options.{When, on}
-use Rattle.cf_semantics.specs.State.{State, cell_at}
+use Rattle.cf_semantics.specs.moves.Bars.{bar, exit_bar, is_full, row_bar}
+use Rattle.cf_semantics.specs.state.Column.{Down, Item, column, column_from, items, passenger_in}
+use Rattle.cf_semantics.specs.state.Layouts.{isa_of}
+use Rattle.cf_semantics.specs.moves.Moves.{keeps, moved, turned, without_packet}
+use Rattle.cf_semantics.specs.state.Options.{When, on}
+use Rattle.cf_semantics.specs.state.State.{State, cell_at}
 use Rattle.rv_inst.specs.declared.isa.Isa.{Isa}
 use Rattle.rv_machine.specs.Machine.{Machine}
 use Rattle.cf_refinement.proofs.invariant.Port as dock
 use Rattle.cf_refinement.proofs.invariant.Lone as lone
 use Rattle.cf_refinement.proofs.invariant.Sure as sure
-use Rattle.cf_semantics.specs.Path as trail
-use Rattle.cf_semantics.specs.Soundness.{operations_of}
+use Rattle.cf_semantics.specs.claims.Path as trail
+use Rattle.cf_semantics.specs.claims.Soundness.{operations_of}
 
 pub record Exits (s : State) : Type 0 where
   pub here : Cell

@@ -11,12 +11,12 @@ use Rattle.cf_refinement.proofs.column.Stretch.{Stretch, pair_stretch}
 use Rattle.cf_refinement.proofs.column.Fold.{Replaces}
 use Rattle.cf_refinement.proofs.moves.Rows.{bar_row}
 use Rattle.cf_refinement.proofs.invariant.Invariant.{Sound}
-use Rattle.cf_semantics.specs.Bars.{bar, fall_bar, is_full, row_bar}
-use Rattle.cf_semantics.specs.Column.{Down, passenger_in}
-use Rattle.cf_semantics.specs.Layouts.{isa_of}
-use Rattle.cf_semantics.specs.Moves.{fallen, moved, without_packet}
-use Rattle.cf_semantics.specs.Options.{on}
-use Rattle.cf_semantics.specs.State.{State, cell_at, put_cell}
+use Rattle.cf_semantics.specs.moves.Bars.{bar, fall_bar, is_full, row_bar}
+use Rattle.cf_semantics.specs.state.Column.{Down, passenger_in}
+use Rattle.cf_semantics.specs.state.Layouts.{isa_of}
+use Rattle.cf_semantics.specs.moves.Moves.{fallen, moved, without_packet}
+use Rattle.cf_semantics.specs.state.Options.{on}
+use Rattle.cf_semantics.specs.state.State.{State, cell_at, put_cell}
 use Rattle.rv_inst.specs.declared.isa.Isa.{Isa}
 use Rattle.rv_machine.specs.Machine.{Machine}
 use Rattle.cf_refinement.proofs.invariant.Port as dock
@@ -24,7 +24,7 @@ use Rattle.cf_refinement.proofs.walks.Lone as lones
 use Rattle.cf_refinement.proofs.walks.Path as paths
 use Rattle.cf_refinement.proofs.walks.Port as ports
 use Rattle.cf_refinement.proofs.invariant.Sure as sure
-use Rattle.cf_semantics.specs.Path as trail
+use Rattle.cf_semantics.specs.claims.Path as trail
 
 -- to the stage i from the one above it
 pub record Falls (s : State) (i : ℕ) : Type 0 where

@@ -1,14 +1,14 @@
 -- Issue keeps the invariant.
 use Rattle.cf_refinement.proofs.walks.Fresh.{fresh_what, fresh_nothing}
 use Rattle.cf_refinement.proofs.instructions.Steps.{kind_is}
-use Rattle.cf_semantics.specs.Instructions.{Fetched, Got, Bad, kind_of}
+use Rattle.cf_semantics.specs.moves.Instructions.{Fetched, Got, Bad, kind_of}
 use Rattle.rv_inst.specs.declared.classes.Class.TheVariants.{Free}
 use Rattle.rv_inst.specs.declared.instruction.Instr.{Instr}
 use Rattle.cf_layout.specs.Layout.{is_homed}
 use Rattle.cf_refinement.proofs.invariant.Suited.{is_plain}
 use Rattle.cf_refinement.proofs.instructions.Fetches.{fetched_alike}
 use Rattle.cf_refinement.proofs.instructions.Homes.{fetched_homed}
-use Rattle.cf_semantics.specs.Fetches.{code_of}
+use Rattle.cf_semantics.specs.moves.Fetches.{code_of}
 use Rattle.mem_regions.specs.Memory.{Memory}
 use Rattle.std.proofs.Common.{◌≡◌, ◌≢◌, ℕ, List, [], ◌∷◌, ◌++◌, Option, Some, None, Bool, true, false, ◌==◌, ◌||◌, ◌&&◌, not, refl, sym, ap, subst, ◌∙◌, arith, append_assoc, append-nil}
 use Rattle.std.specs.Prelude.{slice_index}
@@ -34,25 +34,25 @@ use Rattle.cf_refinement.proofs.invariant.Invariant.{Sound}
 use Rattle.cf_refinement.proofs.invariant.Operations.{IsMoored}
 use Rattle.cf_refinement.proofs.invariant.Stands.{Blank, Low, Stands}
 use Rattle.cf_refinement.proofs.invariant.Suited.{Suits}
-use Rattle.cf_semantics.specs.Bars.{bar, issue_bar, may_guess, row_bar}
-use Rattle.cf_semantics.specs.Column.{Item, Up, column, column_from, items}
-use Rattle.cf_semantics.specs.Instructions.{behind, dst_of, fetched, is_control, is_free, is_serial, step_at}
-use Rattle.cf_semantics.specs.Layouts.{isa_of}
-use Rattle.cf_semantics.specs.Moves.{fetch_at, moved}
-use Rattle.cf_semantics.specs.Options.{When, is_some, on}
-use Rattle.cf_semantics.specs.Passengers.{destination, forgets, fresh, goto, instruction, kind, reg_in, requests}
-use Rattle.cf_semantics.specs.State.{State, cell_at}
-use Rattle.cf_semantics.specs.Walks.{walk}
+use Rattle.cf_semantics.specs.moves.Bars.{bar, issue_bar, may_guess, row_bar}
+use Rattle.cf_semantics.specs.state.Column.{Item, Up, column, column_from, items}
+use Rattle.cf_semantics.specs.moves.Instructions.{behind, dst_of, fetched, is_control, is_free, is_serial, step_at}
+use Rattle.cf_semantics.specs.state.Layouts.{isa_of}
+use Rattle.cf_semantics.specs.moves.Moves.{fetch_at, moved}
+use Rattle.cf_semantics.specs.state.Options.{When, is_some, on}
+use Rattle.cf_semantics.specs.state.Passengers.{destination, forgets, fresh, goto, instruction, kind, reg_in, requests}
+use Rattle.cf_semantics.specs.state.State.{State, cell_at}
+use Rattle.cf_semantics.specs.claims.Walks.{walk}
 use Rattle.rv_inst.specs.declared.isa.Isa.{Isa}
 use Rattle.rv_machine.specs.Machine.{Machine}
-use Rattle.cf_semantics.specs.Ahead as ahead
+use Rattle.cf_semantics.specs.claims.Ahead as ahead
 use Rattle.cf_refinement.proofs.invariant.Port as dock
 use Rattle.cf_refinement.proofs.invariant.Lone as lone
 use Rattle.cf_refinement.proofs.walks.Path as paths
 use Rattle.cf_refinement.proofs.walks.Port as ports
 use Rattle.cf_refinement.proofs.invariant.Sure as sure
-use Rattle.cf_semantics.specs.Path as trail
-use Rattle.cf_semantics.specs.Soundness.{is_lone, operations_of, waits}
+use Rattle.cf_semantics.specs.claims.Path as trail
+use Rattle.cf_semantics.specs.claims.Soundness.{is_lone, operations_of, waits}
 
 pub record Issues (l : Plan) (s : State) (g : Guess) : Type 0 where
   pub here : Cell

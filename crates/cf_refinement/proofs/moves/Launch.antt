@@ -29,27 +29,27 @@ use Rattle.cf_refinement.proofs.instructions.Steps.{access_traps}
 use Rattle.cf_refinement.proofs.invariant.Invariant.{Sound}
 use Rattle.cf_refinement.proofs.invariant.Stands.{Each, Stands}
 use Rattle.cf_refinement.proofs.invariant.Suited.{Suits}
-use Rattle.cf_semantics.specs.Bars.{bar, first, is_full, is_taken, launch_bar, row_bar, source_bar}
-use Rattle.cf_semantics.specs.Column.{Down, Item, Up, column}
-use Rattle.cf_semantics.specs.Instructions.{access_trap, is_memory, step_at}
-use Rattle.cf_semantics.specs.Layouts.{isa_of, launches, port}
-use Rattle.cf_semantics.specs.Moves.{launch_trap, launched, moved, operation, with_passenger}
-use Rattle.cf_semantics.specs.Options.{on}
-use Rattle.cf_semantics.specs.Passengers.{instruction, kind, missing, trapped, value_in}
-use Rattle.cf_semantics.specs.State.{State, cell_at, siding_at, with_cell, with_siding}
-use Rattle.cf_semantics.specs.Walks.{Everywhere, walk}
+use Rattle.cf_semantics.specs.moves.Bars.{bar, first, is_full, is_taken, launch_bar, row_bar, source_bar}
+use Rattle.cf_semantics.specs.state.Column.{Down, Item, Up, column}
+use Rattle.cf_semantics.specs.moves.Instructions.{access_trap, is_memory, step_at}
+use Rattle.cf_semantics.specs.state.Layouts.{isa_of, launches, port}
+use Rattle.cf_semantics.specs.moves.Moves.{launch_trap, launched, moved, operation, with_passenger}
+use Rattle.cf_semantics.specs.state.Options.{on}
+use Rattle.cf_semantics.specs.state.Passengers.{instruction, kind, missing, trapped, value_in}
+use Rattle.cf_semantics.specs.state.State.{State, cell_at, siding_at, with_cell, with_siding}
+use Rattle.cf_semantics.specs.claims.Walks.{Everywhere, walk}
 use Rattle.mem_regions.specs.Access.{Bounds, bounds_of}
 use Rattle.rv_inst.specs.declared.isa.Isa.{Isa}
 use Rattle.rv_machine.specs.Machine.{Machine}
 use Rattle.std.specs.Prelude.{slice_get}
-use Rattle.cf_semantics.specs.Ahead as ahead
+use Rattle.cf_semantics.specs.claims.Ahead as ahead
 use Rattle.cf_refinement.proofs.invariant.Port as dock
 use Rattle.cf_refinement.proofs.invariant.Lone as lone
 use Rattle.cf_refinement.proofs.walks.Lone as lones
 use Rattle.cf_refinement.proofs.walks.Path as paths
 use Rattle.cf_refinement.proofs.invariant.Sure as sure
-use Rattle.cf_semantics.specs.Path as trail
-use Rattle.cf_semantics.specs.Soundness.{AreUnanswered, LastAnswered, in_siding, operations_in, operations_of}
+use Rattle.cf_semantics.specs.claims.Path as trail
+use Rattle.cf_semantics.specs.claims.Soundness.{AreUnanswered, LastAnswered, in_siding, operations_in, operations_of}
 use Rattle.cf_refinement.proofs.instructions.Classes.{memory_is}
 use Rattle.cf_refinement.proofs.walks.Path.{sure_at}
 use Rattle.cf_refinement.proofs.walks.Lone.{lone_open}

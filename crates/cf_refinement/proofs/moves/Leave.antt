@@ -1,6 +1,6 @@
 -- Leave keeps the invariant, or ends the program.
 use Rattle.rv_inst.specs.declared.instruction.Instr.{Instr}
-use Rattle.cf_semantics.specs.Fetches.{code_of}
+use Rattle.cf_semantics.specs.moves.Fetches.{code_of}
 use Rattle.std.proofs.Common.{◌≡◌, ℕ, zero, suc, ◌+◌, ◌<◌, List, [], ◌∷◌, ◌++◌, Option, Some, None, Bool, true, false, ◌||◌, refl, sym, ap, subst, ◌∙◌, arith, length, ◌⊎◌, inl, inr}
 use Rattle.std.specs.Prelude.{if◌then◌else◌, slice_index}
 use Rattle.std.proofs.lemmas.List.{get_or-set_same}
@@ -23,27 +23,27 @@ use Rattle.cf_refinement.proofs.instructions.OwnLines.{got, own_line}
 use Rattle.cf_refinement.proofs.instructions.Steps.{step_wide, step_writes, sure_dst_below, sure_leaves, word_is}
 use Rattle.cf_refinement.proofs.invariant.Invariant.{IsOver, Sound}
 use Rattle.cf_refinement.proofs.invariant.Stands.{Stands}
-use Rattle.cf_semantics.specs.Bars.{bar, is_full, leave_bar, row_bar}
-use Rattle.cf_semantics.specs.Column.{Down, Item, Up, column, column_from, packet_in}
-use Rattle.cf_semantics.specs.Instructions.{Bad, Fetched, Goes, Got, Stepped, Stops, behind, dst_of, fetched, is_memory, is_serial, step_at, step_here, value_written}
-use Rattle.cf_semantics.specs.Layouts.{isa_of}
-use Rattle.cf_semantics.specs.Lines.{Line, line_of, lines_at, retired_by, retires, row}
-use Rattle.cf_semantics.specs.Moves.{left, moved, without_passenger, written}
-use Rattle.cf_semantics.specs.Options.{on}
-use Rattle.cf_semantics.specs.Passengers.{kind, missing, reg_in}
-use Rattle.cf_semantics.specs.State.{State, cell_at, put_cell, with_cell}
-use Rattle.cf_semantics.specs.Walks.{Everywhere, walk}
+use Rattle.cf_semantics.specs.moves.Bars.{bar, is_full, leave_bar, row_bar}
+use Rattle.cf_semantics.specs.state.Column.{Down, Item, Up, column, column_from, packet_in}
+use Rattle.cf_semantics.specs.moves.Instructions.{Bad, Fetched, Goes, Got, Stepped, Stops, behind, dst_of, fetched, is_memory, is_serial, step_at, step_here, value_written}
+use Rattle.cf_semantics.specs.state.Layouts.{isa_of}
+use Rattle.cf_semantics.specs.runs.Lines.{Line, line_of, lines_at, retired_by, retires, row}
+use Rattle.cf_semantics.specs.moves.Moves.{left, moved, without_passenger, written}
+use Rattle.cf_semantics.specs.state.Options.{on}
+use Rattle.cf_semantics.specs.state.Passengers.{kind, missing, reg_in}
+use Rattle.cf_semantics.specs.state.State.{State, cell_at, put_cell, with_cell}
+use Rattle.cf_semantics.specs.claims.Walks.{Everywhere, walk}
 use Rattle.rv_inst.specs.declared.isa.Isa.{Isa}
 use Rattle.rv_machine.specs.Machine.{Machine}
-use Rattle.cf_semantics.specs.Ahead as ahead
+use Rattle.cf_semantics.specs.claims.Ahead as ahead
 use Rattle.cf_refinement.proofs.invariant.Port as dock
 use Rattle.cf_refinement.proofs.invariant.Lone as lone
 use Rattle.cf_refinement.proofs.walks.Lone as lones
 use Rattle.cf_refinement.proofs.walks.Path as paths
 use Rattle.cf_refinement.proofs.walks.Port as ports
 use Rattle.cf_refinement.proofs.invariant.Sure as sure
-use Rattle.cf_semantics.specs.Path as trail
-use Rattle.cf_semantics.specs.Soundness.{HasValue, Holds, IsKnown, in_siding, operations_of}
+use Rattle.cf_semantics.specs.claims.Path as trail
+use Rattle.cf_semantics.specs.claims.Soundness.{HasValue, Holds, IsKnown, in_siding, operations_of}
 use Rattle.cf_refinement.proofs.walks.Path.{sure_at}
 
 pub record Leaves (l : Plan) (s : State) : Type 0 where

@@ -13,14 +13,14 @@ use Rattle.cf_refinement.proofs.column.Fold.{Replaces}
 use Rattle.cf_refinement.proofs.walks.Stands.{meet_rider}
 use Rattle.cf_refinement.proofs.invariant.Invariant.{Sound}
 use Rattle.cf_refinement.proofs.invariant.Stands.{Each, Stands}
-use Rattle.cf_semantics.specs.Bars.{bar, meet_bar, row_bar}
-use Rattle.cf_semantics.specs.Column.{Down, Up, in_order, packet_in, passenger_in}
-use Rattle.cf_semantics.specs.Layouts.{isa_of}
-use Rattle.cf_semantics.specs.Moves.{cell_met, moved}
-use Rattle.cf_semantics.specs.Options.{is_some, on}
-use Rattle.cf_semantics.specs.Passengers.{missing}
-use Rattle.cf_semantics.specs.State.{State, cell_at, put_cell, with_cell}
-use Rattle.cf_semantics.specs.Walks.{Everywhere}
+use Rattle.cf_semantics.specs.moves.Bars.{bar, meet_bar, row_bar}
+use Rattle.cf_semantics.specs.state.Column.{Down, Up, in_order, packet_in, passenger_in}
+use Rattle.cf_semantics.specs.state.Layouts.{isa_of}
+use Rattle.cf_semantics.specs.moves.Moves.{cell_met, moved}
+use Rattle.cf_semantics.specs.state.Options.{is_some, on}
+use Rattle.cf_semantics.specs.state.Passengers.{missing}
+use Rattle.cf_semantics.specs.state.State.{State, cell_at, put_cell, with_cell}
+use Rattle.cf_semantics.specs.claims.Walks.{Everywhere}
 use Rattle.rv_inst.specs.declared.isa.Isa.{Isa}
 use Rattle.rv_machine.specs.Machine.{Machine}
 use Rattle.cf_refinement.proofs.invariant.Port as dock
@@ -29,8 +29,8 @@ use Rattle.cf_refinement.proofs.walks.PathMeet as pathmeet
 use Rattle.cf_refinement.proofs.walks.PortMoves as portmoves
 use Rattle.cf_refinement.proofs.walks.Port as ports
 use Rattle.cf_refinement.proofs.invariant.Sure as sure
-use Rattle.cf_semantics.specs.Path as trail
-use Rattle.cf_semantics.specs.Soundness.{operations_of}
+use Rattle.cf_semantics.specs.claims.Path as trail
+use Rattle.cf_semantics.specs.claims.Soundness.{operations_of}
 use Rattle.cf_refinement.proofs.moves.Rows.{bar_row}
 
 pub record Meets (s : State) (i : ℕ) : Type 0 where

@@ -22,27 +22,27 @@ use Rattle.cf_refinement.proofs.column.Spot.{spot}
 use Rattle.cf_refinement.proofs.invariant.Invariant.{Sound}
 use Rattle.cf_refinement.proofs.invariant.Stands.{Behind, Stands}
 use Rattle.cf_refinement.proofs.invariant.Suited.{Suits, is_plain}
-use Rattle.cf_semantics.specs.Bars.{bar}
-use Rattle.cf_semantics.specs.Column.{Down, Item, Up}
-use Rattle.cf_semantics.specs.Instructions.{access_trap, behind, is_control, is_free, is_memory, is_serial, step_at}
-use Rattle.cf_semantics.specs.Layouts.{isa_of, port}
-use Rattle.cf_semantics.specs.Moves.{back_in, moved, set_last, with_passenger}
-use Rattle.cf_semantics.specs.Options.{on}
-use Rattle.cf_semantics.specs.Passengers.{finish, instruction, kind, missing, value_in}
-use Rattle.cf_semantics.specs.State.{State, siding_at, with_cell, with_siding}
-use Rattle.cf_semantics.specs.Walks.{Everywhere, walk}
+use Rattle.cf_semantics.specs.moves.Bars.{bar}
+use Rattle.cf_semantics.specs.state.Column.{Down, Item, Up}
+use Rattle.cf_semantics.specs.moves.Instructions.{access_trap, behind, is_control, is_free, is_memory, is_serial, step_at}
+use Rattle.cf_semantics.specs.state.Layouts.{isa_of, port}
+use Rattle.cf_semantics.specs.moves.Moves.{back_in, moved, set_last, with_passenger}
+use Rattle.cf_semantics.specs.state.Options.{on}
+use Rattle.cf_semantics.specs.state.Passengers.{finish, instruction, kind, missing, value_in}
+use Rattle.cf_semantics.specs.state.State.{State, siding_at, with_cell, with_siding}
+use Rattle.cf_semantics.specs.claims.Walks.{Everywhere, walk}
 use Rattle.mem_regions.specs.Access.{bounds_of}
 use Rattle.rv_inst.specs.declared.isa.Isa.{Isa}
 use Rattle.rv_machine.specs.Machine.{Machine}
-use Rattle.cf_semantics.specs.Ahead as ahead
+use Rattle.cf_semantics.specs.claims.Ahead as ahead
 use Rattle.cf_refinement.proofs.invariant.Port as dock
 use Rattle.cf_refinement.proofs.invariant.Lone as lone
 use Rattle.cf_refinement.proofs.walks.Lone as lones
 use Rattle.cf_refinement.proofs.walks.Path as paths
 use Rattle.cf_refinement.proofs.walks.Port as ports
 use Rattle.cf_refinement.proofs.invariant.Sure as sure
-use Rattle.cf_semantics.specs.Path as trail
-use Rattle.cf_semantics.specs.Soundness.{IsAnswer, in_siding, operations_of, may_turn}
+use Rattle.cf_semantics.specs.claims.Path as trail
+use Rattle.cf_semantics.specs.claims.Soundness.{IsAnswer, in_siding, operations_of, may_turn}
 use Rattle.cf_refinement.proofs.instructions.Classes.{memory_is}
 
 label : (isa : Isa) (i : ℕ) (p : Passenger) (w : trail.Walk) → Replaces trail.Walk (sure.Fits isa) (trail.past isa) paths.Follows (Up i (back p) ∷ []) (Up i (back p) ∷ []) w

@@ -16,15 +16,15 @@ use Rattle.cf_refinement.proofs.walks.Stands.{each_front}
 use Rattle.cf_refinement.proofs.invariant.Invariant.{Sound}
 use Rattle.cf_refinement.proofs.invariant.Operations.{IsMoored}
 use Rattle.cf_refinement.proofs.invariant.Suited.{Suits}
-use Rattle.cf_semantics.specs.Bars.{first, last_op, recover_bar, row_bar}
-use Rattle.cf_semantics.specs.Column.{Item, Up, column}
-use Rattle.cf_semantics.specs.Instructions.{is_memory}
-use Rattle.cf_semantics.specs.Layouts.{recovers}
-use Rattle.cf_semantics.specs.Moves.{back_in, moved, operation, set_last, with_passenger}
-use Rattle.cf_semantics.specs.Options.{is_some, on}
-use Rattle.cf_semantics.specs.Passengers.{kind}
-use Rattle.cf_semantics.specs.State.{State, cell_at, siding_at, with_cell, with_siding}
-use Rattle.cf_semantics.specs.Soundness.{as_launched, in_siding, operations_in, operations_of}
+use Rattle.cf_semantics.specs.moves.Bars.{first, last_op, recover_bar, row_bar}
+use Rattle.cf_semantics.specs.state.Column.{Item, Up, column}
+use Rattle.cf_semantics.specs.moves.Instructions.{is_memory}
+use Rattle.cf_semantics.specs.state.Layouts.{recovers}
+use Rattle.cf_semantics.specs.moves.Moves.{back_in, moved, operation, set_last, with_passenger}
+use Rattle.cf_semantics.specs.state.Options.{is_some, on}
+use Rattle.cf_semantics.specs.state.Passengers.{kind}
+use Rattle.cf_semantics.specs.state.State.{State, cell_at, siding_at, with_cell, with_siding}
+use Rattle.cf_semantics.specs.claims.Soundness.{as_launched, in_siding, operations_in, operations_of}
 use Rattle.rv_machine.specs.Machine.{Machine}
 
 pub record Recovers (l : Plan) (s : State) (i : ℕ) : Type 0 where

@@ -3,8 +3,8 @@ use Rattle.std.proofs.Common.{◌≡◌, ℕ, zero, suc, List, None, refl, arith
 use Rattle.cf_bind.specs.declared.cell.Cell.{Cell}
 use Rattle.cf_bind.specs.declared.moves.Move.{Move}
 use Rattle.cf_layout.specs.Layout.{Plan}
-use Rattle.cf_semantics.specs.Bars.{bar, row_bar}
-use Rattle.cf_semantics.specs.State.{State, put_cell}
+use Rattle.cf_semantics.specs.moves.Bars.{bar, row_bar}
+use Rattle.cf_semantics.specs.state.State.{State, put_cell}
 
 pub bar_row : (l : Plan) (s : State) (m : Move) → bar l s m ≡ None → row_bar l s m ≡ None
 unfolding bar

@@ -12,13 +12,13 @@ use Rattle.cf_refinement.proofs.column.Fold.{Replaces}
 use Rattle.cf_refinement.proofs.moves.Rows.{bar_row}
 use Rattle.cf_refinement.proofs.walks.Stands.{send_stands}
 use Rattle.cf_refinement.proofs.invariant.Invariant.{Sound}
-use Rattle.cf_semantics.specs.Bars.{bar, row_bar, send_bar}
-use Rattle.cf_semantics.specs.Column.{Down, Up}
-use Rattle.cf_semantics.specs.Layouts.{isa_of}
-use Rattle.cf_semantics.specs.Moves.{moved}
-use Rattle.cf_semantics.specs.Options.{is_some, on}
-use Rattle.cf_semantics.specs.State.{State, cell_at, put_cell, with_cell}
-use Rattle.cf_semantics.specs.Walks.{Everywhere}
+use Rattle.cf_semantics.specs.moves.Bars.{bar, row_bar, send_bar}
+use Rattle.cf_semantics.specs.state.Column.{Down, Up}
+use Rattle.cf_semantics.specs.state.Layouts.{isa_of}
+use Rattle.cf_semantics.specs.moves.Moves.{moved}
+use Rattle.cf_semantics.specs.state.Options.{is_some, on}
+use Rattle.cf_semantics.specs.state.State.{State, cell_at, put_cell, with_cell}
+use Rattle.cf_semantics.specs.claims.Walks.{Everywhere}
 use Rattle.rv_inst.specs.declared.isa.Isa.{Isa}
 use Rattle.rv_machine.specs.Machine.{Machine}
 use Rattle.cf_refinement.proofs.invariant.Port as dock
@@ -27,7 +27,7 @@ use Rattle.cf_refinement.proofs.walks.Path as paths
 use Rattle.cf_refinement.proofs.walks.PortMoves as portmoves
 use Rattle.cf_refinement.proofs.walks.Port as ports
 use Rattle.cf_refinement.proofs.invariant.Sure as sure
-use Rattle.cf_semantics.specs.Path as trail
+use Rattle.cf_semantics.specs.claims.Path as trail
 use Rattle.cf_refinement.proofs.column.Column.{alone}
 
 pub record Sends (s : State) (i : ℕ) : Type 0 where

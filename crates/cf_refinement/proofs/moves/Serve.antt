@@ -15,29 +15,29 @@ use Rattle.cf_refinement.proofs.walks.Quiet.{Unchanged}
 use Rattle.cf_refinement.proofs.invariant.Invariant.{Sound}
 use Rattle.cf_refinement.proofs.invariant.Stands.{Between, Stands}
 use Rattle.cf_refinement.proofs.invariant.Suited.{Suits}
-use Rattle.cf_semantics.specs.Bars.{bar, is_full, row_bar, serve_bar}
-use Rattle.cf_semantics.specs.Column.{Down, Item, Up, column, column_from, packet_in}
-use Rattle.cf_semantics.specs.Instructions.{Bad, Fetched, Goes, Got, Stops, fetched, serve_of, step_at}
-use Rattle.cf_semantics.specs.Layouts.{isa_of}
-use Rattle.cf_semantics.specs.Moves.{answered, next, served, with_passenger}
-use Rattle.cf_semantics.specs.Options.{Where, on}
-use Rattle.cf_semantics.specs.Passengers.{goto, instruction, kind}
-use Rattle.cf_semantics.specs.State.{Moment, State, cell_at, put_cell}
-use Rattle.cf_semantics.specs.Walks.{Everywhere, walk}
+use Rattle.cf_semantics.specs.moves.Bars.{bar, is_full, row_bar, serve_bar}
+use Rattle.cf_semantics.specs.state.Column.{Down, Item, Up, column, column_from, packet_in}
+use Rattle.cf_semantics.specs.moves.Instructions.{Bad, Fetched, Goes, Got, Stops, fetched, serve_of, step_at}
+use Rattle.cf_semantics.specs.state.Layouts.{isa_of}
+use Rattle.cf_semantics.specs.moves.Moves.{answered, next, served, with_passenger}
+use Rattle.cf_semantics.specs.state.Options.{Where, on}
+use Rattle.cf_semantics.specs.state.Passengers.{goto, instruction, kind}
+use Rattle.cf_semantics.specs.state.State.{Moment, State, cell_at, put_cell}
+use Rattle.cf_semantics.specs.claims.Walks.{Everywhere, walk}
 use Rattle.rv_inst.specs.declared.classes.Class.TheVariants.{Serial}
 use Rattle.rv_inst.specs.declared.isa.Isa.{Isa}
 use Rattle.rv_machine.specs.Call.{Answer, Called}
 use Rattle.rv_machine.specs.Call as called
-use Rattle.cf_semantics.specs.Fetches.{code_of}
+use Rattle.cf_semantics.specs.moves.Fetches.{code_of}
 use Rattle.rv_machine.specs.Machine.{Machine}
-use Rattle.cf_semantics.specs.Ahead as ahead
+use Rattle.cf_semantics.specs.claims.Ahead as ahead
 use Rattle.cf_refinement.proofs.invariant.Port as dock
 use Rattle.cf_refinement.proofs.invariant.Lone as lone
 use Rattle.cf_refinement.proofs.walks.Lone as lones
 use Rattle.cf_refinement.proofs.walks.Path as paths
 use Rattle.cf_refinement.proofs.invariant.Sure as sure
-use Rattle.cf_semantics.specs.Path as trail
-use Rattle.cf_semantics.specs.Soundness.{Holds, is_lone, operations_of}
+use Rattle.cf_semantics.specs.claims.Path as trail
+use Rattle.cf_semantics.specs.claims.Soundness.{Holds, is_lone, operations_of}
 use Rattle.cf_refinement.proofs.instructions.Classes.{serial_is}
 use Rattle.cf_refinement.proofs.walks.Path.{sure_at}
 use Rattle.cf_refinement.proofs.walks.Lone.{no_rider, shut_past}

@@ -8,14 +8,14 @@ use Rattle.cf_refinement.proofs.column.Flown.{operations_slide}
 use Rattle.cf_refinement.proofs.moves.Rows.{bar_row}
 use Rattle.cf_refinement.proofs.column.Sidings.{answer_here, front_cons, last_answer, last_cons, rehung, some_cells, top_same}
 use Rattle.cf_refinement.proofs.invariant.Invariant.{Sound}
-use Rattle.cf_semantics.specs.Bars.{bar, row_bar, slide_bar}
-use Rattle.cf_semantics.specs.Column.{column}
-use Rattle.cf_semantics.specs.Layouts.{isa_of}
-use Rattle.cf_semantics.specs.Moves.{moved}
-use Rattle.cf_semantics.specs.Options.{on}
-use Rattle.cf_semantics.specs.State.{State, siding_at, with_siding}
-use Rattle.cf_semantics.specs.Walks.{Everywhere, walk}
-use Rattle.cf_semantics.specs.Soundness.{AreUnanswered, IsUnanswered, LastAnswered}
+use Rattle.cf_semantics.specs.moves.Bars.{bar, row_bar, slide_bar}
+use Rattle.cf_semantics.specs.state.Column.{column}
+use Rattle.cf_semantics.specs.state.Layouts.{isa_of}
+use Rattle.cf_semantics.specs.moves.Moves.{moved}
+use Rattle.cf_semantics.specs.state.Options.{on}
+use Rattle.cf_semantics.specs.state.State.{State, siding_at, with_siding}
+use Rattle.cf_semantics.specs.claims.Walks.{Everywhere, walk}
+use Rattle.cf_semantics.specs.claims.Soundness.{AreUnanswered, IsUnanswered, LastAnswered}
 use Rattle.rv_machine.specs.Machine.{Machine}
 use Rattle.cf_refinement.proofs.invariant.Port as dock
 use Rattle.cf_refinement.proofs.column.Change.{beside}

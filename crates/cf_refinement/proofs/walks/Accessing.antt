@@ -8,12 +8,12 @@ use Rattle.cf_refinement.proofs.walks.Answering.{Landed, fit_landed, past_mem, w
 use Rattle.cf_refinement.proofs.column.Fold.{fit_append, fit_back, fit_front, walk_append}
 use Rattle.cf_refinement.proofs.instructions.Steps.{step_is}
 use Rattle.cf_refinement.proofs.invariant.Port.{Dock, DockedAt, Fits, past}
-use Rattle.cf_semantics.specs.Ahead.{flies, has_ported}
-use Rattle.cf_semantics.specs.Column.{Down, Item, Up}
-use Rattle.cf_semantics.specs.Instructions.{Goes, Got, Stops, access_trap, behind, fetched, kind_of, mem_after, src1_of, src2_of, step_at, value_read}
-use Rattle.cf_semantics.specs.Options.{on}
-use Rattle.cf_semantics.specs.Walks.{Everywhere, walk}
-use Rattle.cf_semantics.specs.Soundness.{IsAnswer}
+use Rattle.cf_semantics.specs.claims.Ahead.{flies, has_ported}
+use Rattle.cf_semantics.specs.state.Column.{Down, Item, Up}
+use Rattle.cf_semantics.specs.moves.Instructions.{Goes, Got, Stops, access_trap, behind, fetched, kind_of, mem_after, src1_of, src2_of, step_at, value_read}
+use Rattle.cf_semantics.specs.state.Options.{on}
+use Rattle.cf_semantics.specs.claims.Walks.{Everywhere, walk}
+use Rattle.cf_semantics.specs.claims.Soundness.{IsAnswer}
 use Rattle.mem_regions.specs.Access.{bounds_of}
 use Rattle.rv_inst.specs.declared.classes.Class.TheVariants.{Memory}
 use Rattle.rv_inst.specs.declared.isa.Isa.{Isa}

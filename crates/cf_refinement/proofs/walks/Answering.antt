@@ -7,20 +7,20 @@ use Rattle.cf_bind.specs.declared.passenger.End.{End}
 use Rattle.cf_bind.specs.declared.passenger.Passenger.{Passenger}
 use Rattle.cf_refinement.proofs.instructions.Steps.{step_is}
 use Rattle.cf_refinement.proofs.invariant.Port.{Dock, DockedAt, Fits, past}
-use Rattle.cf_semantics.specs.Ahead.{flies, has_ported}
-use Rattle.cf_semantics.specs.Column.{Down, Item, Up}
-use Rattle.cf_semantics.specs.Instructions.{Bad, Fetched, Goes, Got, Stepped, Stops, at_pc, behind, fetched, finish_trap, free_trap, is_memory, is_serial, kind_of, src1_of, src2_of, step_at, value_read}
-use Rattle.cf_semantics.specs.Options.{is_some, on}
-use Rattle.cf_semantics.specs.Passengers.{kind}
-use Rattle.cf_semantics.specs.Steps.{stepped_as}
-use Rattle.cf_semantics.specs.Walks.{Everywhere, walk}
+use Rattle.cf_semantics.specs.claims.Ahead.{flies, has_ported}
+use Rattle.cf_semantics.specs.state.Column.{Down, Item, Up}
+use Rattle.cf_semantics.specs.moves.Instructions.{Bad, Fetched, Goes, Got, Stepped, Stops, at_pc, behind, fetched, finish_trap, free_trap, is_memory, is_serial, kind_of, src1_of, src2_of, step_at, value_read}
+use Rattle.cf_semantics.specs.state.Options.{is_some, on}
+use Rattle.cf_semantics.specs.state.Passengers.{kind}
+use Rattle.cf_semantics.specs.moves.Steps.{stepped_as}
+use Rattle.cf_semantics.specs.claims.Walks.{Everywhere, walk}
 use Rattle.rv_inst.specs.declared.classes.Class.{Class}
 use Rattle.rv_inst.specs.declared.classes.Class.TheVariants.{Free, Memory, Serial}
 use Rattle.rv_inst.specs.declared.isa.Isa.{Isa}
 use Rattle.rv_machine.specs.Machine.{Machine}
 use Rattle.cf_refinement.proofs.invariant.Sure as sure
-use Rattle.cf_semantics.specs.Path as trail
-use Rattle.cf_semantics.specs.Soundness.{Holds}
+use Rattle.cf_semantics.specs.claims.Path as trail
+use Rattle.cf_semantics.specs.claims.Soundness.{Holds}
 
 -- no operation of these is in Memory's siding
 abbrev pub Landed : List Item → Type 0

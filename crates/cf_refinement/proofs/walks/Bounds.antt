@@ -5,17 +5,17 @@ use Rattle.std.specs.Prelude.{if◌then◌else◌}
 use Rattle.cf_layout.specs.Layout.{Plan}
 use Rattle.cf_refinement.proofs.instructions.Steps.{step_bounds}
 use Rattle.cf_refinement.proofs.invariant.Invariant.{Sound}
-use Rattle.cf_semantics.specs.Column.{Down, Item, Up, column}
-use Rattle.cf_semantics.specs.Instructions.{behind, step_at}
-use Rattle.cf_semantics.specs.Layouts.{isa_of}
-use Rattle.cf_semantics.specs.State.{State}
-use Rattle.cf_semantics.specs.Walks.{walk}
+use Rattle.cf_semantics.specs.state.Column.{Down, Item, Up, column}
+use Rattle.cf_semantics.specs.moves.Instructions.{behind, step_at}
+use Rattle.cf_semantics.specs.state.Layouts.{isa_of}
+use Rattle.cf_semantics.specs.state.State.{State}
+use Rattle.cf_semantics.specs.claims.Walks.{walk}
 use Rattle.mem_regions.specs.Access.{Bounds, bounds_of}
 use Rattle.rv_inst.specs.declared.isa.Isa.{Isa}
 use Rattle.rv_machine.specs.Machine.{Machine}
-use Rattle.cf_semantics.specs.Ahead as ahead
+use Rattle.cf_semantics.specs.claims.Ahead as ahead
 use Rattle.cf_refinement.proofs.invariant.Port as dock
-use Rattle.cf_semantics.specs.Path as trail
+use Rattle.cf_semantics.specs.claims.Path as trail
 use Rattle.cf_refinement.proofs.walks.Order.{past_path}
 
 past_path_bounds : (isa : Isa) (i : Item) (w : trail.Walk) → bounds_of (trail.past isa i w).machine.hart.mem ≡ bounds_of w.machine.hart.mem

@@ -2,7 +2,7 @@
 use Rattle.std.proofs.Common.{◌≡◌, ◌≢◌, ℕ, zero, suc, List, [], ◌∷◌, Option, Some, None, refl, sym, ap, ◌∙◌, arith, ◌⊎◌, inl, inr}
 use Rattle.std.specs.Prelude.{slice_index, slice_set}
 use Rattle.cf_refinement.proofs.invariant.Sure.{AreRegisters}
-use Rattle.cf_semantics.specs.Passengers.{cached, cleared, forgets}
+use Rattle.cf_semantics.specs.state.Passengers.{cached, cleared, forgets}
 
 -- what is kept of q once r was set
 pub set_cached : (c : List (Option ℕ)) (r q v : ℕ) (o : Option ℕ) → cached (slice_set c r o) q ≡ Some v → ((q ≡ r) × (o ≡ Some v)) ⊎ ((q ≢ r) × (cached c q ≡ Some v))

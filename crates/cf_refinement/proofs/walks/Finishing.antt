@@ -1,6 +1,6 @@
 -- A passenger that a unit finishes: what that leaves of each walk.
-use Rattle.cf_semantics.specs.Instructions.{at_pc}
-use Rattle.cf_semantics.specs.Steps.{onward}
+use Rattle.cf_semantics.specs.moves.Instructions.{at_pc}
+use Rattle.cf_semantics.specs.moves.Steps.{onward}
 use Rattle.rv_inst.specs.declared.instruction.Instr.{Instr}
 use Rattle.rv_inst.specs.declared.instruction.Instr.TheVariants.{Ebreak}
 use Rattle.std.proofs.Common.{◌≡◌, ℕ, [], ◌∷◌, Option, Some, None, Bool, true, false, ◌&&◌, ◌||◌, refl, sym, ap, ◌∙◌, arith, true≢false}
@@ -13,26 +13,26 @@ use Rattle.cf_refinement.proofs.walks.PathFinish.{Finishes, source_read}
 use Rattle.cf_refinement.proofs.instructions.Steps.{plain_steps, straight_next, straight_trap}
 use Rattle.cf_refinement.proofs.invariant.Stands.{Stands}
 use Rattle.cf_refinement.proofs.invariant.Suited.{is_plain}
-use Rattle.cf_semantics.specs.Column.{Up}
-use Rattle.cf_semantics.specs.Instructions.{Bad, Fetched, Goes, Got, Stops, dst_of, fetched, finish_trap, is_control, is_free, is_memory, is_serial, kind_of, src1_of, src2_of, step_at, value_written}
-use Rattle.cf_semantics.specs.Options.{on}
-use Rattle.cf_semantics.specs.Passengers.{finish, instruction, kind, missing, value_in}
-use Rattle.cf_semantics.specs.Walks.{Everywhere, walk}
+use Rattle.cf_semantics.specs.state.Column.{Up}
+use Rattle.cf_semantics.specs.moves.Instructions.{Bad, Fetched, Goes, Got, Stops, dst_of, fetched, finish_trap, is_control, is_free, is_memory, is_serial, kind_of, src1_of, src2_of, step_at, value_written}
+use Rattle.cf_semantics.specs.state.Options.{on}
+use Rattle.cf_semantics.specs.state.Passengers.{finish, instruction, kind, missing, value_in}
+use Rattle.cf_semantics.specs.claims.Walks.{Everywhere, walk}
 use Rattle.rv_inst.specs.Arithmetic.{next_pc}
 use Rattle.rv_inst.specs.declared.classes.Class.{Class}
 use Rattle.rv_inst.specs.declared.classes.Class.TheVariants.{Free}
 use Rattle.rv_inst.specs.declared.isa.Isa.{Isa}
 use Rattle.rv_machine.specs.Machine.{Machine}
 use Rattle.rv_mul.specs.Values.{value_of}
-use Rattle.cf_semantics.specs.Ahead as ahead
+use Rattle.cf_semantics.specs.claims.Ahead as ahead
 use Rattle.cf_refinement.proofs.invariant.Port as dock
 use Rattle.cf_refinement.proofs.invariant.Lone as lone
 use Rattle.cf_refinement.proofs.walks.Lone as lones
 use Rattle.cf_refinement.proofs.walks.Path as paths
 use Rattle.cf_refinement.proofs.walks.Port as ports
 use Rattle.cf_refinement.proofs.invariant.Sure as sure
-use Rattle.cf_semantics.specs.Path as trail
-use Rattle.cf_semantics.specs.Soundness.{Holds, is_lone, operations_of, steers, may_turn}
+use Rattle.cf_semantics.specs.claims.Path as trail
+use Rattle.cf_semantics.specs.claims.Soundness.{Holds, is_lone, operations_of, steers, may_turn}
 
 pub execute_finishes : (isa : Isa) (p : Passenger) (x : Machine) (g : Option ℕ) → p.done ≡ false → missing p.src1 ≡ None → missing p.src2 ≡ None → is_plain (kind p) ≡ true → sure.IsSure isa p x (step_at isa x p.pc) g → Finishes p x (step_at isa x p.pc) None
 execute_finishes isa p x g d m1 m2 c h = go (fetched isa x.hart.mem p.pc) refl h.reads

@@ -6,12 +6,12 @@ use Rattle.cf_bind.specs.declared.passenger.Guess.{Guess}
 use Rattle.cf_bind.specs.declared.passenger.Passenger.{Passenger}
 use Rattle.cf_refinement.proofs.instructions.Steps.{bad_step, free_bare, step_is}
 use Rattle.cf_refinement.proofs.invariant.Sure.{AreRegisters, IsSure, SureAt}
-use Rattle.cf_semantics.specs.Instructions.{Bad, Fetched, Goes, Got, Stops, at_pc, behind, dst_of, fetched, free_trap, is_free, kind_of, src1_of, src2_of, step_at, value_read, word_after}
-use Rattle.cf_semantics.specs.Options.{is_some, on}
-use Rattle.cf_semantics.specs.Passengers.{both, destination, fresh, fresh_as, fresh_end, fresh_fence, fresh_undone, goto, instruction, kind, missing, reg_in, requests, source}
-use Rattle.cf_semantics.specs.Path.{Walk, among}
-use Rattle.cf_semantics.specs.Steps.{onward, stepped_as}
-use Rattle.cf_semantics.specs.Soundness.{HasValue, Holds}
+use Rattle.cf_semantics.specs.moves.Instructions.{Bad, Fetched, Goes, Got, Stops, at_pc, behind, dst_of, fetched, free_trap, is_free, kind_of, src1_of, src2_of, step_at, value_read, word_after}
+use Rattle.cf_semantics.specs.state.Options.{is_some, on}
+use Rattle.cf_semantics.specs.state.Passengers.{both, destination, fresh, fresh_as, fresh_end, fresh_fence, fresh_undone, goto, instruction, kind, missing, reg_in, requests, source}
+use Rattle.cf_semantics.specs.claims.Path.{Walk, among}
+use Rattle.cf_semantics.specs.moves.Steps.{onward, stepped_as}
+use Rattle.cf_semantics.specs.claims.Soundness.{HasValue, Holds}
 use Rattle.rv_inst.specs.declared.classes.Class.{Class}
 use Rattle.rv_inst.specs.declared.classes.Class.TheVariants.{Free}
 use Rattle.rv_inst.specs.declared.isa.Isa.{Isa}

@@ -8,23 +8,23 @@ use Rattle.cf_refinement.proofs.instructions.Memory.{after_access, memory_steps}
 use Rattle.cf_refinement.proofs.instructions.Steps.{kind_is, plain_steps, straight_next, straight_trap}
 use Rattle.cf_refinement.proofs.invariant.Stands.{Stands}
 use Rattle.cf_refinement.proofs.invariant.Suited.{is_plain}
-use Rattle.cf_semantics.specs.Column.{Up}
-use Rattle.cf_semantics.specs.Instructions.{at_pc, Bad, Fetched, Goes, Got, Stepped, Stops, access_trap, behind, dst_of, fetched, is_control, is_free, is_memory, is_serial, kind_of, src1_of, src2_of, step_at, value_read, value_written, word_after}
-use Rattle.cf_semantics.specs.Layouts.{isa_of}
-use Rattle.cf_semantics.specs.Options.{on}
-use Rattle.cf_semantics.specs.Steps.{onward}
-use Rattle.cf_semantics.specs.Passengers.{goto, instruction, kind, missing, value_in}
+use Rattle.cf_semantics.specs.state.Column.{Up}
+use Rattle.cf_semantics.specs.moves.Instructions.{at_pc, Bad, Fetched, Goes, Got, Stepped, Stops, access_trap, behind, dst_of, fetched, is_control, is_free, is_memory, is_serial, kind_of, src1_of, src2_of, step_at, value_read, value_written, word_after}
+use Rattle.cf_semantics.specs.state.Layouts.{isa_of}
+use Rattle.cf_semantics.specs.state.Options.{on}
+use Rattle.cf_semantics.specs.moves.Steps.{onward}
+use Rattle.cf_semantics.specs.state.Passengers.{goto, instruction, kind, missing, value_in}
 use Rattle.mem_regions.specs.Access.{bounds_of}
 use Rattle.rv_inst.specs.Arithmetic.{next_pc}
 use Rattle.rv_inst.specs.declared.classes.Class.{Class}
 use Rattle.rv_inst.specs.declared.isa.Isa.{Isa}
 use Rattle.rv_machine.specs.Machine.{Machine}
 use Rattle.rv_mul.specs.Values.{value_of}
-use Rattle.cf_semantics.specs.Ahead as ahead
+use Rattle.cf_semantics.specs.claims.Ahead as ahead
 use Rattle.cf_refinement.proofs.invariant.Port as dock
 use Rattle.cf_refinement.proofs.invariant.Sure as sure
-use Rattle.cf_semantics.specs.Path as trail
-use Rattle.cf_semantics.specs.Soundness.{Holds, may_turn}
+use Rattle.cf_semantics.specs.claims.Path as trail
+use Rattle.cf_semantics.specs.claims.Soundness.{Holds, may_turn}
 
 -- the step goes on, to g
 pub record On (s : Stepped) (x : Machine) (g : Option ℕ) : Type 0 where

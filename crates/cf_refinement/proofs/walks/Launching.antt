@@ -8,18 +8,18 @@ use Rattle.cf_refinement.proofs.column.Change.{walk_path, walk_safe}
 use Rattle.cf_refinement.proofs.column.Fold.{Replaces}
 use Rattle.cf_refinement.proofs.invariant.Stands.{Between, Stands}
 use Rattle.cf_refinement.proofs.invariant.Suited.{Suits}
-use Rattle.cf_semantics.specs.Bars.{last_op}
-use Rattle.cf_semantics.specs.Column.{Down, Item, Up}
-use Rattle.cf_semantics.specs.Instructions.{access_trap, behind, is_memory, step_at}
-use Rattle.cf_semantics.specs.Layouts.{isa_of, launches, port}
-use Rattle.cf_semantics.specs.Options.{on}
-use Rattle.cf_semantics.specs.Passengers.{instruction, kind, missing, value_in}
-use Rattle.cf_semantics.specs.Walks.{Everywhere, walk}
+use Rattle.cf_semantics.specs.moves.Bars.{last_op}
+use Rattle.cf_semantics.specs.state.Column.{Down, Item, Up}
+use Rattle.cf_semantics.specs.moves.Instructions.{access_trap, behind, is_memory, step_at}
+use Rattle.cf_semantics.specs.state.Layouts.{isa_of, launches, port}
+use Rattle.cf_semantics.specs.state.Options.{on}
+use Rattle.cf_semantics.specs.state.Passengers.{instruction, kind, missing, value_in}
+use Rattle.cf_semantics.specs.claims.Walks.{Everywhere, walk}
 use Rattle.mem_regions.specs.Access.{bounds_of}
 use Rattle.rv_inst.specs.declared.classes.Class.{Class}
 use Rattle.rv_inst.specs.declared.isa.Isa.{Isa}
 use Rattle.rv_machine.specs.Machine.{Machine}
-use Rattle.cf_semantics.specs.Ahead as ahead
+use Rattle.cf_semantics.specs.claims.Ahead as ahead
 use Rattle.cf_refinement.proofs.invariant.Port as dock
 use Rattle.cf_refinement.proofs.invariant.Lone as lone
 use Rattle.cf_refinement.proofs.walks.Lone as lones
@@ -27,8 +27,8 @@ use Rattle.cf_refinement.proofs.walks.Marked.{marked_at}
 use Rattle.cf_refinement.proofs.walks.Path as paths
 use Rattle.cf_refinement.proofs.walks.Port as ports
 use Rattle.cf_refinement.proofs.invariant.Sure as sure
-use Rattle.cf_semantics.specs.Path as trail
-use Rattle.cf_semantics.specs.Soundness.{as_launched, in_siding, operations_in, operations_of}
+use Rattle.cf_semantics.specs.claims.Path as trail
+use Rattle.cf_semantics.specs.claims.Soundness.{as_launched, in_siding, operations_in, operations_of}
 
 -- launched: the passenger after Launch
 abbrev pub sent_out : Passenger → Passenger

@@ -10,16 +10,16 @@ use Rattle.cf_refinement.proofs.walks.Finishing.{finish_done, finish_kind}
 use Rattle.cf_refinement.proofs.instructions.Memory.{after_access, memory_steps}
 use Rattle.cf_refinement.proofs.walks.PathFinish.{Finishes}
 use Rattle.cf_refinement.proofs.instructions.Steps.{sure_dst_below, kind_is, straight_next, straight_trap}
-use Rattle.cf_semantics.specs.Column.{Up}
-use Rattle.cf_semantics.specs.Instructions.{Goes, access_trap, behind, dst_of, is_control, is_memory, kind_of, step_at, value_written}
-use Rattle.cf_semantics.specs.Passengers.{finish, goto_undone, guessed, instruction, kind, missing, reg_in, value_in}
+use Rattle.cf_semantics.specs.state.Column.{Up}
+use Rattle.cf_semantics.specs.moves.Instructions.{Goes, access_trap, behind, dst_of, is_control, is_memory, kind_of, step_at, value_written}
+use Rattle.cf_semantics.specs.state.Passengers.{finish, goto_undone, guessed, instruction, kind, missing, reg_in, value_in}
 use Rattle.mem_regions.specs.Access.{bounds_of}
 use Rattle.rv_inst.specs.declared.isa.Isa.{Isa}
 use Rattle.rv_machine.specs.Machine.{Machine}
 use Rattle.cf_refinement.proofs.invariant.Lone as lone
 use Rattle.cf_refinement.proofs.invariant.Sure as sure
-use Rattle.cf_semantics.specs.Path as trail
-use Rattle.cf_semantics.specs.Soundness.{IsAnswer, may_turn}
+use Rattle.cf_semantics.specs.claims.Path as trail
+use Rattle.cf_semantics.specs.claims.Soundness.{IsAnswer, may_turn}
 
 memory_straight : (p : Passenger) → is_memory (kind p) ≡ true → is_control (kind p) ≡ false
 memory_straight p m = grind arith

@@ -8,8 +8,8 @@ use Rattle.cf_refinement.proofs.column.Fold.{IsWalk, Replaces}
 use Rattle.cf_refinement.proofs.walks.PathMeet.{met_items}
 use Rattle.cf_refinement.proofs.invariant.Lone.{Fits, past}
 use Rattle.cf_refinement.proofs.invariant.Stands.{Stands}
-use Rattle.cf_semantics.specs.Column.{Down, Item, Up}
-use Rattle.cf_semantics.specs.Options.{is_some}
+use Rattle.cf_semantics.specs.state.Column.{Down, Item, Up}
+use Rattle.cf_semantics.specs.state.Options.{is_some}
 
 pub record Follows (b v : Bool) : Type 0 where
   pub shut : v ≡ true → b ≡ true

@@ -1,9 +1,9 @@
 -- A passenger whose marks, launched and recovered, are set: the path takes no notice.
 use Rattle.std.proofs.Common.{Bool}
 use Rattle.cf_bind.specs.declared.passenger.Passenger.{Passenger}
-use Rattle.cf_semantics.specs.Instructions.{Bad, Fetched, Got, fetched}
-use Rattle.cf_semantics.specs.Path.{Walk}
-use Rattle.cf_semantics.specs.Soundness.{Holds}
+use Rattle.cf_semantics.specs.moves.Instructions.{Bad, Fetched, Got, fetched}
+use Rattle.cf_semantics.specs.claims.Path.{Walk}
+use Rattle.cf_semantics.specs.claims.Soundness.{Holds}
 use Rattle.rv_inst.specs.declared.isa.Isa.{Isa}
 use Rattle.cf_refinement.proofs.invariant.Sure.{SureAt}
 

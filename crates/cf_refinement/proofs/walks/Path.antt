@@ -4,9 +4,9 @@ use Rattle.cf_bind.specs.declared.packet.Packet.{Packet}
 use Rattle.cf_bind.specs.declared.passenger.Passenger.{Passenger}
 use Rattle.cf_refinement.proofs.column.Fold.{IsWalk}
 use Rattle.cf_refinement.proofs.invariant.Sure.{Fits, IsSourced, SureAt}
-use Rattle.cf_semantics.specs.Column.{Down, Item, Up}
-use Rattle.cf_semantics.specs.Path.{Walk, is_sure, past, past_packet, past_passenger}
-use Rattle.cf_semantics.specs.Walks.{Everywhere, walk}
+use Rattle.cf_semantics.specs.state.Column.{Down, Item, Up}
+use Rattle.cf_semantics.specs.claims.Path.{Walk, is_sure, past, past_packet, past_passenger}
+use Rattle.cf_semantics.specs.claims.Walks.{Everywhere, walk}
 use Rattle.rv_inst.specs.declared.isa.Isa.{Isa}
 
 pub record Follows (w v : Walk) : Type 0 where

@@ -10,13 +10,13 @@ use Rattle.cf_bind.specs.declared.passenger.Passenger.{Passenger}
 use Rattle.cf_refinement.proofs.walks.Path.{Follows}
 use Rattle.cf_refinement.proofs.instructions.Steps.{sure_dst_below, finish_traps}
 use Rattle.cf_refinement.proofs.invariant.Sure.{Fits, IsSure, Owed, SureAt}
-use Rattle.cf_semantics.specs.Column.{Up}
-use Rattle.cf_semantics.specs.Instructions.{Bad, Fetched, Goes, Got, Stepped, Stops, behind, dst_of, fetched, finish_trap, step_at, value_read, value_written}
-use Rattle.cf_semantics.specs.Options.{on}
-use Rattle.cf_semantics.specs.Passengers.{finish, finished, goto_undone, guessed, instruction, is_place, kind, missing, reg_in, trapped, value_in, value_packet, with_value}
-use Rattle.cf_semantics.specs.Path.{Walk, is_trap, past}
-use Rattle.cf_semantics.specs.Walks.{Everywhere, walk}
-use Rattle.cf_semantics.specs.Soundness.{HasValue, Holds, IsKnown, OwesValue}
+use Rattle.cf_semantics.specs.state.Column.{Up}
+use Rattle.cf_semantics.specs.moves.Instructions.{Bad, Fetched, Goes, Got, Stepped, Stops, behind, dst_of, fetched, finish_trap, step_at, value_read, value_written}
+use Rattle.cf_semantics.specs.state.Options.{on}
+use Rattle.cf_semantics.specs.state.Passengers.{finish, finished, goto_undone, guessed, instruction, is_place, kind, missing, reg_in, trapped, value_in, value_packet, with_value}
+use Rattle.cf_semantics.specs.claims.Path.{Walk, is_trap, past}
+use Rattle.cf_semantics.specs.claims.Walks.{Everywhere, walk}
+use Rattle.cf_semantics.specs.claims.Soundness.{HasValue, Holds, IsKnown, OwesValue}
 use Rattle.rv_inst.specs.Arithmetic.{next_pc}
 use Rattle.rv_inst.specs.declared.isa.Isa.{Isa}
 use Rattle.rv_machine.specs.Machine.{Machine}

@@ -9,12 +9,12 @@ use Rattle.cf_bind.specs.declared.passenger.Passenger.{Passenger}
 use Rattle.cf_refinement.proofs.walks.Path.{Follows}
 use Rattle.cf_refinement.proofs.instructions.Steps.{sure_keeps}
 use Rattle.cf_refinement.proofs.invariant.Sure.{Comes, Fits, IsSourced, IsSure, SureAt}
-use Rattle.cf_semantics.specs.Column.{Down, Item, Up}
-use Rattle.cf_semantics.specs.Instructions.{Stepped, behind, step_at}
-use Rattle.cf_semantics.specs.Passengers.{reg_in}
-use Rattle.cf_semantics.specs.Path.{Walk, has_reg, past, past_packet}
-use Rattle.cf_semantics.specs.Walks.{Everywhere, walk}
-use Rattle.cf_semantics.specs.Soundness.{HasValue}
+use Rattle.cf_semantics.specs.state.Column.{Down, Item, Up}
+use Rattle.cf_semantics.specs.moves.Instructions.{Stepped, behind, step_at}
+use Rattle.cf_semantics.specs.state.Passengers.{reg_in}
+use Rattle.cf_semantics.specs.claims.Path.{Walk, has_reg, past, past_packet}
+use Rattle.cf_semantics.specs.claims.Walks.{Everywhere, walk}
+use Rattle.cf_semantics.specs.claims.Soundness.{HasValue}
 use Rattle.rv_inst.specs.declared.isa.Isa.{Isa}
 use Rattle.rv_machine.specs.Machine.{Machine}
 

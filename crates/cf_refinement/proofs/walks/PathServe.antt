@@ -6,12 +6,12 @@ use Rattle.cf_bind.specs.declared.passenger.End.TheVariants.{Exit}
 use Rattle.cf_bind.specs.declared.passenger.Passenger.{Passenger}
 use Rattle.cf_refinement.proofs.walks.PathFinish.{set_agrees, set_known, set_reg}
 use Rattle.cf_refinement.proofs.instructions.Steps.{step_is, sure_dst_below}
-use Rattle.cf_semantics.specs.Instructions.{Bad, Fetched, Goes, Got, Stops, at_pc, dst_of, fetched, kind_of, serve_of, src1_of, src2_of, step_at, value_read, value_written, word_after}
-use Rattle.cf_semantics.specs.Moves.{answered}
-use Rattle.cf_semantics.specs.Options.{on}
-use Rattle.cf_semantics.specs.Passengers.{instruction, kind}
-use Rattle.cf_semantics.specs.Steps.{served, stepped_as}
-use Rattle.cf_semantics.specs.Soundness.{Holds}
+use Rattle.cf_semantics.specs.moves.Instructions.{Bad, Fetched, Goes, Got, Stops, at_pc, dst_of, fetched, kind_of, serve_of, src1_of, src2_of, step_at, value_read, value_written, word_after}
+use Rattle.cf_semantics.specs.moves.Moves.{answered}
+use Rattle.cf_semantics.specs.state.Options.{on}
+use Rattle.cf_semantics.specs.state.Passengers.{instruction, kind}
+use Rattle.cf_semantics.specs.moves.Steps.{served, stepped_as}
+use Rattle.cf_semantics.specs.claims.Soundness.{Holds}
 use Rattle.rv_inst.specs.declared.classes.Class.{Class}
 use Rattle.rv_inst.specs.declared.classes.Class.TheVariants.{Free, Serial}
 use Rattle.rv_inst.specs.declared.isa.Isa.{Isa}

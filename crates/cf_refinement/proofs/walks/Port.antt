@@ -4,17 +4,17 @@ use Rattle.std.specs.Prelude.{if◌then◌else◌}
 use Rattle.cf_bind.specs.declared.packet.Packet.{Packet}
 use Rattle.cf_bind.specs.declared.passenger.Passenger.{Passenger}
 use Rattle.cf_refinement.proofs.column.Fold.{IsWalk}
-use Rattle.cf_semantics.specs.Fetches.{code_of}
+use Rattle.cf_semantics.specs.moves.Fetches.{code_of}
 use Rattle.cf_refinement.proofs.invariant.Port.{Dock, DockedAt, Fits, past, past_passenger}
-use Rattle.cf_semantics.specs.Ahead.{flies, has_ported, has_served}
-use Rattle.cf_semantics.specs.Column.{Down, Item, Up}
-use Rattle.cf_semantics.specs.Instructions.{behind, is_memory, step_at}
-use Rattle.cf_semantics.specs.Passengers.{kind}
+use Rattle.cf_semantics.specs.claims.Ahead.{flies, has_ported, has_served}
+use Rattle.cf_semantics.specs.state.Column.{Down, Item, Up}
+use Rattle.cf_semantics.specs.moves.Instructions.{behind, is_memory, step_at}
+use Rattle.cf_semantics.specs.state.Passengers.{kind}
 use Rattle.rv_inst.specs.declared.isa.Isa.{Isa}
 use Rattle.rv_machine.specs.Machine.{Machine}
 use Rattle.cf_refinement.proofs.walks.Path as paths
-use Rattle.cf_semantics.specs.Path as trail
-use Rattle.cf_semantics.specs.Soundness.{may_turn}
+use Rattle.cf_semantics.specs.claims.Path as trail
+use Rattle.cf_semantics.specs.claims.Soundness.{may_turn}
 
 pub record Follows (w v : Dock) : Type 0 where
   pub path : paths.Follows w.path v.path

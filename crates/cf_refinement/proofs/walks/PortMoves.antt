@@ -7,12 +7,12 @@ use Rattle.cf_bind.specs.declared.passenger.Passenger.{Passenger}
 use Rattle.cf_refinement.proofs.walks.PathMeet.{met_items}
 use Rattle.cf_refinement.proofs.walks.Port.{Follows}
 use Rattle.cf_refinement.proofs.invariant.Port.{Dock, DockedAt, Fits, past}
-use Rattle.cf_semantics.specs.Column.{Down, Up}
-use Rattle.cf_semantics.specs.Passengers.{missing}
-use Rattle.cf_semantics.specs.Walks.{Everywhere, walk}
+use Rattle.cf_semantics.specs.state.Column.{Down, Up}
+use Rattle.cf_semantics.specs.state.Passengers.{missing}
+use Rattle.cf_semantics.specs.claims.Walks.{Everywhere, walk}
 use Rattle.rv_inst.specs.declared.isa.Isa.{Isa}
 use Rattle.cf_refinement.proofs.walks.Path as paths
-use Rattle.cf_semantics.specs.Path as trail
+use Rattle.cf_semantics.specs.claims.Path as trail
 
 -- Send
 pub send_fits : (isa : Isa) (i : ℕ) (p : Passenger) (k : Packet) (w : Dock) → p.owes ≡ Some k → Everywhere (Fits isa) (past isa) (Up i p ∷ []) w → Everywhere (Fits isa) (past isa) (Up i (record p { owes = None }) ∷ Down i k ∷ []) w

@@ -1,5 +1,5 @@
 -- Where nothing above holds fetch, the core's code is that of the machine behind the sure passengers.
-use Rattle.cf_semantics.specs.Fetches.{code_of}
+use Rattle.cf_semantics.specs.moves.Fetches.{code_of}
 use Rattle.std.proofs.Common.{◌≡◌, ℕ, List, [], ◌∷◌, Bool, true, false, arith}
 use Rattle.cf_bind.specs.declared.passenger.Passenger.{Passenger}
 use Rattle.cf_layout.specs.Layout.{Plan}
@@ -7,18 +7,18 @@ use Rattle.cf_refinement.proofs.column.Change.{past_safe}
 use Rattle.cf_refinement.proofs.walks.Order.{past_path, walk_open}
 use Rattle.cf_refinement.proofs.walks.Port.{served_calm}
 use Rattle.cf_refinement.proofs.instructions.Steps.{sure_leaves}
-use Rattle.cf_semantics.specs.Column.{Down, Item, Up}
-use Rattle.cf_semantics.specs.Instructions.{behind, is_serial, step_at}
-use Rattle.cf_semantics.specs.Layouts.{isa_of}
-use Rattle.cf_semantics.specs.Passengers.{kind}
-use Rattle.cf_semantics.specs.Walks.{Everywhere, walk}
+use Rattle.cf_semantics.specs.state.Column.{Down, Item, Up}
+use Rattle.cf_semantics.specs.moves.Instructions.{behind, is_serial, step_at}
+use Rattle.cf_semantics.specs.state.Layouts.{isa_of}
+use Rattle.cf_semantics.specs.state.Passengers.{kind}
+use Rattle.cf_semantics.specs.claims.Walks.{Everywhere, walk}
 use Rattle.rv_inst.specs.declared.isa.Isa.{Isa}
-use Rattle.cf_semantics.specs.Ahead as ahead
+use Rattle.cf_semantics.specs.claims.Ahead as ahead
 use Rattle.cf_refinement.proofs.invariant.Port as dock
 use Rattle.cf_refinement.proofs.invariant.Lone as lone
 use Rattle.cf_refinement.proofs.invariant.Sure as sure
-use Rattle.cf_semantics.specs.Path as trail
-use Rattle.cf_semantics.specs.Soundness.{is_lone}
+use Rattle.cf_semantics.specs.claims.Path as trail
+use Rattle.cf_semantics.specs.claims.Soundness.{is_lone}
 
 open_holds : (l : Plan) (i : ℕ) (p : Passenger) (b : Bool) → lone.past l (Up i p) b ≡ false → is_lone p ≡ false
 unfolding lone.past

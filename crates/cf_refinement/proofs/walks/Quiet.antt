@@ -2,13 +2,13 @@
 use Rattle.std.proofs.Common.{◌≡◌, ℕ, List, [], ◌∷◌, Bool, true, false, ◌||◌, refl, ◌∙◌}
 use Rattle.cf_bind.specs.declared.passenger.Passenger.{Passenger}
 use Rattle.cf_refinement.proofs.walks.Port.{ported_calm, served_calm}
-use Rattle.cf_semantics.specs.Column.{Down, Item, Up}
-use Rattle.cf_semantics.specs.Walks.{Everywhere, walk}
+use Rattle.cf_semantics.specs.state.Column.{Down, Item, Up}
+use Rattle.cf_semantics.specs.claims.Walks.{Everywhere, walk}
 use Rattle.rv_inst.specs.declared.isa.Isa.{Isa}
-use Rattle.cf_semantics.specs.Ahead as ahead
+use Rattle.cf_semantics.specs.claims.Ahead as ahead
 use Rattle.cf_refinement.proofs.invariant.Port as dock
-use Rattle.cf_semantics.specs.Path as trail
-use Rattle.cf_semantics.specs.Soundness.{may_turn}
+use Rattle.cf_semantics.specs.claims.Path as trail
+use Rattle.cf_semantics.specs.claims.Soundness.{may_turn}
 
 -- what the port comes to
 pub record Unchanged (w v : dock.Dock) : Type 0 where

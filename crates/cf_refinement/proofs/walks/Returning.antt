@@ -6,17 +6,17 @@ use Rattle.cf_layout.specs.Layout.{Plan}
 use Rattle.cf_refinement.proofs.walks.Marked.{marked_at}
 use Rattle.cf_refinement.proofs.walks.Finishing.{finish_dead, finish_done, finish_flags, finish_kind}
 use Rattle.cf_refinement.proofs.invariant.Stands.{Behind, Stands}
-use Rattle.cf_semantics.specs.Column.{Up}
-use Rattle.cf_semantics.specs.Instructions.{is_free, is_memory, is_serial}
-use Rattle.cf_semantics.specs.Passengers.{finish, goto, goto_done, goto_undone, kind}
+use Rattle.cf_semantics.specs.state.Column.{Up}
+use Rattle.cf_semantics.specs.moves.Instructions.{is_free, is_memory, is_serial}
+use Rattle.cf_semantics.specs.state.Passengers.{finish, goto, goto_done, goto_undone, kind}
 use Rattle.rv_inst.specs.declared.classes.Class.{Class}
 use Rattle.rv_inst.specs.declared.classes.Class.TheVariants.{Serial}
 use Rattle.rv_inst.specs.declared.isa.Isa.{Isa}
-use Rattle.cf_semantics.specs.Ahead as ahead
+use Rattle.cf_semantics.specs.claims.Ahead as ahead
 use Rattle.cf_refinement.proofs.invariant.Port as dock
 use Rattle.cf_refinement.proofs.invariant.Lone as lone
 use Rattle.cf_refinement.proofs.invariant.Sure as sure
-use Rattle.cf_semantics.specs.Path as trail
+use Rattle.cf_semantics.specs.claims.Path as trail
 
 abbrev pub back : Passenger → Passenger
 back p = record p { recovered = true }

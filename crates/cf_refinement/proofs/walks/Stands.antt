@@ -5,9 +5,9 @@ use Rattle.cf_bind.specs.declared.packet.Packet.{Packet}
 use Rattle.cf_bind.specs.declared.passenger.Passenger.{Passenger}
 use Rattle.cf_layout.specs.Layout.{Plan}
 use Rattle.cf_refinement.proofs.invariant.Stands.{Behind, Between, Each, Low, Stands}
-use Rattle.cf_semantics.specs.Bars.{stops_at}
-use Rattle.cf_semantics.specs.Column.{Down, Item, Up}
-use Rattle.cf_semantics.specs.Passengers.{kind}
+use Rattle.cf_semantics.specs.moves.Bars.{stops_at}
+use Rattle.cf_semantics.specs.state.Column.{Down, Item, Up}
+use Rattle.cf_semantics.specs.state.Passengers.{kind}
 
 pub each_append : (l : Plan) (xs ys : List Item) → Each l xs → Each l ys → Each l (xs ++ ys)
 each_append l [] ys a b = b

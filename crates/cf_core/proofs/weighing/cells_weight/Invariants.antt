@@ -1,5 +1,5 @@
 use Rattle.std.proofs.Common.{◌≡◌, ◌+◌, ◌*◌, ◌≤◌, drop, length}
-use Rattle.cf_semantics.specs.Weight.{cells_weight}
+use Rattle.cf_semantics.specs.claims.Weight.{cells_weight}
 use Rattle.cf_core.proofs.weighing.cells_weight.Given as goal
 
 -- what is counted and the stages that are left weigh what all weigh

@@ -1,5 +1,5 @@
 use Rattle.std.proofs.Common.{◌≡◌, ◌+◌, ◌*◌, ◌≤◌, drop, length}
-use Rattle.cf_semantics.specs.Weight.{siding_weight}
+use Rattle.cf_semantics.specs.claims.Weight.{siding_weight}
 use Rattle.cf_core.proofs.weighing.siding_weight.Given as goal
 
 -- what is counted and the cells that are left weigh what all weigh

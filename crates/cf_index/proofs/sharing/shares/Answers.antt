@@ -1,6 +1,6 @@
 use Rattle.std.proofs.Common.{◌≡◌}
 use Rattle.std.specs.Prelude.{◌&&◌}
-use Rattle.cf_semantics.specs.Sites.{Code, Fetching, Lane, Memory}
+use Rattle.cf_semantics.specs.moves.Sites.{Code, Fetching, Lane, Memory}
 use Rattle.cf_index.proofs.SharedSites.{both_use, shares_tested}
 use Rattle.cf_index.proofs.sharing.shares.Goals as goal
 

@@ -1,6 +1,6 @@
 use Rattle.std.proofs.Common.{◌∙◌, ap}
 use Rattle.std.specs.Prelude.{filter, find}
-use Rattle.cf_semantics.specs.Candidates.{slides_from}
+use Rattle.cf_semantics.specs.moves.Candidates.{slides_from}
 use Rattle.cf_index.specs.Allowed.{all_leaving, is_allowed}
 use Rattle.cf_index.specs.Order.{stands_behind}
 use Rattle.cf_index.proofs.Leavings.{found_here, found_there}

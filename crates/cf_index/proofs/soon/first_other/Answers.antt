@@ -1,7 +1,7 @@
 use Rattle.std.proofs.Common.{◌∙◌, ◌++◌, ap, sym, List, Some}
 use Rattle.std.specs.Prelude.{filter, slice_get}
 use Rattle.cf_bind.specs.declared.moves.Move.{Move}
-use Rattle.cf_semantics.specs.Candidates.{slides_from}
+use Rattle.cf_semantics.specs.moves.Candidates.{slides_from}
 use Rattle.cf_index.specs.Allowed.{all_leaving, all_passing, is_allowed}
 use Rattle.cf_index.proofs.Firsts.{emit_barred, found_part, next_part}
 use Rattle.cf_index.proofs.soon.first_other.Goals as goal

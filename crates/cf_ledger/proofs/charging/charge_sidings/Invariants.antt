@@ -1,5 +1,5 @@
 use Rattle.std.proofs.Common.{◌≡◌, length, map, take}
-use Rattle.cf_semantics.specs.Candidates.{counted_from}
+use Rattle.cf_semantics.specs.moves.Candidates.{counted_from}
 use Rattle.cf_timed.specs.Clocks.{number_at}
 use Rattle.cf_ledger.specs.Breakdowns.{uses_siding}
 use Rattle.cf_ledger.specs.Ledgers.{plus_if}

@@ -1,6 +1,6 @@
 -- The processor is what it was before the move, and the words are kept up to date with the stages that the move had touched.
 use Rattle.std.proofs.Common.{◌≡◌, ◌∙◌, None, ap, sym, subst}
-use Rattle.cf_semantics.specs.Bars.{row_bar}
+use Rattle.cf_semantics.specs.moves.Bars.{row_bar}
 use Rattle.cf_core.specs.Marks.{Within, marks_of, remarked, touched}
 use Rattle.cf_core.specs.Processors.{Processor, IsProcessor}
 use Rattle.cf_core.specs.Undo.{IsAfter, kept_by}

@@ -1,7 +1,7 @@
 -- The words are kept up to date with the two stages that the move touches, or are what they were.
 use Rattle.std.proofs.Common.{◌≡◌, ◌∙◌, None, subst, sym}
 use Rattle.rv_machine.specs.Streams.{streams_of}
-use Rattle.cf_semantics.specs.Bars.{bar}
+use Rattle.cf_semantics.specs.moves.Bars.{bar}
 use Rattle.cf_core.specs.Processors.{Processor}
 use Rattle.cf_core.proofs.KeptMarks.{kept-marks, made-marks, made-within}
 use Rattle.cf_core.proofs.KeptServe.{made-kept, unbarred}

@@ -2,7 +2,7 @@
 use Rattle.std.proofs.Common.{ap, ◌∙◌, ℕ}
 use Rattle.std.specs.Prelude.{replicate}
 use Rattle.cf_ends.specs.Ends.{PipeEnds}
-use Rattle.cf_semantics.specs.Runs.{empty_cell}
+use Rattle.cf_semantics.specs.runs.Runs.{empty_cell}
 use Rattle.cf_core.proofs.Opened.{opened-is, opened-marks}
 use Rattle.cf_core.proofs.counterflow.Core.new.Goals as goal
 

@@ -1,5 +1,5 @@
 use Rattle.std.proofs.Common.{◌∙◌, ap}
-use Rattle.cf_semantics.specs.State.{siding_at}
+use Rattle.cf_semantics.specs.state.State.{siding_at}
 use Rattle.cf_core.specs.Processors.{Processor}
 use Rattle.cf_core.proofs.Berths.{last-indexed}
 use Rattle.cf_core.proofs.processor.Processor.last_op.Goals as goal

@@ -1,5 +1,5 @@
 use Rattle.std.proofs.Common.{◌≡◌, ◌≤◌, drop}
-use Rattle.cf_semantics.specs.Weight.{larger, most_cells}
+use Rattle.cf_semantics.specs.claims.Weight.{larger, most_cells}
 use Rattle.cf_core.proofs.processor.Processor.most_cells.Given as goal
 
 -- the most cells of the sidings so far, and of those that are left

@@ -1,5 +1,5 @@
 use Rattle.std.proofs.Common.{◌≡◌, ◌+◌, ◌*◌, ◌≤◌, drop}
-use Rattle.cf_semantics.specs.Weight.{sidings_weight}
+use Rattle.cf_semantics.specs.claims.Weight.{sidings_weight}
 use Rattle.cf_core.proofs.processor.Processor.sidings_weight.Given as goal
 
 -- what is counted and the sidings that are left weigh what all weigh

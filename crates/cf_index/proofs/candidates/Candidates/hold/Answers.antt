@@ -1,5 +1,5 @@
 use Rattle.std.proofs.Common.{◌∙◌, sym, ap}
-use Rattle.cf_semantics.specs.Candidates.{held_back}
+use Rattle.cf_semantics.specs.moves.Candidates.{held_back}
 use Rattle.cf_index.specs.Listed.{entering_moves, passing_moves, slides_of, leaving_moves}
 use Rattle.cf_index.proofs.Parts.{length-slides_of}
 use Rattle.cf_index.proofs.Held.{holds_others, holds_alone, others_behind}

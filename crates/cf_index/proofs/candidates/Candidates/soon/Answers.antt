@@ -1,7 +1,7 @@
 use Rattle.std.proofs.Common.{◌≡◌, Some, sym, subst}
 use Rattle.std.specs.Prelude.{IfSome, slice_get}
 use Rattle.cf_bind.specs.declared.moves.Move.{Move}
-use Rattle.cf_semantics.specs.Candidates.{candidates}
+use Rattle.cf_semantics.specs.moves.Candidates.{candidates}
 use Rattle.cf_index.specs.Allowed.{withheld}
 use Rattle.cf_index.specs.Order.{first_behind}
 use Rattle.cf_index.proofs.Behinds.{no_issue_first, no_slide}

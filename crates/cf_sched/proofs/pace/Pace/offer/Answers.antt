@@ -1,6 +1,6 @@
 use Rattle.std.proofs.Common.{◌∙◌, sym, ap}
-use Rattle.cf_semantics.specs.Candidates.{held_back}
-use Rattle.cf_semantics.specs.Holding.{offered}
+use Rattle.cf_semantics.specs.moves.Candidates.{held_back}
+use Rattle.cf_semantics.specs.moves.Holding.{offered}
 use Rattle.cf_sched.proofs.pace.Pace.offer.Goals as goal
 
 pub returns-then-held-clause-offered : goal.returns-then-held-clause-offered

@@ -1,7 +1,7 @@
 -- What was read of the two pipes and the word is what stands in the stage.
 use Rattle.std.proofs.Common.{◌∙◌, ap, List}
 use Rattle.cf_bind.specs.declared.cell.Cell.{Cell}
-use Rattle.cf_semantics.specs.State.{cell_at}
+use Rattle.cf_semantics.specs.state.State.{cell_at}
 use Rattle.cf_stages.proofs.Kept.{cell-has, cell-read, within-pipe}
 use Rattle.cf_stages.proofs.stages.Stages.cell.Goals as goal
 

@@ -1,7 +1,7 @@
 use Rattle.std.proofs.Common.{◌≡◌, map}
 use Rattle.std.specs.Prelude.{◌==◌, filter}
 use Rattle.cf_layout.specs.Layout.{launch_stage}
-use Rattle.cf_semantics.specs.Candidates.{counted_from}
+use Rattle.cf_semantics.specs.moves.Candidates.{counted_from}
 use Rattle.cf_index.specs.Sites.{way_in}
 use Rattle.cf_timed.specs.Clocks.{time_at}
 use Rattle.cf_timed.specs.Times.{greatest}

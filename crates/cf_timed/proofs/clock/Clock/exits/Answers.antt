@@ -2,7 +2,7 @@ use Rattle.std.proofs.Common.{◌≡◌, ◌∙◌, ap, ℕ, cond, arith}
 use Rattle.std.specs.Prelude.{◌==◌, ◌-◌}
 use Rattle.cf_layout.specs.Layout.{Plan, recover_stage}
 use Rattle.cf_layout.specs.Layout.{cells_of}
-use Rattle.cf_semantics.specs.Sites.{SidingCell}
+use Rattle.cf_semantics.specs.moves.Sites.{SidingCell}
 use Rattle.cf_index.specs.Sites.{way_out}
 use Rattle.cf_timed.specs.Clocks.{time_at}
 use Rattle.cf_timed.proofs.SiteTimes.{greatest_more}

@@ -1,0 +1,69 @@
+-- Which passenger a move acts for, and whether that one is on the sequential path.
+use Rattle.std.specs.Prelude.{◌≡◌, ◌⊎◌, ℕ, List, [], ◌∷◌, ◌++◌, Option, Some, None, true, false}
+use Rattle.rv_inst.specs.declared.isa.Isa.{Isa}
+use Rattle.rv_machine.specs.Machine.{Machine}
+use Rattle.rv_machine.specs.After.{after}
+use Rattle.cf_layout.specs.Layout.{Plan}
+use Rattle.cf_bind.specs.declared.cell.Op.{Op}
+use Rattle.cf_bind.specs.declared.passenger.Passenger.{Passenger}
+use Rattle.cf_bind.specs.declared.moves.Move.{Move}
+use Rattle.cf_bind.specs.declared.moves.Move.TheVariants.{Access, Leave, Serve}
+use Rattle.cf_semantics.specs.state.State.{State, Moment, siding_at}
+use Rattle.cf_semantics.specs.state.Column.{Item, Up, Down, column}
+use Rattle.cf_semantics.specs.claims.Ahead.{flies}
+use Rattle.cf_semantics.specs.state.Layouts.{isa_of, port}
+use Rattle.cf_semantics.specs.moves.Bars.{last_op}
+use Rattle.cf_semantics.specs.moves.Moves.{next, operation}
+use Rattle.cf_semantics.specs.claims.Walks.{walk}
+use Rattle.cf_semantics.specs.claims.Path as path
+use Rattle.cf_semantics.specs.claims.Right as right
+use Rattle.cf_semantics.specs.claims.Refines.{gained}
+
+-- every sure passenger above it is on the path and goes on, and it stands where the machine then is
+pub record OnWay (isa : Isa) (s : State) (x : Machine) (above : List Item) (p : Passenger) : Type 0 where
+  pub sure : path.is_sure p (walk (right.past isa) above (right.begin s x)).path ≡ true
+  pub on : (walk (right.past isa) above (right.begin s x)).on ≡ true
+  pub pc : p.pc ≡ (walk (right.past isa) above (right.begin s x)).path.machine.hart.pc
+
+-- memory, registers, input, output and ending stay
+pub record Unmoved (m k : Moment) : Type 0 where
+  pub regs : k.state.regs ≡ m.state.regs
+  pub mem : k.state.mem ≡ m.state.mem
+  pub rest : k.rest ≡ m.rest
+  pub output : k.output ≡ m.output
+  pub ending : k.state.ending ≡ m.state.ending
+
+-- no passenger of these has its load or store in Memory's siding
+abbrev pub NoneFlies : List Item → Type 0
+NoneFlies [] = Unit {0}
+NoneFlies (Up i p ∷ items) = (flies p ≡ false) × NoneFlies items
+NoneFlies (Down i k ∷ items) = NoneFlies items
+
+-- an operation as it was launched
+abbrev pub as_launched : Option Op → Option Op
+as_launched None = None
+as_launched (Some op) = Some (record op { answer = None })
+
+-- the move acts for this passenger, above which these items stand: the one of the highest stage; or, of those whose load or store is in Memory's siding, the one that stands highest, whose operation so is the one at the siding's end
+abbrev pub ActsFor : Plan → State → Move → List Item → ℕ → Passenger → Type 0
+ActsFor plan s Leave above i p = i ≡ plan.stages
+ActsFor plan s Serve above i p = i ≡ plan.stages
+ActsFor plan s Access above i p =
+    (flies p ≡ true) × NoneFlies above × (as_launched (last_op (siding_at s (port plan))) ≡ Some (operation p))
+ActsFor plan s mv above i p = ⊥
+
+-- the move acts for a passenger of the column that is on the sequential path
+pub record Acted (plan : Plan) (s : State) (x : Machine) (mv : Move) : Type 0 where
+  pub above : List Item
+  pub below : List Item
+  pub stage : ℕ
+  pub who : Passenger
+  pub was : column s ≡ above ++ (Up stage who ∷ below)
+  pub acts : ActsFor plan s mv above stage who
+  pub way : OnWay (isa_of plan) s x above who
+
+-- a move changes nothing of these, or acts for a passenger on the sequential path
+abbrev pub Heeds : Plan → Machine → Moment → Move → Type 0
+Heeds plan start m mv =
+    Unmoved m (next plan m mv)
+    ⊎ ((x : Machine) × (after (isa_of plan) start (gained start m.state) ≡ Some x) × Acted plan m.state x mv)

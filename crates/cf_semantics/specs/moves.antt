@@ -1,0 +1,11 @@
+-- The fourteen moves: what instructions do on their way, what bars each move, what it does, and what is seen of it.
+pub mod Instructions
+pub mod Bars
+pub mod Moves
+pub mod Steps
+pub mod Fetches
+pub mod Sites
+pub mod Events
+pub mod Kept
+pub mod Candidates
+pub mod Holding
