@@ -57,9 +57,15 @@ CLOSED = {
     "gen": ("", RUN),
 }
 
+# What `time` tells of a layout, and of what its time is made of.
+MEASURED = r"[^\n]+: [^\n]+ time [0-9]+ moves [0-9]+ retired [0-9]+\n"
+KINDS = r"(?: [a-z]+=[1-9][0-9]*){0,14}\n"
+SITES = rf"(?:stage [0-9]+ busy [0-9]+\n){{2,32}}(?:siding [0-7] busy [0-9]+\n)*moves{KINDS}chain{KINDS}"
+
 # The report of a command that was carried out and closes with no such line.
 DONE = {
-    "time": rf"(?:[^\n]+: [^\n]+ time [0-9]+ moves [0-9]+ retired [0-9]+\n(?:(?:stage|siding|moves|chain)[^\n]*\n)*)+least [^\n]+\n",
+    "time": rf"(?:{MEASURED})+least [^\n]+\n",
+    "time --show sites": rf"(?:{MEASURED}{SITES})+least [^\n]+\n",
     "audit": r"trace of [0-9]+ moves\n",
     "debug": SESSION,
     "gen": "",
@@ -83,11 +89,13 @@ def is_refusal(status, report):
     return status in REFUSALS and re.fullmatch(f"(?:{REFUSALS[status]})\n", report, re.DOTALL) is not None
 
 
-def has_form(command, status, report):
-    """Whether the report is what this command writes with this status."""
+def has_form(words, status, report):
+    """Whether the report is what the command of these words writes with this status."""
+    command = words[0] if words else ""
+    done = "time --show sites" if command == "time" and "sites" in words else command
     if is_refusal(status, report):
         return True
-    if status == 0 and re.fullmatch(DONE.get(command, "$^" if command in CLOSED else ""), report):
+    if status == 0 and re.fullmatch(DONE.get(done, "$^" if command in CLOSED else ""), report):
         return True
     if command == "debug":
         return re.fullmatch(rf"{SESSION}{first_line(status)}\n", report) is not None
@@ -113,7 +121,7 @@ def faults(call):
     if call.memory >= MEMORY:
         yield f"it took {call.memory >> 20} MiB"
     command = call.words[0] if call.words else ""
-    if not has_form(command, call.status, call.report):
+    if not has_form(call.words, call.status, call.report):
         yield f"its report has not the form of status {call.status}"
     if is_refusal(call.status, call.report) and call.output_size and call.status != 129:
         yield "it was refused and wrote to the output"
