@@ -58,7 +58,8 @@ def build_program():
     """Proves and builds the program, where that has not been done."""
     run(page.TOP / "tools" / "build")
     # What it left may have been moved away since. Where it is there, this only runs the program, without words.
-    built = subprocess.run(["rt", "run"], cwd=PROGRAM, stdin=subprocess.DEVNULL, capture_output=True, text=True, check=False)
+    words = [sys.executable, str(page.TOP / "tools" / "building" / "once.py"), "run"]
+    built = subprocess.run(words, cwd=PROGRAM, stdin=subprocess.DEVNULL, capture_output=True, text=True, check=False)
     if built.returncode != WITHOUT_WORDS:
         sys.exit(f"{built.stdout}{built.stderr}web/build: the program could not be built")
 
