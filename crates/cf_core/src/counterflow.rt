@@ -210,10 +210,17 @@ impl Core {
         self.processor.failed
     }
 
-    /// Makes an allowed move, and keeps what holds of the stages up to date.
+    /// Makes an allowed move, without testing its bars again, and tells what is seen of it from outside.
+    ///
+    /// An error comes only of Serve with ECALL in the highest stage, where the input or the output failed the call of the
+    /// environment: the processor bars every move from then on, the guest's buffer is as [`rv_machine::serve`] leaves it, and
+    /// all else is as before.
+    ///
+    /// The input is asked only by Serve where the instruction in the highest stage is an ECALL whose call asks the input; the
+    /// output likewise. Every other move leaves it as it is, whatever it tells of itself.
     #[inline(always)]
     #[tactic(auto, using(crate::proofs::KeptServe::making))]
-    fn make_kept<S: Source, K: Sink>(
+    pub fn make<S: Source, K: Sink>(
         &mut self,
         m: Move,
         input: &mut S,
@@ -237,39 +244,6 @@ impl Core {
         }
         self.marks = self.processor.remarked(self.marks, touched);
         made
-    }
-
-    /// Makes an allowed move, without testing its bars again, and tells what is seen of it from outside.
-    ///
-    /// An error comes only of Serve with ECALL in the highest stage, where the input or the output failed the call of the
-    /// environment: the processor bars every move from then on, the guest's buffer is as [`rv_machine::serve`] leaves it, and
-    /// all else is as before.
-    ///
-    /// The input is asked only by Serve where the instruction in the highest stage is an ECALL whose call asks the input; the
-    /// output likewise. Every other move leaves it as it is, whatever it tells of itself.
-    #[inline(always)]
-    pub fn make<S: Source, K: Sink>(
-        &mut self,
-        m: Move,
-        input: &mut S,
-        output: &mut K,
-    ) -> Result<Event, Fault>
-        requires allowed { first_bar self.old.plan self.old.state m ≡ None }
-        requires count { self.old.state.retired + 1 < 2 ^ 64 }
-        ensures makes { MakesOrFails self.old self.new m
-            (streams_of (S.left input.old) (K.written output.old))
-            (streams_of (S.left input.new) (K.written output.new)) result }
-        ensures input { HasCause (S.faults input.old) (S.faults input.new) (input_made result) }
-        ensures output { HasCause (K.faults output.old) (K.faults output.new) (output_made result) }
-        ensures input_asked { (AsksInput self.old m → ⊥) → input.new ≡ input.old }
-        ensures output_asked { (AsksOutput self.old m → ⊥) → output.new ≡ output.old }
-    {
-        match m {
-            Move::Climb(i) => self.make_kept(Move::Climb(i), input, output),
-            Move::Fall(i) => self.make_kept(Move::Fall(i), input, output),
-            Move::Meet(i) => self.make_kept(Move::Meet(i), input, output),
-            _ => self.make_kept(m, input, output),
-        }
     }
 
     /// Makes a move, if nothing bars it.
