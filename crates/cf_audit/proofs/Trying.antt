@@ -7,19 +7,27 @@ use Rattle.cf_bind.specs.declared.moves.Move.{Move}
 use Rattle.cf_semantics.specs.declared.event.Event.{Event}
 use Rattle.cf_run.specs.declared.answer.Ran.TheVariants as ran
 use Rattle.cf_run.specs.declared.show.Show.TheVariants as show
-use Rattle.cf_run.specs.Moving.{Place, MakesAndShows, MakesUnshown, Does, shown_of}
+use Rattle.cf_run.specs.Moving.{MakesAndShows, MakesUnshown, Does, shown_of}
 use Rattle.cf_audit.specs.declared.answer.Audit.{Audit}
 use Rattle.cf_audit.specs.declared.answer.Audit.TheVariants.{Agrees, Wrong, ReadFault}
 use Rattle.cf_audit.specs.declared.answer.TraceKind.TheVariants.{NotAMove, Barred, Differs, Cut}
-use Rattle.cf_audit.specs.Compared.{Comparison}
-use Rattle.cf_audit.specs.Turns.{Stand, Compares, Tries, input_tested}
+use Rattle.cf_audit.specs.Compared.{Comparison, HasOther}
+use Rattle.cf_audit.specs.Turns.{Stand, Compares, Parts, PutsSome, Tries, input_tested}
 
--- all of a text is a front of it
-front_all : (a b : Option (List ℕ)) (text : List ℕ) → Writes a b text → WritesFront a b text
-front_all a b text h = (length text, omega arith, subst (Writes a b) (sym (take-length text)) h)
+-- all of a text was put
+puts_all : (a b : Option (List ℕ)) (text : List ℕ) → Writes a b text → PutsSome a b text
+puts_all a b text h = (length text, omega arith, subst (Writes a b) (sym (take-length text)) h)
 
-unshown : (mv : Move) (e : Event) (now new : Place) → MakesAndShows show.Moves mv e now new → MakesUnshown show.Moves mv e now new
-unshown mv e now new d = record { makes = d.makes; report = front_all now.report new.report (shown_of show.Moves mv e now new) d.report }
+-- or a front of it
+puts_front : (a b : Option (List ℕ)) (text : List ℕ) → WritesFront a b text → PutsSome a b text
+puts_front None b text front = (0, omega arith, tt)
+puts_front (Some told) b text (n, short, k) = (n, omega (arith, short), k)
+
+parts_shown : (mv : Move) (now new : Stand) (e : Event) → MakesAndShows show.Moves mv e now.place new.place → HasOther new.seen → Parts mv now new
+parts_shown mv now new e d other = record { event = e; makes = d.makes; report = puts_all now.place.report new.place.report (shown_of show.Moves mv e now.place new.place) d.report; differs = other }
+
+parts_unshown : (mv : Move) (now new : Stand) (e : Event) → MakesUnshown show.Moves mv e now.place new.place → HasOther new.seen → Parts mv now new
+parts_unshown mv now new e d other = record { event = e; makes = d.makes; report = puts_front now.place.report new.place.report (shown_of show.Moves mv e now.place new.place) d.report; differs = other }
 
 -- the move was made and shown
 pub tried-shown : (text : List ℕ) (mv : Move) (now new : Stand) (e : Event) (answer : Option Audit) → Does show.Moves mv now.place new.place (Ok e) → Compares text new.seen answer → Tries text mv now new answer
@@ -28,8 +36,8 @@ tried-shown text mv now new e None d h = record { event = e; makes = d; same = h
 tried-shown text mv now new e (Some (Agrees n)) d h = absurd h
 tried-shown text mv now new e (Some (Wrong line NotAMove)) d h = absurd h
 tried-shown text mv now new e (Some (Wrong line (Barred b))) d h = absurd h
-tried-shown text mv now new e (Some (Wrong line Differs)) d h = (record { event = e; makes = unshown mv e now.place new.place d; differs = h.0 }, h.1, h.2)
-tried-shown text mv now new e (Some (Wrong line Cut)) d h = (record { event = e; makes = unshown mv e now.place new.place d; differs = h.0 }, h.1, h.2)
+tried-shown text mv now new e (Some (Wrong line Differs)) d h = (parts_shown mv now new e d h.0, h.1, h.2)
+tried-shown text mv now new e (Some (Wrong line Cut)) d h = (parts_shown mv now new e d h.0, h.1, h.2)
 tried-shown text mv now new e (Some ReadFault) d h = absurd h
 
 -- the move was made, and the comparison failed
@@ -39,8 +47,8 @@ tried-unshown text mv now new before None d rose h = absurd (omega (arith, rose,
 tried-unshown text mv now new before (Some (Agrees n)) d rose h = absurd h
 tried-unshown text mv now new before (Some (Wrong line NotAMove)) d rose h = absurd h
 tried-unshown text mv now new before (Some (Wrong line (Barred b))) d rose h = absurd h
-tried-unshown text mv now new before (Some (Wrong line Differs)) d rose h = (record { event = d.0; makes = d.1; differs = h.0 }, h.1, h.2)
-tried-unshown text mv now new before (Some (Wrong line Cut)) d rose h = (record { event = d.0; makes = d.1; differs = h.0 }, h.1, h.2)
+tried-unshown text mv now new before (Some (Wrong line Differs)) d rose h = (parts_unshown mv now new d.0 d.1 h.0, h.1, h.2)
+tried-unshown text mv now new before (Some (Wrong line Cut)) d rose h = (parts_unshown mv now new d.0 d.1 h.0, h.1, h.2)
 tried-unshown text mv now new before (Some ReadFault) d rose h = absurd h
 
 -- the input did not fail then

@@ -3,7 +3,6 @@ use Rattle.std.proofs.Common.{◌≡◌, ℕ, ◌+◌, ◌-◌, ◌<◌, ◌≤�
 use Rattle.std.specs.Prelude.{slice_get}
 use Rattle.std.proofs.lemmas.List.{take_all}
 use Rattle.std.proofs.lemmas.Option.{same_Some}
-use Rattle.cf_io.specs.Puts.{WritesFront}
 use Rattle.rv_machine.specs.Streams.{Streams, streams_of}
 use Rattle.cf_layout.specs.Layout.{Plan}
 use Rattle.cf_bind.specs.declared.moves.Move.{Move}
@@ -29,7 +28,7 @@ use Rattle.cf_audit.specs.declared.answer.TraceKind.TheVariants.{NotAMove, Barre
 use Rattle.cf_audit.specs.Audits.{Audits}
 use Rattle.cf_audit.specs.Compared.{alone, told_by}
 use Rattle.cf_audit.specs.Traces.{most_retired, line_of, has_line, BeginsWith, IsTrace, StandsAt, PartsAt, Fails, GoesWrong}
-use Rattle.cf_audit.specs.Turns.{Stand, left_of, NextIs, Parts, Tries, Tests}
+use Rattle.cf_audit.specs.Turns.{Stand, left_of, NextIs, Parts, PutsSome, Tries, Tests}
 use Rattle.cf_audit.specs.Limits.{most_trace}
 use Rattle.cf_audit.proofs.Coming.{Comes, so-far, put-behind, retires-below, trace-so-far, agrees-so-far, agreed-length, stands-here}
 use Rattle.cf_audit.proofs.Parting.{parted, byte_behind}
@@ -76,8 +75,8 @@ parts_there text start now new mv small tells h next p =
     (subst (λ (t : List Made). Leads start.core.plan most_retired start.streams.input (moment_of start.core more.rest) t more.last) trace more.leads) in
     let l : LastMade start.core.plan most_retired start.streams.input (moment_of start.core h.reached.rest) h.reached.trace made more.last =
     last_made start.core.plan most_retired start.streams.input (moment_of start.core h.reached.rest) h.reached.trace made more.last leads in
-    let P : Option (List ℕ) → Type 0 = λ o. WritesFront o new.place.report group in
-    let front : WritesFront (Some (told_by now.seen)) new.place.report group = subst P h.tells p.makes.report in
+    let P : Option (List ℕ) → Type 0 = λ o. PutsSome o new.place.report group in
+    let front : PutsSome (Some (told_by now.seen)) new.place.report group = subst P h.tells p.report in
     let told : told_by new.seen ≡ told_by now.seen ++ take front.0 group = same_Some _ _ (sym tells ∙ front.2) in
     let both = put-behind now.seen new.seen (take front.0 group) h.none told in
     let put : take new.seen.agreed now.seen.text ++ p.differs.other ∷ [] ≡ take now.seen.agreed now.seen.text ++ take front.0 group =
@@ -86,7 +85,7 @@ parts_there text start now new mv small tells h next p =
     let other : slice_get now.seen.text new.seen.agreed ≡ Some p.differs.other → ⊥ = λ e. p.differs.differs (ap (λ (t : List ℕ). slice_get t new.seen.agreed) both.0 ∙ e) in
     let apart = parted now.seen.text group now.seen.agreed new.seen.agreed front.0 p.differs.other h.within high other put in
     let plan : now.place.core.plan ≡ start.core.plan = ap (λ (c : Processor). c.plan) h.reached.core in
-    let number : new.place.tally.moves ≡ now.place.tally.moves + 1 = ap (λ (t : Tally). t.moves) p.makes.makes.tally in
+    let number : new.place.tally.moves ≡ now.place.tally.moves + 1 = ap (λ (t : Tally). t.moves) p.makes.tally in
     let s = so-far text start now h in
     record {
       last = l.at;

@@ -1,11 +1,12 @@
 -- One turn of an audit: the next group of the trace is tested and its move made, or the audit ends.
-use Rattle.std.specs.Prelude.{◌≡◌, ◌⊎◌, ℕ, ◌+◌, ◌<◌, true, false, List, length, drop, Option, Some, None, Result, Ok, Err}
+use Rattle.std.specs.Prelude.{◌≡◌, ◌⊎◌, ℕ, ◌+◌, ◌<◌, ◌≤◌, true, false, List, length, take, drop, Option, Some, None, Result, Ok, Err}
+use Rattle.cf_io.specs.Puts.{Writes}
 use Rattle.cf_bind.specs.declared.moves.Move.{Move}
 use Rattle.cf_semantics.specs.declared.event.Event.{Event}
 use Rattle.cf_semantics.specs.moves.Bars.{bar as first_bar}
 use Rattle.cf_run.specs.declared.answer.Ran.TheVariants as ran
 use Rattle.cf_run.specs.declared.show.Show.TheVariants as show
-use Rattle.cf_run.specs.Moving.{Place, MakesAndShows, MakesUnshown, Does}
+use Rattle.cf_run.specs.Moving.{Place, MakesOne, MakesAndShows, Does, shown_of}
 use Rattle.cf_audit.specs.declared.answer.Audit.{Audit}
 use Rattle.cf_audit.specs.declared.answer.Audit.TheVariants.{Agrees, Wrong, ReadFault}
 use Rattle.cf_audit.specs.declared.answer.TraceKind.TheVariants.{NotAMove, Barred, Differs, Cut}
@@ -44,10 +45,15 @@ pub record Advances (mv : Move) (now new : Stand) : Type 0 where
   pub makes : MakesAndShows show.Moves mv event now.place new.place
   pub same : IsSame new.seen
 
+-- a front of these bytes was put, or all of them
+abbrev pub PutsSome : Option (List ℕ) → Option (List ℕ) → List ℕ → Type 0
+PutsSome before after bytes = (n : ℕ) × (n ≤ length bytes) × Writes before after (take n bytes)
+
 -- the move was made, and a byte of what is shown of it does not stand in the text where it should
 pub record Parts (mv : Move) (now new : Stand) : Type 0 where
   pub event : Event
-  pub makes : MakesUnshown show.Moves mv event now.place new.place
+  pub makes : MakesOne mv event now.place new.place
+  pub report : PutsSome now.place.report new.place.report (shown_of show.Moves mv event now.place new.place)
   pub differs : HasOther new.seen
 
 -- what the move of the next line leads to

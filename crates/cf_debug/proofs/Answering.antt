@@ -4,6 +4,7 @@ use Rattle.std.specs.Prelude.{◌⊎◌, Result, codes}
 use Rattle.cf_io.specs.Causes.{HasCause}
 use Rattle.cf_io.specs.Puts.{Writes, WritesFront}
 use Rattle.cf_io.specs.declared.failed.Failed.{Failed}
+use Rattle.cf_io.proofs.Owing.{writes-again, front-again}
 use Rattle.cf_bind.specs.declared.moves.Bar.{Bar}
 use Rattle.cf_bind.specs.declared.moves.Move.{Move as AnyMove}
 use Rattle.cf_semantics.specs.declared.event.Event.{Event}
@@ -13,7 +14,6 @@ use Rattle.cf_core.specs.Processors.{Processor, in_state}
 use Rattle.cf_texts.specs.Texts.{counted_line}
 use Rattle.cf_closing.specs.Lines.{bar_text}
 use Rattle.cf_report.specs.Putting.{PutsText}
-use Rattle.cf_report.proofs.Puttings.{writes-again, front-again}
 use Rattle.cf_run.specs.Made.{Made}
 use Rattle.cf_debug.specs.declared.answer.Broken.{Broken}
 use Rattle.cf_debug.specs.declared.answer.Broken.TheVariants as broken

@@ -4,6 +4,7 @@ use Rattle.std.specs.Prelude.{◌⊎◌, slice_get}
 use Rattle.std.proofs.lemmas.List.{length-append}
 use Rattle.cf_io.specs.Puts.{Writes, WritesFront}
 use Rattle.cf_io.specs.declared.failed.Failed.{Failed}
+use Rattle.cf_io.proofs.Owing.{writes-again, front-again}
 use Rattle.cf_layout.specs.Layout.{Plan}
 use Rattle.cf_bind.specs.declared.moves.Move.{Move}
 use Rattle.cf_bind.specs.declared.moves.Move.TheVariants.{Serve}
@@ -16,7 +17,6 @@ use Rattle.cf_semantics.specs.state.State.{State}
 use Rattle.cf_sched.specs.Paces.{Count, offers as offers_by, saw, stopped}
 use Rattle.cf_sched.specs.Policies.{round_pick, round_on}
 use Rattle.cf_report.specs.Putting.{PutsText}
-use Rattle.cf_report.proofs.Puttings.{writes-again, front-again}
 use Rattle.cf_run.specs.Made.{Made, retirement}
 use Rattle.cf_run.specs.Policies.{Chooser, chooser, choice, fresh, offered_to}
 use Rattle.cf_run.specs.Reaching.{GoesOn}

@@ -5,7 +5,7 @@ use Rattle.std.proofs.lemmas.List.{length-append}
 use Rattle.cf_io.specs.Causes.{HasCause}
 use Rattle.cf_io.specs.Puts.{Writes}
 use Rattle.cf_io.specs.Takes.{IsAtEnd}
-use Rattle.cf_report.proofs.Puttings.{writes-again, front-again}
+use Rattle.cf_io.proofs.Owing.{writes-again, front-again}
 use Rattle.rv_machine.specs.Streams.{Gives, IsTold}
 use Rattle.rv_text.specs.Lines.{without_return}
 use Rattle.cf_core.specs.Processors.{Processor}

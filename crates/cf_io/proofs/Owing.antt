@@ -19,14 +19,18 @@ writes-again (Some told) b c x y h k =
 
 -- a front of the first text is one of both
 pub front-first : (a b : Option (List ℕ)) (x y : List ℕ) → WritesFront a b x → WritesFront a b (x ++ y)
-front-first a b x y (n, short, k) =
-    (n, omega (arith, length-append x y), subst (λ (z : List ℕ). Writes a b z) (sym (take-append-le n x y short)) k)
+front-first None b x y front = tt
+front-first (Some told) b x y (n, short, k) =
+    let within : n ≤ length x = omega (arith, short) in
+    (n, omega (arith, length-append x y, short), k ∙ ap (λ (z : List ℕ). Some (told ++ z)) (sym (take-append-le n x y within)))
 
 -- one text, and then a front of another
 pub front-again : (a b c : Option (List ℕ)) (x y : List ℕ) → Writes a b x → WritesFront b c y → WritesFront a c (x ++ y)
-front-again a b c x y h (n, short, k) =
-    let both : Writes a c (x ++ take n y) = writes-again a b c x (take n y) h k in
-    (length x + n, omega (arith, length-append x y), subst (λ (z : List ℕ). Writes a c z) (sym (take-append-add x y n)) both)
+front-again None b c x y h front = tt
+front-again (Some told) b c x y h front =
+    let (n, short, k) = subst (λ (o : Option (List ℕ)). WritesFront o c y) h front in
+    let both : c ≡ Some (told ++ (x ++ take n y)) = k ∙ ap Some (append_assoc told x (take n y)) in
+    (length x + n, omega (arith, length-append x y, short), both ∙ ap (λ (z : List ℕ). Some (told ++ z)) (sym (take-append-add x y n)))
 
 -- of a whole text this rest is still owed
 pub record Owes (before now : Option (List ℕ)) (rest whole : List ℕ) : Type 0 where

@@ -6,9 +6,10 @@ abbrev pub Writes : Option (List ℕ) → Option (List ℕ) → List ℕ → Typ
 Writes None after bytes = Unit {0}
 Writes (Some written) after bytes = after ≡ Some (written ++ bytes)
 
--- where the sink tells what was written: a front of these bytes came behind it
+-- where the sink tells what was written: a front of these bytes came behind it, and not all of them
 abbrev pub WritesFront : Option (List ℕ) → Option (List ℕ) → List ℕ → Type 0
-WritesFront written after bytes = (n : ℕ) × (n ≤ length bytes) × Writes written after (take n bytes)
+WritesFront None after bytes = Unit {0}
+WritesFront (Some written) after bytes = (n : ℕ) × (n < length bytes) × (after ≡ Some (written ++ take n bytes))
 
 -- where the sink tells what was written: it tells the same
 abbrev pub WritesNothing : Option (List ℕ) → Option (List ℕ) → Type 0

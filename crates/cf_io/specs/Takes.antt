@@ -33,9 +33,9 @@ abbrev pub TakesMost : Option (List ℕ) → ℕ → ℕ → Type 0
 TakesMost None room n = Unit {0}
 TakesMost (Some left) room n = n ≡ min room (length left)
 
--- takes until the slice is full or the source is at its end, or until one take fails
+-- takes until the slice is full or the source is at its end, or until one take fails, which leaves room
 pub record TakesAll {E : Type 0} (left after : Option (List ℕ)) (into new : List ℕ)
     (result : Result ℕ E) : Type 0 where
   pub taken : IfOk result (λ n. TakesSome left after into new n)
   pub most : IfOk result (λ n. TakesMost left (length into) n)
-  pub failed : OnErr result ((n : ℕ) × TakesSome left after into new n)
+  pub failed : OnErr result ((n : ℕ) × (n < length into) × TakesSome left after into new n)

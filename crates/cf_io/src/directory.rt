@@ -1,6 +1,6 @@
 //! Real files.
 
-ghost use Rattle.std.specs.Prelude.{◌≡◌, ◌≤◌, ◌↔◌, None, IfOk, vec_len};
+ghost use Rattle.std.specs.Prelude.{◌≡◌, ◌≤◌, ◌↔◌, None, IfOk, IfSome, take, vec_len};
 ghost use Rattle.std.specs.IoError.{error_kind};
 ghost use Rattle.std.specs.declared.io.ErrorKind.TheVariants as kind;
 ghost use Rattle.cf_io.specs.Reads.{Reads, HasReadCause, CountsReadFaults};
@@ -27,6 +27,18 @@ impl<'a, R: rt::Files + AllocGlobal> DirFiles<'a, R> {
     }
 }
 
+/// The first bytes that a reader has left, at most so many.
+fn front_of<R: Read + Drop>(reader: R, alloc: Global, most: u64) -> io::Result<Vec<u8>>
+    ensures most { IfOk result (λ bytes. vec_len bytes ≤ most) }
+    ensures bytes { IfOk result (λ bytes. IfSome (R.remaining reader) (λ left. bytes.items ≡ take most left)) }
+{
+    let mut bytes = Vec::new(alloc);
+    reader.take(most).read_to_end(&mut bytes)?;
+    // std promises no bound of what `read_to_end` appends.
+    bytes.truncate(most as usize);
+    Ok(bytes)
+}
+
 /// The first bytes of a file, at most so many.
 fn read_front<R: rt::Files + AllocGlobal>(
     rt: &R,
@@ -36,11 +48,7 @@ fn read_front<R: rt::Files + AllocGlobal>(
 ) -> io::Result<Vec<u8>>
     ensures { IfOk result (λ bytes. vec_len bytes ≤ most) }
 {
-    let mut bytes = Vec::new(alloc);
-    fs::open(rt, name)?.take(most).read_to_end(&mut bytes)?;
-    // std promises no bound of what `read_to_end` appends.
-    bytes.truncate(most as usize);
-    Ok(bytes)
+    front_of(fs::open(rt, name)?, alloc, most)
 }
 
 /// Why the read gave no bytes: for want of memory just where the error is of that kind.

@@ -24,8 +24,8 @@ pub trait Sink {
         ensures cause { HasCause (faults self.old) (faults self.new) result };
 }
 
-/// Puts until all is written. After `Failed` a front of the bytes was written, and the sink's
-/// count of faults rose.
+/// Puts until all is written. After `Failed` a front of the bytes was written, but not all of them,
+/// and the sink's count of faults rose.
 pub fn put_all<K: Sink>(sink: &mut K, bytes: &[u8]) -> Result<(), Failed>
     ensures all { OnOk result (Writes (K.written sink.old) (K.written sink.new) bytes.now) }
     ensures front { OnErr result (WritesFront (K.written sink.old) (K.written sink.new) bytes.now) }

@@ -29,8 +29,8 @@ pub trait Source {
 /// Takes until `into` is full or the source is at its end, and answers how many bytes were taken.
 /// They stand at the front of `into`, and the rest of it is unchanged.
 ///
-/// After `Failed` the bytes taken so far stand at the front of `into`, its old bytes stand behind
-/// them, and the source's count of faults rose.
+/// After `Failed` the bytes taken so far, fewer than there is room for, stand at the front of `into`,
+/// its old bytes stand behind them, and the source's count of faults rose.
 pub fn take_all<S: Source>(source: &mut S, into: &mut [u8]) -> Result<usize, Failed>
     ensures bytes { TakesAll (S.left source.old) (S.left source.new) into.old into.new result }
     ensures cause { HasCause (S.faults source.old) (S.faults source.new) result }

@@ -6,30 +6,8 @@ use Rattle.std.proofs.lemmas.Bool.{false≢true}
 use Rattle.std.proofs.lemmas.List.{length-append, take-append-le}
 use Rattle.std.proofs.Math.Seq.{take-append-add}
 use Rattle.cf_io.specs.Puts.{Writes, WritesFront}
+use Rattle.cf_io.proofs.Owing.{writes-nothing, writes-again, front-first, front-again}
 use Rattle.cf_report.specs.Putting.{PutsText}
-
--- nothing was put
-pub writes-nothing : (told : Option (List ℕ)) → Writes told told []
-writes-nothing None = tt
-writes-nothing (Some told) = ap Some (sym (append-nil told))
-
-pub writes-again : (a b c : Option (List ℕ)) (x y : List ℕ) → Writes a b x → Writes b c y → Writes a c (x ++ y)
-writes-again None b c x y h k = tt
-writes-again (Some told) b c x y h k =
-    let P : Option (List ℕ) → Type 0 = λ o. Writes o c y in
-    let both : c ≡ Some ((told ++ x) ++ y) = subst P h k in
-    both ∙ ap Some (append_assoc told x y)
-
-pub front-again : (a b c : Option (List ℕ)) (x y : List ℕ) → Writes a b x → WritesFront b c y → WritesFront a c (x ++ y)
-front-again a b c x y h (n, short, k) =
-    let both : Writes a c (x ++ take n y) = writes-again a b c x (take n y) h k in
-    let P : List ℕ → Type 0 = λ z. Writes a c z in
-    (length x + n, omega (arith, length-append x y), subst P (sym (take-append-add x y n)) both)
-
-front-more : (a b : Option (List ℕ)) (x y : List ℕ) → WritesFront a b x → WritesFront a b (x ++ y)
-front-more a b x y (n, short, k) =
-    let P : List ℕ → Type 0 = λ z. Writes a b z in
-    (n, omega (arith, length-append x y), subst P (sym (take-append-le n x y short)) k)
 
 again : {T U E : Type 0} (a b c : Option (List ℕ)) (i j k : ℕ) (x y : List ℕ) (t : T) (answer : Result U E)
     → PutsText {E = E} a b i j x (Ok t) → PutsText b c j k y answer → PutsText a c i k (x ++ y) answer
@@ -59,7 +37,7 @@ stopped : {T U E : Type 0} (a b : Option (List ℕ)) (i j : ℕ) (x y : List ℕ
 stopped a b i j x y e (Ok u) failed h = absurd (false≢true failed)
 stopped a b i j x y e (Err f) failed h = record {
   all = tt;
-  front = front-more a b x y h.front;
+  front = front-first a b x y h.front;
   cause = record { never_falls = h.cause.never_falls; rose = h.cause.rose; still = tt };
 }
 
@@ -125,7 +103,7 @@ has-failed {a = a} {b = b} {i = i} {j = j} {x = x} (Err f) {e = e} err failed h 
 -- a failed text is a front of a longer one
 pub failed-more : {T E : Type 0} {a b : Option (List ℕ)} {i j : ℕ} {x : List ℕ} (y : List ℕ) (answer : Result T E) → IsErr answer → PutsText a b i j x answer → PutsText a b i j (x ++ y) answer
 failed-more y (Ok t) failed h = absurd (false≢true failed)
-failed-more {a = a} {b = b} {x = x} y (Err e) failed h = record { all = tt; front = front-more a b x y h.front; cause = h.cause }
+failed-more {a = a} {b = b} {x = x} y (Err e) failed h = record { all = tt; front = front-first a b x y h.front; cause = h.cause }
 
 -- the text behind those so far failed, and more was to follow
 pub has-front : {T U E : Type 0} {a b c : Option (List ℕ)} {i j k : ℕ} {x y z : List ℕ} {first : Result T E} (answer : Result U E) {e : E} → first ≡ Err e → IsErr answer → ((rest : List ℕ) × ((x ++ y) ++ rest ≡ z)) → HasPut a b i j x → PutsText b c j k y first → PutsText a c i k z answer

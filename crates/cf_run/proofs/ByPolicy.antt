@@ -138,5 +138,5 @@ policy-bounded {P} picked onward limit shows begin new policy later moves answer
     go ran.WriteFault stops = failed new stops.does.0.tally (ap (λ (p : Processor). p.state.retired) stops.does.1.processor)
     go ran.ReportFault stops =
         let full : Place = unfailed shows r.now new stops.move stops.does.0 in
-        let t : Takes picked limit shows r.at r.now full = record { goes = stops.goes; move = stops.move; choice_is = stops.choice_is; event = stops.does.0; does = shown_too shows stops.move stops.does.0 r.now new stops.does.1 } in
+        let t : Takes picked limit shows r.at r.now full = record { goes = stops.goes; move = stops.move; choice_is = stops.choice_is; event = stops.does.0; does = shown_too shows stops.move stops.does.0 r.now new stops.does.1.makes } in
         reached-bounded picked onward limit shows begin full policy (behind picked onward limit shows r.at r.now full t) accepted wide o (turned-more picked limit shows begin r.now full r.at r.reaches t) (turned-picks picked onward limit shows begin r.now full policy r.at r.reaches t r.picks)

@@ -33,7 +33,7 @@ unfolding DoesLine Does
 unshown_moves limit shows begin now new f t =
     let full : Place = record new.place { report = filled now.place.report (shown_of shows t.move t.does.0 now.place new.place) } in
     let there : Stand = record { place = full; script = new.script } in
-    let tries : Tries limit shows now there None = record { goes = t.goes; line = t.line; move = t.move; next = t.next; script = t.script; does = (t.does.0, shown_too shows t.move t.does.0 now.place new.place t.does.1) } in
+    let tries : Tries limit shows now there None = record { goes = t.goes; line = t.line; move = t.move; next = t.next; script = t.script; does = (t.does.0, shown_too shows t.move t.does.0 now.place new.place t.does.1.makes) } in
     let made = followed-trace limit shows begin now there f tries in
     sym (ap moves_of made.2 ∙ moves-more f.reaches.trace made.0 ∙ ap (λ (mv : Move). moves_of f.reaches.trace ++ mv ∷ []) made.1)
     ∙ followed_moves limit shows begin there (followed-more limit shows begin now there f tries)

@@ -4,6 +4,7 @@ use Rattle.std.specs.Prelude.{count_by, unwrap_or}
 use Rattle.std.proofs.lemmas.List.{length-append}
 use Rattle.std.proofs.lemmas.List.Sums.{count_by-le-length, sum_by-append}
 use Rattle.cf_io.specs.Puts.{Writes}
+use Rattle.cf_io.proofs.Owing.{writes-nothing, writes-again}
 use Rattle.rv_machine.specs.Streams.{Streams, IsTold, Becomes, Leaves}
 use Rattle.rv_machine.proofs.Told.{rest-told, stays, leaves-again}
 use Rattle.cf_layout.specs.Layout.{Plan}
@@ -25,7 +26,6 @@ use Rattle.cf_run.specs.Going.{moment_of, Finds, IsMade, Leads, RunsTo}
 use Rattle.cf_run.specs.Moving.{Place, MakesOne, MakesAndShows, Does}
 use Rattle.cf_run.specs.Reaching.{no_tally, Reaches}
 use Rattle.cf_run.specs.Scripts.{Stand, Follows, DoesLine, Tries}
-use Rattle.cf_report.proofs.Puttings.{writes-nothing, writes-again}
 use Rattle.cf_run.proofs.Behind.{next-behind, next-retired}
 
 -- one move more

@@ -2,6 +2,7 @@
 use Rattle.std.proofs.Common.{◌≡◌, ℕ, ◌<◌, List, [], ◌∷◌, ◌++◌, Option, Some, None, Err, true, arith, refl, sym, ap, subst, ◌∙◌, take, append_assoc}
 use Rattle.std.proofs.lemmas.List.{append_cancel_left}
 use Rattle.cf_io.specs.Puts.{Writes, WritesFront}
+use Rattle.cf_io.proofs.Owing.{front-again, writes-again}
 use Rattle.rv_machine.specs.Machine.{Machine}
 use Rattle.rv_machine.specs.Streams.{Streams, Leaves}
 use Rattle.cf_layout.specs.Accepted.{IsAccepted}
@@ -14,7 +15,6 @@ use Rattle.cf_semantics.specs.state.State.{State, Moment}
 use Rattle.cf_refinement.proofs.invariant.Invariant.{HoldsAfter}
 use Rattle.cf_core.specs.Processors.{Processor, in_state}
 use Rattle.cf_core.specs.Stepping.{FailsToRead, FailsToWrite}
-use Rattle.cf_report.proofs.Puttings.{front-again, writes-again}
 use Rattle.cf_run.specs.declared.answer.Ran.{Ran as Answer}
 use Rattle.cf_run.specs.declared.answer.Ran.TheVariants as ran
 use Rattle.cf_run.specs.declared.answer.Scripted.{Scripted}
@@ -23,7 +23,7 @@ use Rattle.cf_run.specs.declared.show.Show.{Show}
 use Rattle.cf_run.specs.declared.show.Show.TheVariants as show
 use Rattle.cf_run.specs.Headline.{StandsAt, IsUnmoved, FailsInput, FailsOutput, StopsAt, AreTexts, Gets, ReportsLines}
 use Rattle.cf_run.specs.Made.{Made, moves_of, all_shown}
-use Rattle.cf_run.specs.Moving.{Place, MakesAndShows, MakesUnshown, FailsOutside, Does, shown_of}
+use Rattle.cf_run.specs.Moving.{Place, MakesOne, MakesAndShows, FailsOutside, Does, shown_of}
 use Rattle.cf_run.specs.Reaching.{Reaches, IsOver}
 use Rattle.cf_run.proofs.Arrived.{Arrives}
 use Rattle.cf_run.proofs.Fronts.{front-after}
@@ -82,22 +82,31 @@ no_input mv m begin now new core streams outside h = record {
   output = subst (λ (o : Option (List ℕ)). Writes begin.streams.output o m.output) (sym h.fails.output) streams.output;
 }
 
+-- what was written where a front was, and whether the output tells it or not
+record Written (before after : Option (List ℕ)) (bytes : List ℕ) : Type 0 where
+  count : ℕ
+  told : Writes before after (take count bytes)
+
+written_front : (before after : Option (List ℕ)) (bytes : List ℕ) → WritesFront before after bytes → Written before after bytes
+written_front None after bytes front = record { count = 0; told = tt }
+written_front (Some told) after bytes front = record { count = front.0; told = front.2 }
+
 -- the output failed the call
 no_output : (mv : Move) (x : Machine) (m : Moment) (begin now new : Place) → IsAccepted begin.core.plan → HoldsAfter begin.core.plan x m → now.core ≡ in_state begin.core m.state → Leaves begin.streams now.streams m.rest m.output
     → FailsOutside mv now new → FailsToWrite now.core new.core now.streams new.streams → FailsOutput x m begin new
 no_output mv x m begin now new accepted held core streams outside h =
     let free : bar begin.core.plan m.state Serve ≡ None = served_next begin.core now.core m mv core outside.serves outside.allowed in
     let fails : FailsToWrite (in_state begin.core m.state) new.core now.streams new.streams = subst (λ (p : Processor). FailsToWrite p new.core now.streams new.streams) core h in
-    let k : ℕ = fails.fails.output.0 in
+    let part : Written now.streams.output new.streams.output fails.fails.bytes = written_front now.streams.output new.streams.output fails.fails.bytes fails.fails.output in
     record {
       allowed = free;
       before = now.streams;
       reached = streams;
       fails = fails;
       unmoved = unwritten begin.core now.core new.core m now.streams new.streams core h;
-      written = m.output ++ take k fails.fails.bytes;
-      output = writes-again begin.streams.output now.streams.output new.streams.output m.output (take k fails.fails.bytes) streams.output fails.fails.output.2;
-      front = front-after begin.core.plan x m fails.fails.bytes k accepted held free fails.calls fails.fails.asks fails.fails.buffer;
+      written = m.output ++ take part.count fails.fails.bytes;
+      output = writes-again begin.streams.output now.streams.output new.streams.output m.output (take part.count fails.fails.bytes) streams.output part.told;
+      front = front-after begin.core.plan x m fails.fails.bytes part.count accepted held free fails.calls fails.fails.asks fails.fails.buffer;
     }
 
 -- the report of a run that a failed call stops, which is not counted or shown
@@ -134,7 +143,7 @@ fills (Some told) text = refl
 
 -- a front of the last text is a front of all
 front_whole : (a b c : Option (List ℕ)) (x y z : List ℕ) → Writes a b x → WritesFront b c y → Writes a (filled b y) z → WritesFront a c z
-front_whole None b c x y z h front whole = (0, omega arith, tt)
+front_whole None b c x y z h front whole = tt
 front_whole (Some told) b c x y z h front whole =
     let P : Option (List ℕ) → Type 0 = λ o. filled o y ≡ Some (told ++ z) in
     let both : Some ((told ++ x) ++ y) ≡ Some (told ++ z) = subst P h whole in
@@ -143,11 +152,11 @@ front_whole (Some told) b c x y z h front whole =
     subst (WritesFront (Some told) c) same (front-again (Some told) b c x y h front)
 
 -- the last move of a run whose report failed, as if that had not
-pub shown_too : (shows : Show) (mv : Move) (e : Event) (now new : Place) → MakesUnshown shows mv e now new → MakesAndShows shows mv e now (record new { report = filled now.report (shown_of shows mv e now new) })
+pub shown_too : (shows : Show) (mv : Move) (e : Event) (now new : Place) → MakesOne mv e now new → MakesAndShows shows mv e now (record new { report = filled now.report (shown_of shows mv e now new) })
 shown_too shows mv e now new d =
     let text : List ℕ = shown_of shows mv e now new in
     record {
-      makes = record { allowed = d.makes.allowed; makes = d.makes.makes; is_event = d.makes.is_event; tally = d.makes.tally };
+      makes = record { allowed = d.allowed; makes = d.makes; is_event = d.is_event; tally = d.tally };
       report = fills now.report text;
     }
 
@@ -194,7 +203,7 @@ unfolding Does StopsAt Gets
 comes_unshown limit shows begin now new mv h below (e, d) =
     let text : List ℕ = shown_of shows mv e now new in
     let full : Place = record new { report = filled now.report text } in
-    let made : MakesAndShows shows mv e now full = shown_too shows mv e now new d in
+    let made : MakesAndShows shows mv e now full = shown_too shows mv e now new d.makes in
     record {
       now = full;
       reaches = reached-more limit shows begin now full mv e h below made;

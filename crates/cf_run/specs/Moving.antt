@@ -43,7 +43,7 @@ pub record MakesAndShows (show : Show) (mv : Move) (event : Event) (now new : Pl
   pub makes : MakesOne mv event now new
   pub report : Writes now.report new.report (shown_of show mv event now new)
 
--- it was made, and the report failed behind a front of what is shown of it
+-- it was made, and the report failed behind a front of what is shown of it, before it had all
 pub record MakesUnshown (show : Show) (mv : Move) (event : Event) (now new : Place) : Type 0 where
   pub makes : MakesOne mv event now new
   pub report : WritesFront now.report new.report (shown_of show mv event now new)

@@ -2,7 +2,8 @@
 use Rattle.std.proofs.Common.{◌≡◌, ℕ, List, [], ◌++◌, Bool, false, Option, Result, Ok, Err, refl, sym, ap, subst}
 use Rattle.cf_io.specs.Causes.{Rose, HasCause}
 use Rattle.cf_io.specs.declared.failed.Failed.{Failed}
-use Rattle.cf_report.proofs.Puttings.{writes-nothing, puts-again, failed-more}
+use Rattle.cf_io.proofs.Owing.{writes-nothing}
+use Rattle.cf_report.proofs.Puttings.{puts-again, failed-more}
 use Rattle.cli_files.specs.Causes.{files_answered}
 use Rattle.cli_files.specs.Deciding.{Counts, Decides, files_decided}
 use Rattle.cli_files.specs.Outside.{Report, report_of}

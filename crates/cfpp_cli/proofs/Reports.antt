@@ -1,6 +1,6 @@
 -- What a report has that is shown the lines of a run.
 use Rattle.std.proofs.Common.{◌≡◌, ℕ, List, ◌++◌, Bool, true, false, refl}
-use Rattle.cf_report.proofs.Puttings.{writes-nothing}
+use Rattle.cf_io.proofs.Owing.{writes-nothing}
 use Rattle.cfpp_cli.specs.Options.{shown}
 
 -- the lines of two runs are those of the first and then those of the second

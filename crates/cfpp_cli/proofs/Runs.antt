@@ -2,6 +2,7 @@
 use Rattle.std.proofs.Common.{◌≡◌, ℕ, zero, suc, ◌+◌, ◌<◌, List, [], ◌++◌, Bool, true, false, Option, Some, None, refl, ap, sym, ◌∙◌, subst, add-one}
 use Rattle.std.specs.Prelude.{unwrap_or}
 use Rattle.cf_io.specs.Puts.{Writes, WritesFront}
+use Rattle.cf_io.proofs.Owing.{writes-nothing, writes-again}
 use Rattle.rv_inst.specs.declared.isa.Isa.{Isa}
 use Rattle.rv_machine.specs.declared.outcome.Retired.{Retired}
 use Rattle.rv_machine.specs.declared.outcome.Stepped.TheVariants as stepped
@@ -17,7 +18,6 @@ use Rattle.cfpp_cli.specs.Options.{Chosen, shown}
 use Rattle.cf_report.specs.Lines.{retired_line}
 use Rattle.cf_run.specs.declared.answer.Ran.{Ran}
 use Rattle.cf_run.specs.declared.answer.Ran.TheVariants as ran
-use Rattle.cf_report.proofs.Puttings.{writes-nothing, writes-again}
 use Rattle.cfpp_cli.specs.Lines.{lines_of, LeadsBy, ReachesBy}
 use Rattle.cfpp_cli.specs.Finish.{opening, Finishes, Closes, Runs, BreaksOff}
 use Rattle.cfpp_cli.proofs.Reports.{shown-again}

@@ -1,7 +1,7 @@
 -- What a session put to its report, as one would tell it that told nothing before.
 use Rattle.std.proofs.Common.{◌≡◌, ◌≢◌, ℕ, List, [], ◌++◌, Option, Some, None, refl, sym, subst, inl, inr}
 use Rattle.cf_io.specs.Puts.{Writes}
-use Rattle.cf_report.proofs.Puttings.{writes-again}
+use Rattle.cf_io.proofs.Owing.{writes-again}
 use Rattle.cf_debug.specs.declared.answer.Debugged.{Debugged}
 use Rattle.cf_debug.specs.declared.answer.Debugged.TheVariants.{Done, Limit, ReadFault, WriteFault, ReportFault}
 use Rattle.cf_debug.specs.Replies.{Desk}

@@ -5,11 +5,11 @@ use Rattle.std.specs.Result.{IsErr}
 use Rattle.cf_io.specs.Puts.{Writes, WritesFront}
 use Rattle.cf_io.specs.Reads.{Told}
 use Rattle.cf_io.specs.declared.failed.Failed.{Failed}
+use Rattle.cf_io.proofs.Owing.{writes-again}
 use Rattle.rv_machine.specs.Hart.{Hart}
 use Rattle.cf_layout.specs.Layout.{Plan}
 use Rattle.std.proofs.lemmas.Bool.{false≢true}
 use Rattle.cf_report.specs.Putting.{PutsText}
-use Rattle.cf_report.proofs.Puttings.{writes-again}
 use Rattle.cf_texts.specs.Texts.{line}
 use Rattle.cf_words.specs.declared.command.TimeOptions.{TimeOptions}
 use Rattle.cf_words.specs.Words.{Layout}

@@ -4,9 +4,9 @@ use Rattle.std.specs.Prelude.{slice_get, is_err}
 use Rattle.std.proofs.lemmas.List.{length-append}
 use Rattle.cf_io.specs.Causes.{HasCause}
 use Rattle.cf_io.specs.Puts.{Writes, WritesFront}
+use Rattle.cf_io.proofs.Owing.{writes-again, writes-nothing}
 use Rattle.rv_machine.specs.Hart.{Hart}
 use Rattle.cf_layout.specs.Layout.{Plan}
-use Rattle.cf_report.proofs.Puttings.{writes-again, writes-nothing}
 use Rattle.cf_report.specs.Putting.{PutsText}
 use Rattle.cf_words.specs.declared.command.TimeOptions.{TimeOptions}
 use Rattle.cf_words.specs.Words.{Layout}

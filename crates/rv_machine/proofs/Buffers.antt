@@ -122,5 +122,5 @@ fills-some mem addr len old new left after (Ok n) h size same takes = tt
 fills-some mem addr len old new left after (Err e) h size same takes =
     let n : ℕ = takes.failed.0 in (
       take n new,
-      takes-into mem addr len n old new left after h size same takes.failed.1,
+      takes-into mem addr len n old new left after h size same takes.failed.2,
     )

@@ -1,5 +1,5 @@
 use Rattle.std.proofs.Common.{inr, []}
-use Rattle.cf_report.proofs.Puttings.{writes-nothing}
+use Rattle.cf_io.proofs.Owing.{writes-nothing}
 use Rattle.cli_time.proofs.LayoutLists.{words-length}
 use Rattle.cli_time.proofs.NoStreams.{lacks-file-says}
 use Rattle.cli_time.proofs.comparing.compare_layouts.Goals as goal
