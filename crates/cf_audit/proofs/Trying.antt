@@ -1,12 +1,12 @@
 -- What a move that was made and shown says of the next group of the trace.
 use Rattle.std.proofs.Common.{◌≡◌, ℕ, ◌≤◌, List, length, Option, Some, None, Ok, Err, sym, subst, arith}
 use Rattle.std.proofs.Math.Seq.{take-length}
+use Rattle.cf_asked.specs.declared.show.Show.TheVariants as show
 use Rattle.cf_io.specs.Causes.{HasCause, raised}
 use Rattle.cf_io.specs.Puts.{Writes, WritesFront}
 use Rattle.cf_bind.specs.declared.moves.Move.{Move}
 use Rattle.cf_semantics.specs.declared.event.Event.{Event}
 use Rattle.cf_run.specs.declared.answer.Ran.TheVariants as ran
-use Rattle.cf_run.specs.declared.show.Show.TheVariants as show
 use Rattle.cf_run.specs.Moving.{MakesAndShows, MakesUnshown, Does, shown_of}
 use Rattle.cf_audit.specs.declared.answer.Audit.{Audit}
 use Rattle.cf_audit.specs.declared.answer.Audit.TheVariants.{Agrees, Wrong, ReadFault}

@@ -3,8 +3,10 @@ use Rattle.std.proofs.Common.{◌≡◌, ℕ, ◌+◌, ◌-◌, ◌<◌, ◌≤�
 use Rattle.std.specs.Prelude.{slice_get}
 use Rattle.std.proofs.lemmas.List.{take_all}
 use Rattle.std.proofs.lemmas.Option.{same_Some}
+use Rattle.cf_asked.specs.declared.show.Show.TheVariants as show
 use Rattle.rv_machine.specs.Streams.{Streams, streams_of}
 use Rattle.cf_layout.specs.Layout.{Plan}
+use Rattle.cf_bind.specs.declared.moves.Bar.{Bar}
 use Rattle.cf_bind.specs.declared.moves.Move.{Move}
 use Rattle.cf_bind.specs.declared.moves.Move.TheVariants.{Serve}
 use Rattle.cf_semantics.specs.moves.Bars.{bar}
@@ -14,7 +16,6 @@ use Rattle.cf_core.specs.Processors.{Processor, in_state}
 use Rattle.cf_core.specs.Stepping.{FailsToRead}
 use Rattle.cf_report.specs.declared.tally.Tally.{Tally}
 use Rattle.cf_report.specs.Lines.{numbered_move}
-use Rattle.cf_run.specs.declared.show.Show.TheVariants as show
 use Rattle.cf_run.specs.Going.{moment_of, Finds, IsMade, Leads}
 use Rattle.cf_run.specs.Made.{Made, shown}
 use Rattle.cf_run.specs.Moving.{Place, MakesAndShows, Does, shown_of}
@@ -239,6 +240,27 @@ pub tests-none : (text left : List ℕ) (now new : Stand) (place : ℕ) (answer 
 unfolding Tests
 tests-none text left now new place answer is at behind has none same =
     rw is (ap has_line (sym behind) ∙ has, λ mv begins. none mv (subst (λ (t : List ℕ). BeginsWith t (now.place.tally.moves + 1) mv) (sym behind) begins), ap (line_of text) at, same)
+
+-- a bar stands before the move that it tells
+pub tests-barred : (text left : List ℕ) (now new : Stand) (mv : Move) (b : Bar) (place : ℕ) (answer : Audit) → answer ≡ Wrong (line_of text place) (Barred b) → place ≡ now.seen.agreed → left ≡ left_of now.seen → BeginsWith left (now.place.tally.moves + 1) mv
+    → bar now.place.core.plan now.place.core.state mv ≡ Some b → new ≡ now → Tests text now new (Some answer)
+unfolding Tests Tries
+tests-barred text left now new mv b place answer is at behind begins barred same =
+    rw is (mv, subst (λ (t : List ℕ). BeginsWith t (now.place.tally.moves + 1) mv) behind begins, barred, ap (line_of text) at, same)
+
+-- that move is tried
+pub tests-tried : (text left : List ℕ) (now new : Stand) (mv : Move) (answer : Option Audit) → left ≡ left_of now.seen → BeginsWith left (now.place.tally.moves + 1) mv → Tries text mv now new answer → Tests text now new answer
+unfolding Tests Tries
+tests-tried text left now new mv answer behind begins tries = of answer (subst (λ (t : List ℕ). BeginsWith t (now.place.tally.moves + 1) mv) behind begins) tries
+  where
+    of : (answer : Option Audit) → NextIs now mv → Tries text mv now new answer → Tests text now new answer
+    of None next t = (mv, next, t)
+    of (Some (Agrees n)) next t = absurd t
+    of (Some (Wrong line NotAMove)) next t = absurd t
+    of (Some (Wrong line (Barred b))) next t = (mv, next, t)
+    of (Some (Wrong line Differs)) next t = (mv, next, t)
+    of (Some (Wrong line Cut)) next t = inr (mv, next, t)
+    of (Some ReadFault) next t = (mv, next, t)
 
 -- how the audit ends with a turn
 pub audited : (text : List ℕ) (start : Place) (now new : Stand) (answer : Audit) → length text ≤ most_trace → new.place.report ≡ Some (told_by new.seen) → IsQuiet now new → Comes text start now → Tests text now new (Some answer)

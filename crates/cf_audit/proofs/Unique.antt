@@ -2,6 +2,7 @@
 use Rattle.std.proofs.Common.{◌≡◌, ℕ, zero, suc, ◌+◌, ◌<◌, true, false, List, [], ◌∷◌, ◌++◌, length, Option, Some, None, inl, inr, refl, sym, ap, subst, ◌∙◌, append-nil, append_assoc, length-append, arith}
 use Rattle.std.specs.Prelude.{Bool, slice_get, codes, decimal, ◌||◌, ◌==◌}
 use Rattle.std.proofs.lemmas.List.{append_cancel_left}
+use Rattle.cf_asked.specs.declared.show.Show.TheVariants as show
 use Rattle.cf_layout.specs.Layout.{Plan}
 use Rattle.cf_bind.specs.declared.moves.Move.{Move}
 use Rattle.cf_bind.specs.MoveTexts.{move_line}
@@ -12,7 +13,6 @@ use Rattle.cf_semantics.specs.state.State.{Moment}
 use Rattle.cf_core.specs.Processors.{Processor}
 use Rattle.cf_report.specs.Lines.{numbered_move}
 use Rattle.cf_report.specs.Picture.{picture}
-use Rattle.cf_run.specs.declared.show.Show.TheVariants as show
 use Rattle.cf_run.specs.Going.{moment_of, Finds, IsMade, Leads}
 use Rattle.cf_run.specs.Headline.{AreTexts}
 use Rattle.cf_run.specs.Made.{Made, retirement, shown, all_shown}

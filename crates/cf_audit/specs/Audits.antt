@@ -1,11 +1,11 @@
 -- What an audit of a recorded trace answers, and what a trace that agrees tells of the sequential machine.
 use Rattle.std.specs.Prelude.{◌≡◌, ℕ, ◌+◌, List, Option, Some, None}
+use Rattle.cf_asked.specs.declared.show.Show.TheVariants as show
 use Rattle.rv_machine.specs.Hart.{Hart}
 use Rattle.cf_semantics.specs.state.Layouts.{isa_of}
 use Rattle.cf_semantics.specs.runs.Lines.{sequence}
 use Rattle.cf_semantics.specs.state.State.{Moment}
 use Rattle.cf_core.specs.Processors.{Processor, opened}
-use Rattle.cf_run.specs.declared.show.Show.TheVariants as show
 use Rattle.cf_run.specs.Headline.{machine_on, AreTexts}
 use Rattle.cf_run.specs.Made.{all_shown}
 use Rattle.cf_audit.specs.declared.answer.Audit.{Audit}

@@ -1,16 +1,19 @@
 -- One turn of an audit: the next group of the trace is tested and its move made, or the audit ends.
 use Rattle.std.specs.Prelude.{◌≡◌, ◌⊎◌, ℕ, ◌+◌, ◌<◌, ◌≤◌, true, false, List, length, take, drop, Option, Some, None, Result, Ok, Err}
+use Rattle.cf_asked.specs.declared.show.Show.TheVariants as show
 use Rattle.cf_io.specs.Puts.{Writes}
+use Rattle.rv_machine.specs.Streams.{streams_of}
 use Rattle.cf_bind.specs.declared.moves.Move.{Move}
 use Rattle.cf_semantics.specs.declared.event.Event.{Event}
 use Rattle.cf_semantics.specs.moves.Bars.{bar as first_bar}
+use Rattle.cf_core.specs.Processors.{Processor}
+use Rattle.cf_report.specs.declared.tally.Tally.{Tally}
 use Rattle.cf_run.specs.declared.answer.Ran.TheVariants as ran
-use Rattle.cf_run.specs.declared.show.Show.TheVariants as show
-use Rattle.cf_run.specs.Moving.{Place, MakesOne, MakesAndShows, Does, shown_of}
+use Rattle.cf_run.specs.Moving.{Place, place_of, MakesOne, MakesAndShows, Does, shown_of}
 use Rattle.cf_audit.specs.declared.answer.Audit.{Audit}
 use Rattle.cf_audit.specs.declared.answer.Audit.TheVariants.{Agrees, Wrong, ReadFault}
 use Rattle.cf_audit.specs.declared.answer.TraceKind.TheVariants.{NotAMove, Barred, Differs, Cut}
-use Rattle.cf_audit.specs.Compared.{Comparison, HasOther, IsSame}
+use Rattle.cf_audit.specs.Compared.{Comparison, told_by, HasOther, IsSame}
 use Rattle.cf_audit.specs.Traces.{BeginsWith, has_line, line_of}
 
 -- where an audit has come to: the place of its run, and the comparison that is its report
@@ -21,6 +24,10 @@ pub record Stand : Type 0 where
 -- the stand with these
 abbrev pub stand_of : Place → Comparison → Stand
 stand_of place seen = record { place = place; seen = seen }
+
+-- the stand with these, by what a source tells; what the program writes goes nowhere
+abbrev pub stand_by : {S : Type 0} → (S → Option (List ℕ)) → Processor → S → Comparison → Tally → Stand
+stand_by unread core input seen tally = stand_of (place_of core (streams_of (unread input) None) (Some (told_by seen)) tally) seen
 
 -- the text that is left
 abbrev pub left_of : Comparison → List ℕ

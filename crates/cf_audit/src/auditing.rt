@@ -4,19 +4,16 @@
 ghost use Rattle.std.specs.Prelude.{◌≡◌, ◌+◌, ◌<◌, ◌≤◌, ◌^◌, None, Some, count_by, length};
 ghost use Rattle.rv_text.specs.Lines.{is_line_feed};
 ghost use Rattle.cf_io.specs.Causes.{HasCause};
-ghost use Rattle.rv_machine.specs.Streams.{streams_of};
-ghost use Rattle.cf_run.specs.Moving.{place_of};
+ghost use Rattle.cf_run.specs.Made.{CanCount};
 ghost use Rattle.cf_run.specs.Policies.{IsOpened};
-ghost use Rattle.cf_audit.specs.Compared.{told_by};
 ghost use Rattle.cf_audit.specs.Limits.{most_trace};
 ghost use Rattle.cf_audit.specs.Traces.{has_line, line_of};
-ghost use Rattle.cf_audit.specs.Turns.{stand_of, Compares, Tries, Tests, input_tested};
+ghost use Rattle.cf_audit.specs.Turns.{stand_by, Compares, Tests, input_tested};
 ghost use Rattle.cf_audit.specs.Audits.{Audits, AgreesWithAll, RetiresSequentially};
 
 use crate::answer::{Audit, TraceKind};
 use crate::compared::Compared;
 use crate::first_line::recorded_move;
-use cf_bind::Move;
 use cf_core::Core;
 use cf_io::{Nowhere, Source};
 use cf_report::Tally;
@@ -82,10 +79,10 @@ fn compared(trace: &[u8], report: &Compared<'_>) -> Option<Audit>
     }
 }
 
-/// Makes the move of the next line, if nothing bars it, and compares all that is shown of it with the trace.
-fn try_move<S: Source>(
+/// Tests the next group of the trace, makes its move, if nothing bars it, and compares all that is shown of it with the trace;
+/// or says how the audit ends.
+fn advance<S: Source>(
     core: &mut Core,
-    mv: Move,
     trace: &[u8],
     input: &mut S,
     report: &mut Compared<'_>,
@@ -93,18 +90,21 @@ fn try_move<S: Source>(
 ) -> Option<Audit>
     requires size { length trace.now ≤ most_trace }
     requires retired { core.old.state.retired + 1 < 2 ^ 64 }
-    requires moves { tally.old.moves + 1 < 2 ^ 64 }
-    requires meets { tally.old.meets + 1 < 2 ^ 64 }
-    requires kills { tally.old.kills + 1 < 2 ^ 64 }
-    requires dead { tally.old.dead + 1 < 2 ^ 64 }
-    ensures tries { Tries trace.now mv
-        (stand_of (place_of core.old (streams_of (S.left input.old) None)
-        (Some (told_by report.old)) tally.old) report.old)
-        (stand_of (place_of core.new (streams_of (S.left input.new) None)
-        (Some (told_by report.new)) tally.new) report.new)
-        result }
+    requires counts { CanCount tally.old }
+    ensures tests { Tests trace.now (stand_by S.left core.old input.old report.old tally.old)
+        (stand_by S.left core.new input.new report.new tally.new) result }
     ensures input { HasCause (S.faults input.old) (S.faults input.new) (input_tested result) }
 {
+    let left = report.rest();
+    if left.is_empty() {
+        return Some(Audit::Agrees(tally.moves));
+    }
+    if !has_line(left) {
+        return Some(wrong(trace, report.agreed(), TraceKind::Cut));
+    }
+    let Some(mv) = recorded_move(left, tally.moves + 1) else {
+        return Some(wrong(trace, report.agreed(), TraceKind::NotAMove));
+    };
     if let Some(bar) = core.allowed(mv) {
         return Some(wrong(trace, report.agreed(), TraceKind::Barred(bar)));
     }
@@ -116,41 +116,6 @@ fn try_move<S: Source>(
         Err(Ran::Exit(_)) => unreachable!(),
         Err(Ran::Trap { .. }) => unreachable!(),
         Err(Ran::Limit) => unreachable!(),
-    }
-}
-
-/// Tests the next group of the trace and makes its move, or says how the audit ends.
-fn advance<S: Source>(
-    core: &mut Core,
-    trace: &[u8],
-    input: &mut S,
-    report: &mut Compared<'_>,
-    tally: &mut Tally,
-) -> Option<Audit>
-    requires size { length trace.now ≤ most_trace }
-    requires retired { core.old.state.retired + 1 < 2 ^ 64 }
-    requires moves { tally.old.moves + 1 < 2 ^ 64 }
-    requires meets { tally.old.meets + 1 < 2 ^ 64 }
-    requires kills { tally.old.kills + 1 < 2 ^ 64 }
-    requires dead { tally.old.dead + 1 < 2 ^ 64 }
-    ensures tests { Tests trace.now
-        (stand_of (place_of core.old (streams_of (S.left input.old) None)
-        (Some (told_by report.old)) tally.old) report.old)
-        (stand_of (place_of core.new (streams_of (S.left input.new) None)
-        (Some (told_by report.new)) tally.new) report.new)
-        result }
-    ensures input { HasCause (S.faults input.old) (S.faults input.new) (input_tested result) }
-{
-    let left = report.rest();
-    if left.is_empty() {
-        return Some(Audit::Agrees(tally.moves));
-    }
-    if !has_line(left) {
-        return Some(wrong(trace, report.agreed(), TraceKind::Cut));
-    }
-    match recorded_move(left, tally.moves + 1) {
-        Some(mv) => try_move(core, mv, trace, input, report, tally),
-        None => Some(wrong(trace, report.agreed(), TraceKind::NotAMove)),
     }
 }
 

@@ -37,14 +37,14 @@ fn put_head<R: Sink>(
     core: &Core,
     limit: u64,
     answer: Scripted,
-    tally: &Tally,
+    moves: u64,
     report: &mut R,
 ) -> Result<(), Failed>
     ensures { PutsText (R.written report.old) (R.written report.new)
         (R.faults report.old) (R.faults report.new)
-        (head_text limit tally.now.moves answer core.now.state.retired) result }
+        (head_text limit moves answer core.now.state.retired) result }
 {
-    let page = head_page(limit, tally.moves, answer, core.retired());
+    let page = head_page(limit, moves, answer, core.retired());
     put_all(report, page.bytes())
 }
 
@@ -98,7 +98,7 @@ pub fn put_closing<R: Sink>(
         (R.faults report.old) (R.faults report.new)
         (closing limit answer core.now.plan core.now.state tally.now) result }
 {
-    put_head(core, limit, answer, tally, report)?;
+    put_head(core, limit, answer, tally.moves, report)?;
     put_rest(core, tally, report)
 }
 
@@ -116,7 +116,7 @@ pub fn put_closing_in_rounds<R: Sink>(
         (R.faults report.old) (R.faults report.new)
         (closing_in_rounds limit answer rounds core.now.plan core.now.state tally.now) result }
 {
-    put_head(core, limit, answer, tally, report)?;
+    put_head(core, limit, answer, tally.moves, report)?;
     put_rounds(rounds, report)?;
     put_rest(core, tally, report)
 }

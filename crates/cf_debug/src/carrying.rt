@@ -1,6 +1,6 @@
 //! A command is carried out.
 
-ghost use Rattle.std.specs.Prelude.{◌≡◌, ◌≤◌, ◌<◌, None, false, true};
+ghost use Rattle.std.specs.Prelude.{◌≡◌, None};
 ghost use Rattle.cf_io.specs.Causes.{HasCause};
 ghost use Rattle.cf_report.specs.Putting.{PutsText};
 ghost use Rattle.cf_debug.specs.declared.command.Command.TheVariants as commands;
@@ -12,7 +12,7 @@ ghost use Rattle.cf_debug.specs.Standing.{StandsSomewhere};
 
 use crate::answer::Broken;
 use crate::command::Command;
-use crate::driving::drive;
+use crate::driving::{drive, is_spent};
 use crate::making::make;
 use crate::replies::{put_back, put_break, put_counted, put_memory, put_moved, refuse, refuse_bar};
 use crate::ring::Ring;
@@ -32,39 +32,6 @@ fn told(answer: Result<(), Failed>) -> Result<(), Broken>
     }
 }
 
-/// Whether as many instructions have retired as may.
-fn is_spent(core: &Core) -> bool
-    ensures yes { result ≡ true → 10000000 ≤ core.now.state.retired }
-    ensures no { result ≡ false → core.now.state.retired < 10000000 }
-{
-    core.retired() >= 10_000_000
-}
-
-/// `move`, where the limit is not reached.
-fn try_move<K: Sink, R: Sink>(
-    mv: Move,
-    core: &mut Core,
-    ring: &mut Ring,
-    output: &mut K,
-    report: &mut R,
-) -> Result<(), Broken>
-    requires below { core.old.state.retired < 10000000 }
-    ensures carries { CarriesOut (commands.Move mv)
-        (desk_of (bench_of core.old ring.old (K.written output.old)) None)
-        (desk_of (bench_of core.new ring.new (K.written output.new)) None)
-        (R.written report.old) (R.written report.new) result }
-    ensures output { HasCause (K.faults output.old) (K.faults output.new) (output_broken result) }
-    ensures report { HasCause (R.faults report.old) (R.faults report.new) (report_broken result) }
-{
-    if let Some(bar) = core.allowed(mv) {
-        return told(refuse_bar(bar, report));
-    }
-    match make(core, ring, mv, output) {
-        Ok(event) => told(put_moved(core, &event, report)),
-        Err(_) => Err(Broken::Output),
-    }
-}
-
 /// `move`.
 fn carry_move<K: Sink, R: Sink>(
     mv: Move,
@@ -81,9 +48,14 @@ fn carry_move<K: Sink, R: Sink>(
     ensures report { HasCause (R.faults report.old) (R.faults report.new) (report_broken result) }
 {
     if is_spent(core) {
-        told(refuse(b"Limit", report))
-    } else {
-        try_move(mv, core, ring, output, report)
+        return told(refuse(b"Limit", report));
+    }
+    if let Some(bar) = core.allowed(mv) {
+        return told(refuse_bar(bar, report));
+    }
+    match make(core, ring, mv, output) {
+        Ok(event) => told(put_moved(core, &event, report)),
+        Err(_) => Err(Broken::Output),
     }
 }
 

@@ -1,11 +1,12 @@
 //! Moves are made in turn.
 
-ghost use Rattle.std.specs.Prelude.{◌≡◌, ◌<◌, false, length, true};
+ghost use Rattle.std.specs.Prelude.{◌≡◌, ◌<◌, ◌≤◌, false, length, true};
 ghost use Rattle.cf_io.specs.Causes.{HasCause};
 ghost use Rattle.cf_semantics.specs.moves.Holding.{offered};
 ghost use Rattle.cf_run.specs.Reaching.{GoesOn};
 ghost use Rattle.cf_run.specs.Policies.{chooser};
 ghost use Rattle.cf_debug.specs.Driving.{breaks};
+ghost use Rattle.cf_debug.specs.Limits.{most_retired};
 ghost use Rattle.cf_debug.specs.Making.{bench_of};
 ghost use Rattle.cf_debug.specs.Outcomes.{DrivesOut, Steers, output_broken, report_broken};
 ghost use Rattle.cf_debug.specs.Standing.{StandsSomewhere};
@@ -21,6 +22,9 @@ use cf_io::Sink;
 use cf_run::known;
 use cf_sched::{Pace, Policy, Round};
 
+/// How many instructions retire at most.
+const MOST_RETIRED: u64 = 10_000_000;
+
 /// Whether the move issues an instruction at the break address.
 fn breaks(core: &Core, stop: Option<u32>, mv: Move) -> bool
     ensures { result ≡ breaks stop core.now.state mv }
@@ -31,12 +35,20 @@ fn breaks(core: &Core, stop: Option<u32>, mv: Move) -> bool
     }
 }
 
+/// Whether as many instructions have retired as may.
+pub(crate) fn is_spent(core: &Core) -> bool
+    ensures yes { result ≡ true → most_retired ≤ core.now.state.retired }
+    ensures no { result ≡ false → core.now.state.retired < most_retired }
+{
+    core.retired() >= MOST_RETIRED
+}
+
 /// Whether the program has not ended, and fewer instructions have retired than may.
 fn goes_on(core: &Core) -> bool
-    ensures yes { result ≡ true → GoesOn 10000000 core.now.state }
-    ensures no { result ≡ false → GoesOn 10000000 core.now.state → ⊥ }
+    ensures yes { result ≡ true → GoesOn most_retired core.now.state }
+    ensures no { result ≡ false → GoesOn most_retired core.now.state → ⊥ }
 {
-    core.ending().is_none() && core.retired() < 10_000_000
+    core.ending().is_none() && !is_spent(core)
 }
 
 /// Makes the move that is picked and puts the line of an instruction that retires, and tells whether an instruction at the break
@@ -51,7 +63,7 @@ fn advance<K: Sink, R: Sink>(
     output: &mut K,
     report: &mut R,
 ) -> Result<bool, Broken>
-    requires goes { GoesOn 10000000 core.old.state }
+    requires goes { GoesOn most_retired core.old.state }
     requires stages { pace.old.stages ≡ core.old.plan.stages }
     requires some { 0 < length (offered core.old.plan pace.old.count core.old.state) }
     ensures steers { Steers stop (chooser round.old pace.old.count) (chooser round.new pace.new.count)

@@ -5,9 +5,13 @@ ghost use Rattle.cf_io.specs.Causes.{HasCause};
 ghost use Rattle.cf_io.specs.Takes.{IsAtEnd};
 ghost use Rattle.rv_machine.specs.Streams.{Gives};
 ghost use Rattle.cf_debug.specs.Cutting.{Feeding, Feeds, commands_fed};
+ghost use Rattle.cf_debug.specs.Limits.{most_bytes, most_taken};
 
 use cf_io::{Failed, Source};
 use std::marker::Model;
+
+/// How many bytes may be taken of the commands.
+const MOST_BYTES: usize = 16_777_216;
 
 /// What comes next of the commands.
 #[derive(Clone, Copy, PartialEq, Eq)]
@@ -62,13 +66,13 @@ fn one_more<S: Source>(commands: &mut S) -> Next
 impl Feed {
     /// Nothing was taken yet.
     pub(crate) fn new() -> Feed
-        ensures { result ≡ record { rest = []; left = 16777216 } }
+        ensures { result ≡ record { rest = []; left = most_bytes } }
     {
         Feed {
             piece: [0; 4096],
             at: 0,
             end: 0,
-            left: 16_777_216,
+            left: MOST_BYTES,
         }
     }
 
@@ -79,7 +83,7 @@ impl Feed {
         ensures taken { OnOk result (Gives (S.left commands.old) (S.left commands.new) self.new.rest) }
         ensures count { IfOk result (λ count. count ≡ length self.new.rest) }
         ensures left { OnOk result (self.new.left + length self.new.rest ≡ self.old.left) }
-        ensures few { OnOk result (length self.new.rest ≤ 4096) }
+        ensures few { OnOk result (length self.new.rest ≤ most_taken) }
         ensures end { IfOk result (λ count. count ≡ 0 → IsAtEnd (S.left commands.old)) }
         ensures failed { OnErr result ((self.new ≡ self.old) × Gives (S.left commands.old) (S.left commands.new) []) }
         ensures cause { HasCause (S.faults commands.old) (S.faults commands.new) result }

@@ -8,6 +8,9 @@ use crate::command::{Command, Refusal};
 use cf_scripts::{Words, read_move};
 use rv_text::{numeral, split_name};
 
+/// How many moves one command asks for at most.
+const MOST_MOVES: u32 = 1_000_000;
+
 /// The number that the next word spells: from one to nine decimal digits, from 1 up to a limit.
 #[tactic(auto, unfolding(crate::specs::Commands::number_told))]
 fn number(words: &mut Words<'_>, most: u32) -> Result<u32, Refusal>
@@ -67,7 +70,7 @@ fn read_moves(behind: &[u8]) -> Result<Command, Refusal>
 fn read_auto(mut words: Words<'_>) -> Result<Command, Refusal>
     ensures { result ≡ auto_told words.entry }
 {
-    let count = number(&mut words, 1_000_000)?;
+    let count = number(&mut words, MOST_MOVES)?;
     alone(&words, Command::Auto(count))
 }
 

@@ -4,6 +4,7 @@ ghost use Rattle.std.specs.Prelude.{◌≡◌, ◌≢◌, ◌≤◌, true, false
 ghost use Rattle.cf_io.specs.Causes.{HasCause};
 ghost use Rattle.cf_run.specs.Policies.{IsOpened};
 ghost use Rattle.cf_debug.specs.declared.command.Command.TheVariants as commands;
+ghost use Rattle.cf_debug.specs.Limits.{most_retired};
 ghost use Rattle.cf_debug.specs.Making.{bench_of};
 ghost use Rattle.cf_debug.specs.Outcomes.{output_broken, report_broken};
 ghost use Rattle.cf_debug.specs.Replies.{desk_of};
@@ -149,7 +150,7 @@ pub fn debug<S: Source, K: Sink, R: Sink>(
     report: &mut R,
 ) -> Debugged
     requires opened { IsOpened core.old }
-    requires retired { core.old.state.retired ≤ 10000000 }
+    requires retired { core.old.state.retired ≤ most_retired }
     requires ring { ring.old ≡ [] }
     ensures session { Debugs
         (session_of (bench_of core.old ring.old (K.written output.old)) (S.left commands.old) (R.written report.old))

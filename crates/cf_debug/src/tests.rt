@@ -131,6 +131,16 @@ fn assert_session(
     Ok(())
 }
 
+/// The session of these commands on `SEVEN`, given in pieces of this size, is carried out with these answers.
+fn assert_answers(
+    rt: &(impl Abort + AllocGlobal),
+    commands: &[u8],
+    piece: usize,
+    answers: &[u8],
+) -> Result<(), Fail> {
+    assert_session(rt, SEVEN, commands, piece, &[], Debugged::Done, answers)
+}
+
 /// The commands of the first example, and what they answer: `addi` weighs 3 in stage 1 of 2, 4 as it is not done, and 4 as it is
 /// not launched where the longest siding has one cell.
 const COMMANDS: &[u8] = b"move issue next\nbound\nmove leave\nback\nbound\nback\n\
@@ -142,9 +152,9 @@ const ANSWERS: &[u8] = b"moved\nbound 11\n? NoPassenger\nback issue next\nbound 
 /// The answers are the same however the commands come, and whether or not the last line has a line feed.
 #[test]
 fn pieces(rt: HostRuntime) -> Result<(), Fail> {
-    assert_session(&rt, SEVEN, COMMANDS, 1, &[], Debugged::Done, ANSWERS)?;
-    assert_session(&rt, SEVEN, COMMANDS, 8, &[], Debugged::Done, ANSWERS)?;
-    assert_session(&rt, SEVEN, COMMANDS, 4096, &[], Debugged::Done, ANSWERS)
+    assert_answers(&rt, COMMANDS, 1, ANSWERS)?;
+    assert_answers(&rt, COMMANDS, 8, ANSWERS)?;
+    assert_answers(&rt, COMMANDS, 4096, ANSWERS)
 }
 
 /// A take that fails leaves the answers to the lines that were taken whole before it: pieces of 8 bytes end in the first line, then in
@@ -179,39 +189,15 @@ fn refusals(rt: HostRuntime) -> Result<(), Fail> {
         7f0ffff0 00\n? BadNumber\n? BadNumber\n? BadNumber\n? BadNumber\n? NoAccess\n\
         00010000 13 05 70 00 93 08 d0 05 73 00 00 00\nbreak 0001000c\nbreak none\n? BadNumber\n? ExtraWords\nbound 0\n\
         ? ExtraWords\n? ExtraWords\n";
-    assert_session(&rt, SEVEN, commands, 5, &[], Debugged::Done, answers)
+    assert_answers(&rt, commands, 5, answers)
 }
 
 /// The last line may lack its line feed, and keeps its carriage return then.
 #[test]
 fn last_lines(rt: HostRuntime) -> Result<(), Fail> {
-    assert_session(
-        &rt,
-        SEVEN,
-        b"bound\nbound",
-        4096,
-        &[],
-        Debugged::Done,
-        b"bound 0\nbound 0\n",
-    )?;
-    assert_session(
-        &rt,
-        SEVEN,
-        b"bound\nbound\r",
-        4096,
-        &[],
-        Debugged::Done,
-        b"bound 0\n? UnknownCommand\n",
-    )?;
-    assert_session(
-        &rt,
-        SEVEN,
-        b"bound\nend",
-        4096,
-        &[],
-        Debugged::Done,
-        b"bound 0\n",
-    )
+    assert_answers(&rt, b"bound\nbound", 4096, b"bound 0\nbound 0\n")?;
+    assert_answers(&rt, b"bound\nbound\r", 4096, b"bound 0\n? UnknownCommand\n")?;
+    assert_answers(&rt, b"bound\nend", 4096, b"bound 0\n")
 }
 
 /// A line of 256 bytes is read, also with a carriage return behind it, and one of 257 is too long, also where it is the last.
@@ -223,37 +209,13 @@ fn long_lines(rt: HostRuntime) -> Result<(), Fail> {
         line.push(b' ')?;
     }
     line.extend_from_slice(b"\r\n")?;
-    assert_session(
-        &rt,
-        SEVEN,
-        line.as_slice(),
-        100,
-        &[],
-        Debugged::Done,
-        b"bound 0\n",
-    )?;
+    assert_answers(&rt, line.as_slice(), 100, b"bound 0\n")?;
     for _ in 0..257 {
         line.push(b' ')?;
     }
-    assert_session(
-        &rt,
-        SEVEN,
-        line.as_slice(),
-        100,
-        &[],
-        Debugged::Done,
-        b"bound 0\n? TooLong\n",
-    )?;
+    assert_answers(&rt, line.as_slice(), 100, b"bound 0\n? TooLong\n")?;
     line.extend_from_slice(b"\r\nend")?;
-    assert_session(
-        &rt,
-        SEVEN,
-        line.as_slice(),
-        300,
-        &[],
-        Debugged::Done,
-        b"bound 0\n? TooLong\n",
-    )
+    assert_answers(&rt, line.as_slice(), 300, b"bound 0\n? TooLong\n")
 }
 
 /// The program runs to its end in 19 moves, worked by hand from the table of moves and the order of Round: Serve is the 17th, so that two
@@ -264,7 +226,7 @@ fn to_the_end(rt: HostRuntime) -> Result<(), Fail> {
     let answers =
         b"retire 1 00010000 00700513 x10=00000007\nretire 2 00010004 05d00893 x17=0000005d\nauto 19\nauto 0\n\
         ? Halted\n? Halted\nback leave\nback fall 2\n? NothingKept\n? LaneEmpty\n";
-    assert_session(&rt, SEVEN, commands, 4096, &[], Debugged::Done, answers)
+    assert_answers(&rt, commands, 4096, answers)
 }
 
 /// `auto` stops behind the Issue at the break address, also where that is its first move. The first instruction is issued, climbs, is
@@ -275,7 +237,7 @@ fn break_address(rt: HostRuntime) -> Result<(), Fail> {
     let answers = b"break 00010000\nauto 1\nback issue next\nbreak 00010004\n\
         retire 1 00010000 00700513 x10=00000007\nauto 6\nbreak none\nfetch 00010008\nlane -\n\
         stage 2 result | x10=00000007\nstage 1 instruction | 00010004 next new - - x17=? -\n";
-    assert_session(&rt, SEVEN, commands, 4096, &[], Debugged::Done, answers)
+    assert_answers(&rt, commands, 4096, answers)
 }
 
 /// The registers at the start.
@@ -286,7 +248,7 @@ fn registers(rt: HostRuntime) -> Result<(), Fail> {
         x12=00000000 x13=00000000 x14=00000000 x15=00000000\nx16=00000000 x17=00000000 x18=00000000 x19=00000000\n\
         x20=00000000 x21=00000000 x22=00000000 x23=00000000\nx24=00000000 x25=00000000 x26=00000000 x27=00000000\n\
         x28=00000000 x29=00000000 x30=00000000 x31=00000000\n";
-    assert_session(&rt, SEVEN, b"regs", 4096, &[], Debugged::Done, answers)
+    assert_answers(&rt, b"regs", 4096, answers)
 }
 
 /// One byte is written from address 00010000, and the output fails that: the four instructions before the call have retired.

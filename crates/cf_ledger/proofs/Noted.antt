@@ -2,6 +2,7 @@
 use Rattle.std.proofs.Common.{◌≡◌, ◌≢◌, ◌∙◌, refl, sym, ap, subst, ℕ, suc, ◌≤◌, List, [], ◌∷◌, ◌++◌, length, Some, None, arith, append-nil}
 use Rattle.std.specs.Prelude.{slice_get}
 use Rattle.std.specs.List.{AllByRecursion}
+use Rattle.cf_asked.specs.declared.show.Show.TheVariants as show
 use Rattle.rv_machine.specs.Streams.{Streams}
 use Rattle.cf_layout.specs.Layout.{Plan}
 use Rattle.cf_layout.specs.Accepted.{IsAccepted}
@@ -13,7 +14,6 @@ use Rattle.cf_report.specs.declared.tally.Tally.{Tally}
 use Rattle.cf_run.specs.declared.answer.Ran.{Ran as Answer}
 use Rattle.cf_run.specs.declared.answer.Ran.TheVariants as ran
 use Rattle.cf_run.specs.declared.answer.Scripted.TheVariants.{Ran}
-use Rattle.cf_run.specs.declared.show.Show.TheVariants as show
 use Rattle.cf_run.specs.Ending.{EndsSequentially}
 use Rattle.cf_run.specs.Made.{Made, moves_of}
 use Rattle.cf_run.specs.Moving.{Place, place_of}

@@ -1,6 +1,7 @@
 //! The timed run of which a ledger is kept.
 
 ghost use Rattle.std.specs.Prelude.{◌≡◌, ◌-◌, ◌≤◌, Some};
+ghost use Rattle.cf_asked.specs.Limits.{most_limit};
 ghost use Rattle.cf_io.specs.Causes.{HasCause};
 ghost use Rattle.rv_machine.specs.Streams.{streams_of};
 ghost use Rattle.cf_run.specs.Policies.{IsOpened, input_stopped, most_moves, output_stopped};
@@ -30,7 +31,7 @@ pub fn run_noted<S: Source, K: Sink>(
     output: &mut K,
     moves: &mut u64,
 ) -> Timed
-    requires limit { limit ≤ 1000000000 }
+    requires limit { limit ≤ most_limit }
     requires retired { core.old.state.retired ≤ limit }
     requires opened { IsOpened core.old }
     requires clock { clock.old ≡ started core.old.plan clock.old.delays }

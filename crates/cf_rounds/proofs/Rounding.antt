@@ -1,6 +1,8 @@
 -- Where a run in rounds has come to.
 use Rattle.std.proofs.Common.{◌≡◌, ℕ, suc, ◌+◌, ◌-◌, ◌<◌, ◌≤◌, ◌^◌, List, [], ◌∷◌, ◌++◌, length, Option, Some, None, Err, inl, inr, refl, sym, ap, subst, ◌∙◌, append-nil, append_assoc, length-append, arith}
 use Rattle.std.specs.Prelude.{if◌then◌else◌, Bool, true, false}
+use Rattle.cf_asked.specs.Limits.{most_limit}
+use Rattle.cf_asked.specs.declared.show.Show.TheVariants as show
 use Rattle.rv_machine.specs.Machine.{Machine}
 use Rattle.cf_layout.specs.Accepted.{IsAccepted}
 use Rattle.cf_layout.specs.Layout.{Plan}
@@ -23,7 +25,6 @@ use Rattle.cf_sched.specs.Paces.{Count, HasCounted}
 use Rattle.cf_run.specs.declared.answer.Ran.{Ran as Answer}
 use Rattle.cf_run.specs.declared.answer.Ran.TheVariants as ran
 use Rattle.cf_run.specs.declared.answer.Scripted.TheVariants.{Ran}
-use Rattle.cf_run.specs.declared.show.Show.TheVariants as show
 use Rattle.cf_run.specs.Ending.{EndsAlike, EndsAsMachine, EndsSequentially}
 use Rattle.cf_run.specs.Going.{moment_of, Leads}
 use Rattle.cf_run.specs.Headline.{Gets, RunsSequentially, StopsAt}
@@ -202,7 +203,7 @@ comes-bounded limit start now pace number accepted wide o c =
     let grows = bound_grows start.core.plan (now.core.state.retired - start.core.state.retired) limit (omega (arith, c.within)) in
     omega (arith, bound, grows)
 
-pub comes-small : (limit : ℕ) (start now : Place) (pace : Count) (number : ℕ) → IsAccepted start.core.plan → length start.core.state.regs ≡ 32 → IsOpened start.core → limit ≤ 1000000000 → Comes limit start now pace number → now.tally.moves + 1 < 2 ^ 63
+pub comes-small : (limit : ℕ) (start now : Place) (pace : Count) (number : ℕ) → IsAccepted start.core.plan → length start.core.state.regs ≡ 32 → IsOpened start.core → limit ≤ most_limit → Comes limit start now pace number → now.tally.moves + 1 < 2 ^ 63
 comes-small limit start now pace number accepted wide o few c =
     let bound = comes-bounded limit start now pace number accepted wide o c in
     let small = bound_small start.core.plan limit accepted few in

@@ -1,5 +1,6 @@
 -- One turn of a run in rounds: the round of what is offered is made, or the run stops.
 use Rattle.std.specs.Prelude.{◌≡◌, ℕ, ◌<◌, List, [], ◌∷◌, length, Option, Some, None, Result, Ok, Err}
+use Rattle.cf_asked.specs.declared.show.Show.TheVariants as show
 use Rattle.cf_bind.specs.declared.moves.Move.{Move}
 use Rattle.cf_bind.specs.declared.moves.Move.TheVariants.{Serve}
 use Rattle.cf_semantics.specs.moves.Holding.{offered}
@@ -7,7 +8,6 @@ use Rattle.cf_index.specs.Alone.{HasSidings}
 use Rattle.cf_sched.specs.Paces.{Count, HasCounted}
 use Rattle.cf_run.specs.declared.answer.Ran.{Ran as Answer}
 use Rattle.cf_run.specs.declared.answer.Ran.TheVariants as ran
-use Rattle.cf_run.specs.declared.show.Show.TheVariants as show
 use Rattle.cf_run.specs.Moving.{Place, Does}
 use Rattle.cf_run.specs.Reaching.{GoesOn, IsOver}
 use Rattle.cf_rounds.specs.declared.answer.Clocked.{Clocked}

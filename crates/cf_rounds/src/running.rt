@@ -2,6 +2,7 @@
 #![tactic(auto, unfolding(crate::specs::Turns::Turns, crate::specs::Firing::Fires))]
 
 ghost use Rattle.std.specs.Prelude.{◌≡◌, ℕ, ◌+◌, ◌<◌, ◌≤◌, ◌^◌, None, Some, length};
+ghost use Rattle.cf_asked.specs.Limits.{most_limit};
 ghost use Rattle.cf_io.specs.Causes.{HasCause};
 ghost use Rattle.rv_machine.specs.Streams.{streams_of};
 ghost use Rattle.cf_semantics.specs.moves.Holding.{offered};
@@ -91,7 +92,7 @@ pub fn run_rounds<S: Source, K: Sink>(
     tally: &mut Tally,
     rounds: &mut u64,
 ) -> Clocked
-    requires limit { limit ≤ 1000000000 }
+    requires limit { limit ≤ most_limit }
     requires retired { core.old.state.retired ≤ limit }
     requires opened { IsOpened core.old }
     requires tally { tally.old ≡ no_tally }

@@ -1,5 +1,7 @@
 -- Where a run has come to, whatever its input tells; and where it has, over an input that tells what it has left.
 use Rattle.std.proofs.Common.{◌≡◌, ℕ, ◌+◌, List, [], Option, Some, ap, subst, ◌∙◌, refl, length}
+use Rattle.cf_asked.specs.declared.show.Show.{Show}
+use Rattle.cf_asked.specs.declared.show.Show.TheVariants as show
 use Rattle.cf_io.specs.Puts.{Writes}
 use Rattle.rv_machine.specs.Hart.{Hart}
 use Rattle.rv_machine.specs.Machine.{Machine}
@@ -13,8 +15,6 @@ use Rattle.cf_semantics.specs.state.State.{State, Moment}
 use Rattle.cf_refinement.proofs.claims.Runs.{opened_retired}
 use Rattle.cf_refinement.proofs.Theorems.{run_refines}
 use Rattle.cf_core.specs.Processors.{Processor, in_state, opened}
-use Rattle.cf_run.specs.declared.show.Show.{Show}
-use Rattle.cf_run.specs.declared.show.Show.TheVariants as show
 use Rattle.cf_run.specs.Going.{moment_of, Leads}
 use Rattle.cf_run.specs.Headline.{machine_on, moment_after, lines_after, IsRight, AreTexts}
 use Rattle.cf_run.specs.Made.{Made, moves_of, all_shown}

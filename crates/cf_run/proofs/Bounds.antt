@@ -2,6 +2,8 @@
 use Rattle.std.proofs.Common.{◌≡◌, ℕ, suc, ◌+◌, ◌-◌, ◌*◌, ◌≤◌, ◌<◌, ◌^◌, List, [], ◌∷◌, None, All, refl, sym, ap, subst, ◌∙◌, length, arith}
 use Rattle.std.proofs.lemmas.List.{length-map}
 use Rattle.std.proofs.lemmas.Bool.Decides.{nat_tests}
+use Rattle.cf_asked.specs.Limits.{most_limit}
+use Rattle.cf_asked.specs.declared.show.Show.{Show}
 use Rattle.rv_machine.specs.Machine.{Machine}
 use Rattle.cf_layout.specs.Accepted.{IsAccepted, IsSiding}
 use Rattle.cf_layout.specs.Layout.{SidingPlan, Plan}
@@ -18,7 +20,6 @@ use Rattle.cf_untold.proofs.Offered.{offered_some}
 use Rattle.cf_untold.proofs.Pacing.{paces_leads, paced_bounded_anew}
 use Rattle.cf_untold.proofs.Theorems.{anew_started, holds_anew}
 use Rattle.cf_core.specs.Processors.{Processor, in_state, opened}
-use Rattle.cf_run.specs.declared.show.Show.{Show}
 use Rattle.cf_run.specs.Going.{moment_of, Leads}
 use Rattle.cf_run.specs.Headline.{machine_on}
 use Rattle.cf_run.specs.Made.{Made, moves_of, tally_of}
@@ -104,7 +105,7 @@ few_cells plan (siding ∷ sidings) h =
     grind (arith, nat_tests, one, more)
 
 -- so the bound is at most this number
-pub bound_number : (plan : Plan) (r : ℕ) → IsAccepted plan → r ≤ 1000000000 → most_moves plan r ≤ 128 * 272 * 1000000001
+pub bound_number : (plan : Plan) (r : ℕ) → IsAccepted plan → r ≤ most_limit → most_moves plan r ≤ 128 * 272 * (most_limit + 1)
 unfolding moves_per_issue
 bound_number plan r accepted few =
     let n = accepted.stages.1 in
@@ -115,14 +116,14 @@ bound_number plan r accepted few =
     times : (a b c d : ℕ) → a ≤ b → c ≤ d → a * c ≤ b * d
     times a b c d f g = grind (arith, f, g)
 
-    product : (a b c : ℕ) → a ≤ 32 → b ≤ 272 → c ≤ 1000000001 → 4 * a * b * c ≤ 128 * 272 * 1000000001
+    product : (a b c : ℕ) → a ≤ 32 → b ≤ 272 → c ≤ most_limit + 1 → 4 * a * b * c ≤ 128 * 272 * (most_limit + 1)
     product a b c f g h =
         let one : 4 * a ≤ 128 = omega (arith, f) in
         let two : 4 * a * b ≤ 128 * 272 = times (4 * a) 128 b 272 one g in
-        times (4 * a * b) (128 * 272) c 1000000001 two h
+        times (4 * a * b) (128 * 272) c (most_limit + 1) two h
 
 -- which can be counted
-pub bound_small : (plan : Plan) (r : ℕ) → IsAccepted plan → r ≤ 1000000000 → most_moves plan r + 1 < 2 ^ 63
+pub bound_small : (plan : Plan) (r : ℕ) → IsAccepted plan → r ≤ most_limit → most_moves plan r + 1 < 2 ^ 63
 bound_small plan r accepted few = let n = bound_number plan r accepted few in omega (arith, n)
 
 -- more retirements allow for more moves

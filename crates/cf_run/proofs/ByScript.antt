@@ -1,11 +1,11 @@
 -- The run of a script comes to some place by its first moves, as many as were counted, whatever stops it there.
 use Rattle.std.proofs.Common.{◌≡◌, ℕ, List, [], ◌∷◌, ◌++◌, Some, None, sym, ap, subst, ◌∙◌}
+use Rattle.cf_asked.specs.declared.show.Show.{Show}
 use Rattle.cf_layout.specs.Accepted.{IsAccepted}
 use Rattle.cf_bind.specs.declared.moves.Move.{Move}
 use Rattle.cf_run.specs.declared.answer.Ran.TheVariants as ran
 use Rattle.cf_run.specs.declared.answer.Scripted.{Scripted}
 use Rattle.cf_run.specs.declared.answer.Scripted.TheVariants.{Ran, ScriptEnd, BadScript, BarredAt}
-use Rattle.cf_run.specs.declared.show.Show.{Show}
 use Rattle.cf_run.specs.Headline.{StopsAt, Gets}
 use Rattle.cf_run.specs.Made.{moves_of, tally_of}
 use Rattle.cf_run.specs.Moving.{Place, Does, shown_of}

@@ -1,6 +1,8 @@
 -- Where the run of a policy has come to, by a pace that counts up to where the candidates are held.
 use Rattle.std.proofs.Common.{◌≡◌, ℕ, ◌+◌, ◌-◌, ◌≤◌, ◌<◌, ◌^◌, List, ◌++◌, Bool, None, inl, inr, refl, sym, ap, subst, ◌∙◌, length, arith}
 use Rattle.std.specs.Prelude.{slice_get}
+use Rattle.cf_asked.specs.Limits.{most_limit}
+use Rattle.cf_asked.specs.declared.show.Show.{Show}
 use Rattle.cf_layout.specs.Accepted.{IsAccepted}
 use Rattle.cf_layout.specs.Layout.{Plan}
 use Rattle.cf_bind.specs.declared.moves.Move.{Move}
@@ -13,7 +15,6 @@ use Rattle.cf_report.specs.declared.tally.Tally.{Tally}
 use Rattle.cf_sched.specs.Paces.{Count, saw, stopped}
 use Rattle.cf_run.specs.declared.answer.Ran.{Ran as Answer}
 use Rattle.cf_run.specs.declared.answer.Ran.TheVariants as ran
-use Rattle.cf_run.specs.declared.show.Show.{Show}
 use Rattle.cf_run.specs.Asking.{SomeAsks}
 use Rattle.cf_run.specs.Made.{Made, moves_of}
 use Rattle.cf_run.specs.Moving.{Place, Does}
@@ -118,7 +119,7 @@ comes-bounded picked onward limit shows begin now first current held accepted wi
 
 -- which can be counted
 pub comes-counted : {P : Type 0} (picked : P → List Move → ℕ) (onward : P → List Move → P) (limit : ℕ) (shows : Show) (begin now : Place) (first current : P) (held : ℕ) → IsAccepted begin.core.plan → length begin.core.state.regs ≡ 32 → IsOpened begin.core → Comes picked onward limit shows begin now first current held
-    → now.core.state.retired ≤ limit → limit ≤ 1000000000 → now.tally.moves + 1 < 2 ^ 63
+    → now.core.state.retired ≤ limit → limit ≤ most_limit → now.tally.moves + 1 < 2 ^ 63
 comes-counted picked onward limit shows begin now first current held accepted wide o c within few =
     let a = comes-bounded picked onward limit shows begin now first current held accepted wide o c within in
     let b = bound_small begin.core.plan limit accepted few in

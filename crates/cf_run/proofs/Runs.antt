@@ -3,6 +3,7 @@ use Rattle.std.proofs.Common.{◌≡◌, ℕ, zero, suc, ◌+◌, ◌<◌, ◌�
 use Rattle.std.specs.Prelude.{count_by, unwrap_or}
 use Rattle.std.proofs.lemmas.List.{length-append}
 use Rattle.std.proofs.lemmas.List.Sums.{count_by-le-length, sum_by-append}
+use Rattle.cf_asked.specs.declared.show.Show.{Show}
 use Rattle.cf_io.specs.Puts.{Writes}
 use Rattle.cf_io.proofs.Owing.{writes-nothing, writes-again}
 use Rattle.rv_machine.specs.Streams.{Streams, IsTold, Becomes, Leaves}
@@ -20,8 +21,7 @@ use Rattle.cf_core.specs.Stepping.{Makes}
 use Rattle.cf_report.specs.declared.tally.Tally.{Tally}
 use Rattle.cf_scripts.specs.Scripts.{Told, next_of, first_of, behind_next}
 use Rattle.cf_scripts.specs.declared.refusal.ScriptErr.{ScriptErr}
-use Rattle.cf_run.specs.declared.show.Show.{Show}
-use Rattle.cf_run.specs.Made.{Made, moves_of, is_meeting, is_killed, is_died, tally_of, raised_if, counted, shown, all_shown}
+use Rattle.cf_run.specs.Made.{Made, moves_of, is_meeting, is_killed, is_died, tally_of, raised_if, counted, CanCount, shown, all_shown}
 use Rattle.cf_run.specs.Going.{moment_of, Finds, IsMade, Leads, RunsTo}
 use Rattle.cf_run.specs.Moving.{Place, MakesOne, MakesAndShows, Does}
 use Rattle.cf_run.specs.Reaching.{no_tally, Reaches}
@@ -261,6 +261,12 @@ pub counts-within : (limit : ℕ) (show : Show) (start now : Place) → Reaches 
 unfolding tally_of
 counts-within limit show start now h =
     rw h.tally (count_by-le-length (λ made. is_meeting made.move) h.trace, count_by-le-length (λ made. is_killed made.event) h.trace, count_by-le-length (λ made. is_died made.event) h.trace)
+
+-- so all can be counted on where the moves can
+pub can-count : (limit : ℕ) (show : Show) (start now : Place) → Reaches limit show start now → now.tally.moves + 1 < 2 ^ 64 → CanCount now.tally
+can-count limit show start now h few =
+    let within = counts-within limit show start now h in
+    record { moves = few; meets = omega (arith, few, within.0); kills = omega (arith, few, within.1); dead = omega (arith, few, within.2) }
 
 -- a run that has made a move has made fewer than 2 ^ 25 with those that are left
 pub few-made : (made left : ℕ) → (0 < made → made + left < 2 ^ 25) → made ≤ 2 ^ 25

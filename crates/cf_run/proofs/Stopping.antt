@@ -1,6 +1,8 @@
 -- How a run stops, at whatever moment it has come to.
 use Rattle.std.proofs.Common.{◌≡◌, ℕ, ◌<◌, List, [], ◌∷◌, ◌++◌, Option, Some, None, Err, true, arith, refl, sym, ap, subst, ◌∙◌, take, append_assoc}
 use Rattle.std.proofs.lemmas.List.{append_cancel_left}
+use Rattle.cf_asked.specs.declared.show.Show.{Show}
+use Rattle.cf_asked.specs.declared.show.Show.TheVariants as show
 use Rattle.cf_io.specs.Puts.{Writes, WritesFront}
 use Rattle.cf_io.proofs.Owing.{front-again, writes-again}
 use Rattle.rv_machine.specs.Machine.{Machine}
@@ -19,8 +21,6 @@ use Rattle.cf_run.specs.declared.answer.Ran.{Ran as Answer}
 use Rattle.cf_run.specs.declared.answer.Ran.TheVariants as ran
 use Rattle.cf_run.specs.declared.answer.Scripted.{Scripted}
 use Rattle.cf_run.specs.declared.answer.Scripted.TheVariants.{Ran}
-use Rattle.cf_run.specs.declared.show.Show.{Show}
-use Rattle.cf_run.specs.declared.show.Show.TheVariants as show
 use Rattle.cf_run.specs.Headline.{StandsAt, IsUnmoved, FailsInput, FailsOutput, StopsAt, AreTexts, Gets, ReportsLines}
 use Rattle.cf_run.specs.Made.{Made, moves_of, all_shown}
 use Rattle.cf_run.specs.Moving.{Place, MakesOne, MakesAndShows, FailsOutside, Does, shown_of}

@@ -1,5 +1,7 @@
 -- Where a run has come to over an input that does not tell what it has left: at a machine to which as many steps lead as have retired, each of which finds some input.
 use Rattle.std.proofs.Common.{◌≡◌, ℕ, zero, suc, ◌+◌, List, [], ◌∷◌, ◌++◌, Option, Some, None, refl, subst, length, ◌≤◌, arith}
+use Rattle.cf_asked.specs.declared.show.Show.{Show}
+use Rattle.cf_asked.specs.declared.show.Show.TheVariants as show
 use Rattle.rv_inst.specs.declared.isa.Isa.{Isa}
 use Rattle.rv_machine.specs.Hart.{Hart}
 use Rattle.rv_machine.specs.Machine.{Machine}
@@ -20,8 +22,6 @@ use Rattle.cf_untold.proofs.Invariant.{HoldsAnew}
 use Rattle.cf_untold.proofs.Bounded.{drain_bounded_anew}
 use Rattle.cf_untold.proofs.Theorems.{holds_anew, left_open}
 use Rattle.cf_core.specs.Processors.{opened}
-use Rattle.cf_run.specs.declared.show.Show.{Show}
-use Rattle.cf_run.specs.declared.show.Show.TheVariants as show
 use Rattle.cf_run.specs.Going.{moment_of, Leads}
 use Rattle.cf_run.specs.Headline.{machine_on, AreTexts}
 use Rattle.cf_run.specs.Made.{Made, moves_of, all_shown, shown}

@@ -1,5 +1,7 @@
 -- The headline: a run leaves what the sequential machine leaves on which the processor was opened, whether or not the input tells what it has left, and comes to rest ("Counterflow Pipeline Processor Architecture", 1994: the order of the local actions is free).
 use Rattle.std.specs.Prelude.{◌≡◌, ℕ, ◌+◌, ◌≤◌, List, [], ◌∷◌, ◌++◌, length, Option, Some, None}
+use Rattle.cf_asked.specs.declared.show.Show.{Show}
+use Rattle.cf_asked.specs.declared.show.Show.TheVariants as show
 use Rattle.cf_io.specs.Puts.{Writes, WritesFront}
 use Rattle.rv_inst.specs.declared.isa.Isa.{Isa}
 use Rattle.rv_machine.specs.After.{after}
@@ -26,8 +28,6 @@ use Rattle.cf_report.specs.Lines.{retired_line}
 use Rattle.cf_run.specs.declared.answer.Ran.TheVariants as ran
 use Rattle.cf_run.specs.declared.answer.Scripted.{Scripted}
 use Rattle.cf_run.specs.declared.answer.Scripted.TheVariants.{Ran}
-use Rattle.cf_run.specs.declared.show.Show.{Show}
-use Rattle.cf_run.specs.declared.show.Show.TheVariants as show
 use Rattle.cf_run.specs.Made.{Made, all_shown}
 use Rattle.cf_run.specs.Moving.{Place}
 

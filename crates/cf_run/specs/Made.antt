@@ -1,5 +1,7 @@
 -- Moves that were made: what is counted of them, and what a report shows.
-use Rattle.std.specs.Prelude.{ℕ, ◌+◌, List, [], ◌∷◌, ◌++◌, length, map, count_by, Bool, true, false, if◌then◌else◌}
+use Rattle.std.specs.Prelude.{ℕ, ◌+◌, ◌<◌, ◌^◌, List, [], ◌∷◌, ◌++◌, length, map, count_by, Bool, true, false, if◌then◌else◌}
+use Rattle.cf_asked.specs.declared.show.Show.{Show}
+use Rattle.cf_asked.specs.declared.show.Show.TheVariants as show
 use Rattle.cf_layout.specs.Layout.{Plan}
 use Rattle.cf_bind.specs.declared.moves.Move.{Move}
 use Rattle.cf_bind.specs.declared.moves.Move.TheVariants.{Meet}
@@ -9,8 +11,6 @@ use Rattle.cf_semantics.specs.state.State.{State}
 use Rattle.cf_report.specs.declared.tally.Tally.{Tally}
 use Rattle.cf_report.specs.Lines.{retired_line, numbered_move}
 use Rattle.cf_report.specs.Picture.{picture}
-use Rattle.cf_run.specs.declared.show.Show.{Show}
-use Rattle.cf_run.specs.declared.show.Show.TheVariants as show
 
 -- a move that was made, its event, and the state that it left
 pub record Made : Type 0 where
@@ -58,6 +58,13 @@ counted tally mv e = record {
   kills = raised_if (is_killed e) tally.kills;
   dead = raised_if (is_died e) tally.dead;
 }
+
+-- one more of each can be counted in 64 bits
+pub record CanCount (tally : Tally) : Type 0 where
+  pub moves : tally.moves + 1 < 2 ^ 64
+  pub meets : tally.meets + 1 < 2 ^ 64
+  pub kills : tally.kills + 1 < 2 ^ 64
+  pub dead : tally.dead + 1 < 2 ^ 64
 
 -- the line of an instruction that retired with a move, where so many have with it; no line of another event
 abbrev pub retirement : ℕ → Event → List ℕ

@@ -1,7 +1,8 @@
 -- One move of a run: it is made, counted and shown, or it tells why the run stops there.
 use Rattle.std.specs.Prelude.{◌≡◌, ℕ, List, Option, None, Result, Ok, Err}
+use Rattle.cf_asked.specs.declared.show.Show.{Show}
 use Rattle.cf_io.specs.Puts.{Writes, WritesFront}
-use Rattle.rv_machine.specs.Streams.{Streams}
+use Rattle.rv_machine.specs.Streams.{Streams, streams_of}
 use Rattle.cf_bind.specs.declared.moves.Move.{Move}
 use Rattle.cf_bind.specs.declared.moves.Move.TheVariants.{Serve}
 use Rattle.cf_semantics.specs.declared.event.Event.{Event}
@@ -12,7 +13,6 @@ use Rattle.cf_core.specs.Stepping.{Makes, FailsToRead, FailsToWrite}
 use Rattle.cf_report.specs.declared.tally.Tally.{Tally}
 use Rattle.cf_run.specs.declared.answer.Ran.{Ran as Answer}
 use Rattle.cf_run.specs.declared.answer.Ran.TheVariants as ran
-use Rattle.cf_run.specs.declared.show.Show.{Show}
 use Rattle.cf_run.specs.Made.{counted, shown}
 
 -- where a run has come to: the processor, what input and output tell, what the report tells, and what was counted
@@ -25,6 +25,12 @@ pub record Place : Type 0 where
 -- the place with these
 abbrev pub place_of : Processor → Streams → Option (List ℕ) → Tally → Place
 place_of core streams report tally = record { core = core; streams = streams; report = report; tally = tally }
+
+-- the place with what these objects tell, by what a source and two sinks tell
+abbrev pub place_by : {S K R : Type 0} → (S → Option (List ℕ)) → (K → Option (List ℕ)) → (R → Option (List ℕ)) →
+    Processor → S → K → R → Tally → Place
+place_by unread written reported core input output report tally =
+    place_of core (streams_of (unread input) (written output)) (reported report) tally
 
 -- nothing barred the move; it was made and counted, with this event
 pub record MakesOne (mv : Move) (event : Event) (now new : Place) : Type 0 where

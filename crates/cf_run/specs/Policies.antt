@@ -1,5 +1,6 @@
 -- What the run of a policy does: the moves that it picks from what it is offered, why it stops behind them, and what it leaves ("Counterflow Pipeline Processor Architecture", 1994: any schedule of local actions is a run).
 use Rattle.std.specs.Prelude.{◌≡◌, ◌⊎◌, ℕ, ◌+◌, ◌*◌, List, [], ◌∷◌, ◌++◌, slice_get, drop, Option, Some, None, Result, Ok, Err}
+use Rattle.cf_asked.specs.declared.show.Show.{Show}
 use Rattle.rv_machine.specs.Hart.{Hart}
 use Rattle.cf_layout.specs.Layout.{Plan}
 use Rattle.cf_bind.specs.declared.moves.Move.{Move}
@@ -14,7 +15,6 @@ use Rattle.cf_sched.specs.Paces.{stopped}
 use Rattle.cf_run.specs.declared.answer.Ran.{Ran as Answer}
 use Rattle.cf_run.specs.declared.answer.Ran.TheVariants as ran
 use Rattle.cf_run.specs.declared.answer.Scripted.TheVariants.{Ran}
-use Rattle.cf_run.specs.declared.show.Show.{Show}
 use Rattle.cf_run.specs.Asking.{SomeAsks}
 use Rattle.cf_run.specs.Headline.{RunsSequentially}
 use Rattle.cf_run.specs.Made.{Made, moves_of}

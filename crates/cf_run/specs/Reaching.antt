@@ -1,5 +1,6 @@
 -- Where a run has come to: the moves that it made were counted and shown, and it goes on or is over.
 use Rattle.std.specs.Prelude.{◌≡◌, ℕ, ◌<◌, List, Some, None}
+use Rattle.cf_asked.specs.declared.show.Show.{Show}
 use Rattle.cf_io.specs.Puts.{Writes}
 use Rattle.rv_machine.specs.Streams.{IsTold, Leaves}
 use Rattle.cf_bind.specs.declared.passenger.End.TheVariants as ending
@@ -8,7 +9,6 @@ use Rattle.cf_core.specs.Processors.{in_state}
 use Rattle.cf_report.specs.declared.tally.Tally.{Tally}
 use Rattle.cf_run.specs.declared.answer.Ran.{Ran as Answer}
 use Rattle.cf_run.specs.declared.answer.Ran.TheVariants as ran
-use Rattle.cf_run.specs.declared.show.Show.{Show}
 use Rattle.cf_run.specs.Made.{Made, tally_of, all_shown}
 use Rattle.cf_run.specs.Going.{moment_of, Leads, RunsTo}
 use Rattle.cf_run.specs.Moving.{Place}

@@ -1,7 +1,7 @@
 //! A move is counted.
 
-ghost use Rattle.std.specs.Prelude.{◌≡◌, ◌+◌, ◌<◌, ◌^◌};
-ghost use Rattle.cf_run.specs.Made.{counted, is_meeting as meets, is_killed as kills, is_died as dies};
+ghost use Rattle.std.specs.Prelude.{◌≡◌};
+ghost use Rattle.cf_run.specs.Made.{CanCount, counted, is_meeting as meets, is_killed as kills, is_died as dies};
 
 use cf_bind::Move;
 use cf_core::Event;
@@ -10,10 +10,7 @@ use cf_report::Tally;
 /// Counts a move that was made, and what is seen of it.
 #[inline(always)]
 pub(crate) fn count(tally: &mut Tally, mv: Move, event: &Event)
-    requires moves { tally.old.moves + 1 < 2 ^ 64 }
-    requires meets { tally.old.meets + 1 < 2 ^ 64 }
-    requires kills { tally.old.kills + 1 < 2 ^ 64 }
-    requires dead { tally.old.dead + 1 < 2 ^ 64 }
+    requires { CanCount tally.old }
     ensures { tally.new ≡ counted tally.old mv event.now }
 {
     tally.moves += 1;

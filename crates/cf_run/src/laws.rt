@@ -2,6 +2,7 @@
 //! docs/PROMISES.md says each in plain words.
 
 ghost use Rattle.std.specs.Prelude.{◌≡◌, ◌≤◌, ◌<◌, ◌-◌, ℕ, List, None, Some, length, slice_get};
+ghost use Rattle.cf_asked.specs.declared.show.Show.{Show};
 ghost use Rattle.rv_machine.specs.Hart.{Hart};
 ghost use Rattle.cf_bind.specs.declared.moves.Move.{Move};
 ghost use Rattle.cf_layout.specs.Accepted.{IsAccepted};
@@ -12,7 +13,6 @@ ghost use Rattle.cf_core.specs.Processors.{opened};
 ghost use Rattle.cf_run.specs.declared.answer.Ran.{Ran as Answer};
 ghost use Rattle.cf_run.specs.declared.answer.Scripted.{Scripted};
 ghost use Rattle.cf_run.specs.declared.answer.Scripted.TheVariants.{Ran};
-ghost use Rattle.cf_run.specs.declared.show.Show.{Show};
 ghost use Rattle.cf_run.specs.Ending.{EndsAlike};
 ghost use Rattle.cf_run.specs.Headline.{RunsSequentially};
 ghost use Rattle.cf_run.specs.Moving.{Place};

@@ -9,16 +9,15 @@ pub mod laws;
 mod moving;
 mod policy;
 mod script;
-mod show;
 mod showing;
 
 pub use answer::{Ran, Scripted};
+pub use cf_asked::Show;
 pub use facts::known;
 pub use finished::over;
 pub use moving::make;
 pub use policy::run_policy;
 pub use script::run_script;
-pub use show::Show;
 
 #[cfg(test)]
 mod tests;

@@ -3,15 +3,15 @@
 
 ghost use Rattle.std.specs.Prelude.{◌≡◌, ◌+◌, ◌<◌, ◌^◌, None};
 ghost use Rattle.cf_io.specs.Causes.{HasCause};
-ghost use Rattle.rv_machine.specs.Streams.{streams_of};
 ghost use Rattle.cf_semantics.specs.moves.Bars.{bar};
 ghost use Rattle.cf_core.specs.Asking.{AsksInput, AsksOutput};
-ghost use Rattle.cf_run.specs.Moving.{place_of, Does, input_done, output_done, report_done};
+ghost use Rattle.cf_run.specs.Made.{CanCount};
+ghost use Rattle.cf_run.specs.Moving.{place_by, Does, input_done, output_done, report_done};
 
 use crate::answer::Ran;
 use crate::counting::count;
-use crate::show::Show;
 use crate::showing::put_shown;
+use cf_asked::Show;
 use cf_bind::Move;
 use cf_core::{Core, Event, Fault};
 use cf_io::{Sink, Source};
@@ -30,15 +30,10 @@ pub fn make<S: Source, K: Sink, R: Sink>(
 ) -> Result<Event, Ran>
     requires allowed { bar core.old.plan core.old.state mv ≡ None }
     requires retired { core.old.state.retired + 1 < 2 ^ 64 }
-    requires moves { tally.old.moves + 1 < 2 ^ 64 }
-    requires meets { tally.old.meets + 1 < 2 ^ 64 }
-    requires kills { tally.old.kills + 1 < 2 ^ 64 }
-    requires dead { tally.old.dead + 1 < 2 ^ 64 }
+    requires counts { CanCount tally.old }
     ensures does { Does show mv
-        (place_of core.old (streams_of (S.left input.old) (K.written output.old))
-        (R.written report.old) tally.old)
-        (place_of core.new (streams_of (S.left input.new) (K.written output.new))
-        (R.written report.new) tally.new)
+        (place_by S.left K.written R.written core.old input.old output.old report.old tally.old)
+        (place_by S.left K.written R.written core.new input.new output.new report.new tally.new)
         result }
     ensures input { HasCause (S.faults input.old) (S.faults input.new) (input_done result) }
     ensures output { HasCause (K.faults output.old) (K.faults output.new) (output_done result) }
@@ -49,9 +44,16 @@ pub fn make<S: Source, K: Sink, R: Sink>(
     match core.make(mv, input, output) {
         Ok(event) => {
             count(tally, mv, &event);
-            match put_shown(core, show, tally.moves, mv, &event, report) {
-                Ok(()) => Ok(event),
-                Err(_) => Err(Ran::ReportFault),
+            match show {
+                Show::Report => Ok(event),
+                Show::Retired | Show::Moves => {
+                    // A copy, so that the event need not stand in memory where nothing is shown.
+                    let seen = event;
+                    match put_shown(core, show, tally.moves, mv, &seen, report) {
+                        Ok(()) => Ok(event),
+                        Err(_) => Err(Ran::ReportFault),
+                    }
+                }
             }
         }
         Err(Fault::Read) => Err(Ran::ReadFault),

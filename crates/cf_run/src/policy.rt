@@ -2,13 +2,14 @@
 #![tactic(auto)]
 
 ghost use Rattle.std.specs.Prelude.{◌≡◌, ◌+◌, ◌-◌, ◌<◌, ◌≤◌, ◌^◌, None, Some, false, length, slice_get};
+ghost use Rattle.cf_asked.specs.Limits.{most_limit};
 ghost use Rattle.cf_io.specs.Causes.{HasCause};
-ghost use Rattle.rv_machine.specs.Streams.{streams_of};
 ghost use Rattle.cf_semantics.specs.moves.Holding.{offered};
 ghost use Rattle.cf_core.specs.Asking.{AsksInput, AsksOutput};
 ghost use Rattle.cf_run.specs.declared.answer.Scripted.TheVariants as scripted;
 ghost use Rattle.cf_run.specs.Ending.{EndsSequentially};
-ghost use Rattle.cf_run.specs.Moving.{place_of};
+ghost use Rattle.cf_run.specs.Made.{CanCount};
+ghost use Rattle.cf_run.specs.Moving.{place_by};
 ghost use Rattle.cf_run.specs.Policies.{chooser, input_stopped, output_stopped, report_stopped, IsOpened, ChoiceAsks, PolicyTurns, PolicyUnasked, RunsRight, most_moves};
 ghost use Rattle.cf_run.specs.Reaching.{no_tally};
 
@@ -16,7 +17,7 @@ use crate::answer::Ran;
 use crate::facts::known;
 use crate::finished::over;
 use crate::moving::make;
-use crate::show::Show;
+use cf_asked::Show;
 use cf_bind::Move;
 use cf_core::Core;
 use cf_index::Candidates;
@@ -55,15 +56,10 @@ fn advance<P: Policy, S: Source, K: Sink, R: Sink>(
     requires retired { core.old.state.retired ≤ limit }
     requires stages { pace.old.stages ≡ core.old.plan.stages }
     requires some { core.old.state.ending ≡ None → 0 < length (offered core.old.plan pace.old.count core.old.state) }
-    requires moves { tally.old.moves + 1 < 2 ^ 64 }
-    requires meets { tally.old.meets + 1 < 2 ^ 64 }
-    requires kills { tally.old.kills + 1 < 2 ^ 64 }
-    requires dead { tally.old.dead + 1 < 2 ^ 64 }
+    requires counts { CanCount tally.old }
     ensures turns { PolicyTurns P.picked P.onward limit show
-        (place_of core.old (streams_of (S.left input.old) (K.written output.old))
-        (R.written report.old) tally.old)
-        (place_of core.new (streams_of (S.left input.new) (K.written output.new))
-        (R.written report.new) tally.new)
+        (place_by S.left K.written R.written core.old input.old output.old report.old tally.old)
+        (place_by S.left K.written R.written core.new input.new output.new report.new tally.new)
         (chooser policy.old pace.old.count) (chooser policy.new pace.new.count) result }
     ensures stages { pace.new.stages ≡ pace.old.stages }
     ensures input { HasCause (S.faults input.old) (S.faults input.new) (input_stopped result) }
@@ -108,31 +104,25 @@ pub fn run_policy<P: Policy, S: Source, K: Sink, R: Sink>(
     report: &mut R,
     tally: &mut Tally,
 ) -> Ran
-    requires limit { limit ≤ 1000000000 }
+    requires limit { limit ≤ most_limit }
     requires retired { core.old.state.retired ≤ limit }
     requires opened { IsOpened core.old }
     requires tally { tally.old ≡ no_tally }
     ensures run { RunsRight P.picked P.onward limit show
-        (place_of core.old (streams_of (S.left input.old) (K.written output.old))
-        (R.written report.old) tally.old)
-        (place_of core.new (streams_of (S.left input.new) (K.written output.new))
-        (R.written report.new) tally.new)
+        (place_by S.left K.written R.written core.old input.old output.old report.old tally.old)
+        (place_by S.left K.written R.written core.new input.new output.new report.new tally.new)
         policy.old policy.new result }
     ensures ends { EndsSequentially limit
-        (place_of core.old (streams_of (S.left input.old) (K.written output.old))
-        (R.written report.old) tally.old)
-        (place_of core.new (streams_of (S.left input.new) (K.written output.new))
-        (R.written report.new) tally.new)
+        (place_by S.left K.written R.written core.old input.old output.old report.old tally.old)
+        (place_by S.left K.written R.written core.new input.new output.new report.new tally.new)
         (scripted.Ran result) }
     ensures bounded { tally.new.moves ≤ most_moves core.old.plan (core.new.state.retired - core.old.state.retired) }
     ensures input { HasCause (S.faults input.old) (S.faults input.new) (input_stopped (Some result)) }
     ensures output { HasCause (K.faults output.old) (K.faults output.new) (output_stopped (Some result)) }
     ensures report { HasCause (R.faults report.old) (R.faults report.new) (report_stopped (Some result)) }
     ensures asked { PolicyUnasked P.picked P.onward limit show
-        (place_of core.old (streams_of (S.left input.old) (K.written output.old))
-        (R.written report.old) tally.old)
-        (place_of core.new (streams_of (S.left input.new) (K.written output.new))
-        (R.written report.new) tally.new)
+        (place_by S.left K.written R.written core.old input.old output.old report.old tally.old)
+        (place_by S.left K.written R.written core.new input.new output.new report.new tally.new)
         policy.old policy.new result (input.new ≡ input.old) (output.new ≡ output.old) }
 {
     known(core);

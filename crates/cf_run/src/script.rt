@@ -2,11 +2,12 @@
 #![tactic(auto, unfolding(crate::specs::Scripts::Stops, crate::specs::Scripts::DoesLine))]
 
 ghost use Rattle.std.specs.Prelude.{◌≡◌, ◌+◌, ◌<◌, ◌≤◌, ◌^◌, IsNone, Some, false, length};
+ghost use Rattle.cf_asked.specs.Limits.{most_limit};
 ghost use Rattle.cf_io.specs.Causes.{HasCause};
-ghost use Rattle.rv_machine.specs.Streams.{streams_of};
 ghost use Rattle.cf_core.specs.Asking.{AsksInput, AsksOutput};
 ghost use Rattle.cf_run.specs.Asking.{NextAsks, RunsUnasked};
-ghost use Rattle.cf_run.specs.Moving.{place_of};
+ghost use Rattle.cf_run.specs.Made.{CanCount};
+ghost use Rattle.cf_run.specs.Moving.{place_by};
 ghost use Rattle.cf_run.specs.Ending.{EndsSequentially};
 ghost use Rattle.cf_run.specs.Headline.{RunsSequentially};
 ghost use Rattle.cf_run.specs.Reaching.{no_tally};
@@ -16,7 +17,7 @@ use crate::answer::Scripted;
 use crate::facts::known;
 use crate::finished::over;
 use crate::moving::make;
-use crate::show::Show;
+use cf_asked::Show;
 use cf_bind::Move;
 use cf_core::Core;
 use cf_io::{Sink, Source};
@@ -36,15 +37,10 @@ fn make_line<S: Source, K: Sink, R: Sink>(
     tally: &mut Tally,
 ) -> Option<Scripted>
     requires retired { core.old.state.retired + 1 < 2 ^ 64 }
-    requires moves { tally.old.moves + 1 < 2 ^ 64 }
-    requires meets { tally.old.meets + 1 < 2 ^ 64 }
-    requires kills { tally.old.kills + 1 < 2 ^ 64 }
-    requires dead { tally.old.dead + 1 < 2 ^ 64 }
+    requires counts { CanCount tally.old }
     ensures does { DoesLine show line mv
-        (place_of core.old (streams_of (S.left input.old) (K.written output.old))
-        (R.written report.old) tally.old)
-        (place_of core.new (streams_of (S.left input.new) (K.written output.new))
-        (R.written report.new) tally.new)
+        (place_by S.left K.written R.written core.old input.old output.old report.old tally.old)
+        (place_by S.left K.written R.written core.new input.new output.new report.new tally.new)
         result }
     ensures input { HasCause (S.faults input.old) (S.faults input.new) (input_scripted result) }
     ensures output { HasCause (K.faults output.old) (K.faults output.new) (output_scripted result) }
@@ -75,15 +71,10 @@ fn advance<S: Source, K: Sink, R: Sink>(
 ) -> Option<Scripted>
     requires limit { limit + 1 < 2 ^ 64 }
     requires retired { core.old.state.retired ≤ limit }
-    requires moves { tally.old.moves + 1 < 2 ^ 64 }
-    requires meets { tally.old.meets + 1 < 2 ^ 64 }
-    requires kills { tally.old.kills + 1 < 2 ^ 64 }
-    requires dead { tally.old.dead + 1 < 2 ^ 64 }
+    requires counts { CanCount tally.old }
     ensures turns { Turns limit show
-        (stand_of (place_of core.old (streams_of (S.left input.old) (K.written output.old))
-        (R.written report.old) tally.old) script.old)
-        (stand_of (place_of core.new (streams_of (S.left input.new) (K.written output.new))
-        (R.written report.new) tally.new) script.new)
+        (stand_of (place_by S.left K.written R.written core.old input.old output.old report.old tally.old) script.old)
+        (stand_of (place_by S.left K.written R.written core.new input.new output.new report.new tally.new) script.new)
         result }
     ensures few { IsNone result → length script.old.moves < 2 ^ 25 }
     ensures input { HasCause (S.faults input.old) (S.faults input.new) (input_scripted result) }
@@ -130,36 +121,28 @@ pub fn run_script<S: Source, K: Sink, R: Sink>(
     report: &mut R,
     tally: &mut Tally,
 ) -> Scripted
-    requires limit { limit ≤ 1000000000 }
+    requires limit { limit ≤ most_limit }
     requires retired { core.old.state.retired ≤ limit }
     requires works { core.old.state.failed ≡ false }
     requires tally { tally.old ≡ no_tally }
     ensures run { RunsScript limit show
-        (stand_of (place_of core.old (streams_of (S.left input.old) (K.written output.old))
-        (R.written report.old) tally.old) script.old)
-        (stand_of (place_of core.new (streams_of (S.left input.new) (K.written output.new))
-        (R.written report.new) tally.new) script.new)
+        (stand_of (place_by S.left K.written R.written core.old input.old output.old report.old tally.old) script.old)
+        (stand_of (place_by S.left K.written R.written core.new input.new output.new report.new tally.new) script.new)
         result }
     ensures sequential { RunsSequentially show (first_moves script.old tally.new)
-        (place_of core.old (streams_of (S.left input.old) (K.written output.old))
-        (R.written report.old) tally.old)
-        (place_of core.new (streams_of (S.left input.new) (K.written output.new))
-        (R.written report.new) tally.new)
+        (place_by S.left K.written R.written core.old input.old output.old report.old tally.old)
+        (place_by S.left K.written R.written core.new input.new output.new report.new tally.new)
         result }
     ensures ends { EndsSequentially limit
-        (place_of core.old (streams_of (S.left input.old) (K.written output.old))
-        (R.written report.old) tally.old)
-        (place_of core.new (streams_of (S.left input.new) (K.written output.new))
-        (R.written report.new) tally.new)
+        (place_by S.left K.written R.written core.old input.old output.old report.old tally.old)
+        (place_by S.left K.written R.written core.new input.new output.new report.new tally.new)
         result }
     ensures input { HasCause (S.faults input.old) (S.faults input.new) (input_scripted (Some result)) }
     ensures output { HasCause (K.faults output.old) (K.faults output.new) (output_scripted (Some result)) }
     ensures report { HasCause (R.faults report.old) (R.faults report.new) (report_scripted (Some result)) }
     ensures asked { RunsUnasked limit show
-        (stand_of (place_of core.old (streams_of (S.left input.old) (K.written output.old))
-        (R.written report.old) tally.old) script.old)
-        (stand_of (place_of core.new (streams_of (S.left input.new) (K.written output.new))
-        (R.written report.new) tally.new) script.new)
+        (stand_of (place_by S.left K.written R.written core.old input.old output.old report.old tally.old) script.old)
+        (stand_of (place_by S.left K.written R.written core.new input.new output.new report.new tally.new) script.new)
         result (input.new ≡ input.old) (output.new ≡ output.old) }
 {
     known(core);

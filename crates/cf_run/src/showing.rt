@@ -5,7 +5,7 @@ ghost use Rattle.std.specs.Prelude.{◌≡◌};
 ghost use Rattle.cf_report.specs.Putting.{PutsText};
 ghost use Rattle.cf_run.specs.Made.{Made, retirement, shown};
 
-use crate::show::Show;
+use cf_asked::Show;
 use cf_bind::Move;
 use cf_core::{Core, Event};
 use cf_io::{Failed, Sink};
@@ -22,50 +22,9 @@ fn put_retirement<R: Sink>(n: u64, event: &Event, report: &mut R) -> Result<(), 
     }
 }
 
-/// Puts all that is shown of a move, the `n`th.
-fn put_whole<R: Sink>(
-    core: &Core,
-    n: u64,
-    mv: Move,
-    event: &Event,
-    report: &mut R,
-) -> Result<(), Failed>
-    ensures { PutsText (R.written report.old) (R.written report.new)
-        (R.faults report.old) (R.faults report.new)
-        (shown Show.Moves core.now.plan n
-        (record { move = mv; event = event.now; state = core.now.state })) result }
-{
-    put_move(n, mv, report)?;
-    put_retirement(core.retired(), event, report)?;
-    put_picture(core, report)
-}
-
-/// Puts the lines that are shown of a move, the `n`th, that left the processor as it is.
+/// Puts what is to be shown of a move, the `n`th, that left the processor as it is.
 // A page is large, and would slow the run down if it were a local of its loop.
 #[inline(never)]
-fn put_lines<R: Sink>(
-    core: &Core,
-    show: Show,
-    n: u64,
-    mv: Move,
-    event: &Event,
-    report: &mut R,
-) -> Result<(), Failed>
-    ensures { PutsText (R.written report.old) (R.written report.new)
-        (R.faults report.old) (R.faults report.new)
-        (shown show core.now.plan n
-        (record { move = mv; event = event.now; state = core.now.state })) result }
-{
-    match show {
-        Show::Report => Ok(()),
-        Show::Retired => put_retirement(core.retired(), event, report),
-        Show::Moves => put_whole(core, n, mv, event, report),
-    }
-}
-
-/// Puts what is to be shown of a move, the `n`th, that left the processor as it is. Most runs show nothing.
-// The event is copied, so that it need not stand in memory where nothing is shown.
-#[inline(always)]
 pub(crate) fn put_shown<R: Sink>(
     core: &Core,
     show: Show,
@@ -81,9 +40,11 @@ pub(crate) fn put_shown<R: Sink>(
 {
     match show {
         Show::Report => Ok(()),
-        Show::Retired | Show::Moves => {
-            let event = *event;
-            put_lines(core, show, n, mv, &event, report)
+        Show::Retired => put_retirement(core.retired(), event, report),
+        Show::Moves => {
+            put_move(n, mv, report)?;
+            put_retirement(core.retired(), event, report)?;
+            put_picture(core, report)
         }
     }
 }

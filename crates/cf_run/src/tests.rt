@@ -50,13 +50,45 @@ fn core_of(rt: &(impl Abort + AllocGlobal), layout: &[u8], words: &[u32]) -> Res
 /// `beq x0, x0, 16` and `slli x1, x2, 1`: what stands behind the branch is fetched by a wrong guess.
 const WRONG_GUESS: &[u32] = &[0x0000_0863, 0x0011_1093];
 
-/// Makes the moves in order, each of which nothing bars.
-fn make(rt: &(impl Abort + AllocGlobal), core: &mut Core, moves: &[Move]) {
-    for m in moves {
-        assert!(rt; core.allowed(*m).is_none(), "barred");
-        assert!(rt; core.retired() <= 1000, "too many retired");
-        let step = core.step(*m, &mut Empty, &mut Nowhere);
-        assert!(rt; matches!(step, Step::Moved(_)), "not moved");
+/// A part of an order of moves.
+#[derive(Clone, Copy)]
+enum Leg {
+    /// One move.
+    One(Move),
+    /// A packet falls from this stage on, so often.
+    Falls(u32, u32),
+    /// An instruction climbs from this stage on, so often.
+    Climbs(u32, u32),
+}
+
+/// Makes a move, which nothing bars.
+fn make(rt: &(impl Abort + AllocGlobal), core: &mut Core, mv: Move) {
+    assert!(rt; core.allowed(mv).is_none(), "barred");
+    assert!(rt; core.retired() <= 1000, "too many retired");
+    let step = core.step(mv, &mut Empty, &mut Nowhere);
+    assert!(rt; matches!(step, Step::Moved(_)), "not moved");
+}
+
+fn fall(rt: &(impl Abort + AllocGlobal), core: &mut Core, from: u32, count: u32) {
+    for done in 0..count {
+        make(rt, core, Move::Fall(from.wrapping_sub(done)));
+    }
+}
+
+fn climb(rt: &(impl Abort + AllocGlobal), core: &mut Core, from: u32, count: u32) {
+    for done in 0..count {
+        make(rt, core, Move::Climb(from.wrapping_add(done)));
+    }
+}
+
+/// Makes the moves in order.
+fn make_all(rt: &(impl Abort + AllocGlobal), core: &mut Core, legs: &[Leg]) {
+    for leg in legs {
+        match *leg {
+            Leg::One(mv) => make(rt, core, mv),
+            Leg::Falls(from, count) => fall(rt, core, from, count),
+            Leg::Climbs(from, count) => climb(rt, core, from, count),
+        }
     }
 }
 
@@ -66,7 +98,7 @@ fn make(rt: &(impl Abort + AllocGlobal), core: &mut Core, moves: &[Move]) {
 fn bounds(rt: HostRuntime) -> Result<(), Fail> {
     let mut core = core_of(&rt, TINY, SEVEN)?;
     assert_eq!(rt; core.bound(), 0);
-    make(&rt, &mut core, &[Move::Issue(Guess::Next)]);
+    make(&rt, &mut core, Move::Issue(Guess::Next));
     assert_eq!(rt; core.bound(), 11);
     Ok(())
 }
@@ -75,129 +107,84 @@ fn bounds(rt: HostRuntime) -> Result<(), Fail> {
 /// which its siding launches, and has requested x2.
 fn guessed(rt: &(impl Abort + AllocGlobal)) -> Result<Core, Fail> {
     let mut core = core_of(rt, SHIFT_SIDING, WRONG_GUESS)?;
-    let moves = [
-        Move::Issue(Guess::Next),
-        Move::Climb(1),
-        Move::Climb(2),
-        Move::Issue(Guess::Next),
-    ];
-    make(rt, &mut core, &moves);
+    make(rt, &mut core, Move::Issue(Guess::Next));
+    climb(rt, &mut core, 1, 2);
+    make(rt, &mut core, Move::Issue(Guess::Next));
     Ok(core)
 }
 
 /// The turn of the branch reaches the shift before its source does: the shift dies in stage 1 and is never launched.
-const DIES_FIRST: &[Move] = &[
-    Move::Execute(3),
-    Move::Send(3),
-    Move::Fall(3),
-    Move::Fall(2),
-    Move::Meet(1),
-    Move::Exit,
-    Move::Climb(3),
-    Move::Climb(4),
-    Move::Climb(5),
-    Move::Climb(6),
-    Move::Climb(7),
-    Move::Leave,
-    Move::Climb(1),
-    Move::Climb(2),
-    Move::Climb(3),
-    Move::Climb(4),
-    Move::Climb(5),
-    Move::Climb(6),
-    Move::Climb(7),
-    Move::Leave,
-    Move::Emit,
-    Move::Fall(8),
-    Move::Fall(7),
-    Move::Fall(6),
-    Move::Fall(5),
-    Move::Fall(4),
-    Move::Fall(3),
-    Move::Fall(2),
-    Move::Exit,
+const DIES_FIRST: &[Leg] = &[
+    Leg::One(Move::Execute(3)),
+    Leg::One(Move::Send(3)),
+    Leg::Falls(3, 2),
+    Leg::One(Move::Meet(1)),
+    Leg::One(Move::Exit),
+    Leg::Climbs(3, 5),
+    Leg::One(Move::Leave),
+    Leg::Climbs(1, 7),
+    Leg::One(Move::Leave),
+    Leg::One(Move::Emit),
+    Leg::Falls(8, 7),
+    Leg::One(Move::Exit),
 ];
 
 /// The shift is launched, dies in stage 2, and takes its operation out of the siding when it is dead.
-const DIES_LAUNCHED: &[Move] = &[
-    Move::Emit,
-    Move::Fall(8),
-    Move::Fall(7),
-    Move::Fall(6),
-    Move::Fall(5),
-    Move::Fall(4),
-    Move::Meet(3),
-    Move::Fall(3),
-    Move::Fall(2),
-    Move::Meet(1),
-    Move::Exit,
-    Move::Launch(1),
-    Move::Climb(1),
-    Move::Execute(3),
-    Move::Send(3),
-    Move::Climb(3),
-    Move::Fall(3),
-    Move::Meet(2),
-    Move::Slide(1, 0),
-    Move::Climb(2),
-    Move::Recover(3),
-    Move::Fall(2),
-    Move::Exit,
-    Move::Climb(4),
-    Move::Climb(5),
-    Move::Climb(6),
-    Move::Climb(7),
-    Move::Leave,
-    Move::Climb(3),
-    Move::Climb(4),
-    Move::Climb(5),
-    Move::Climb(6),
-    Move::Climb(7),
-    Move::Leave,
+const DIES_LAUNCHED: &[Leg] = &[
+    Leg::One(Move::Emit),
+    Leg::Falls(8, 5),
+    Leg::One(Move::Meet(3)),
+    Leg::Falls(3, 2),
+    Leg::One(Move::Meet(1)),
+    Leg::One(Move::Exit),
+    Leg::One(Move::Launch(1)),
+    Leg::One(Move::Climb(1)),
+    Leg::One(Move::Execute(3)),
+    Leg::One(Move::Send(3)),
+    Leg::One(Move::Climb(3)),
+    Leg::One(Move::Fall(3)),
+    Leg::One(Move::Meet(2)),
+    Leg::One(Move::Slide(1, 0)),
+    Leg::One(Move::Climb(2)),
+    Leg::One(Move::Recover(3)),
 ];
 
 /// The shift comes back from the siding beside the turn and owes its value, which it must not send, as it dies there.
-const DIES_OWING: &[Move] = &[
-    Move::Emit,
-    Move::Fall(8),
-    Move::Fall(7),
-    Move::Fall(6),
-    Move::Fall(5),
-    Move::Fall(4),
-    Move::Meet(3),
-    Move::Fall(3),
-    Move::Fall(2),
-    Move::Meet(1),
-    Move::Launch(1),
-    Move::Slide(1, 0),
-    Move::Climb(1),
-    Move::Execute(3),
-    Move::Send(3),
-    Move::Climb(3),
-    Move::Climb(2),
-    Move::Recover(3),
-    Move::Meet(3),
-    Move::Fall(3),
-    Move::Exit,
-    Move::Fall(2),
-    Move::Exit,
-    Move::Climb(4),
-    Move::Climb(5),
-    Move::Climb(6),
-    Move::Climb(7),
-    Move::Leave,
-    Move::Climb(3),
-    Move::Climb(4),
-    Move::Climb(5),
-    Move::Climb(6),
-    Move::Climb(7),
-    Move::Leave,
+const DIES_OWING: &[Leg] = &[
+    Leg::One(Move::Emit),
+    Leg::Falls(8, 5),
+    Leg::One(Move::Meet(3)),
+    Leg::Falls(3, 2),
+    Leg::One(Move::Meet(1)),
+    Leg::One(Move::Launch(1)),
+    Leg::One(Move::Slide(1, 0)),
+    Leg::One(Move::Climb(1)),
+    Leg::One(Move::Execute(3)),
+    Leg::One(Move::Send(3)),
+    Leg::One(Move::Climb(3)),
+    Leg::One(Move::Climb(2)),
+    Leg::One(Move::Recover(3)),
+    Leg::One(Move::Meet(3)),
+    Leg::One(Move::Fall(3)),
+    Leg::One(Move::Exit),
 ];
 
-/// The state after the moves, in which nothing stands any more: the branch has retired, and fetch goes on at its target.
-fn drained(rt: &(impl Abort + AllocGlobal), moves: &[Move]) -> Result<Core, Fail> {
+/// What these two leave falls out at the bottom, and both instructions leave at the top.
+const LEAVE: &[Leg] = &[
+    Leg::One(Move::Fall(2)),
+    Leg::One(Move::Exit),
+    Leg::Climbs(4, 4),
+    Leg::One(Move::Leave),
+    Leg::Climbs(3, 5),
+    Leg::One(Move::Leave),
+];
+
+/// The state after the moves, and others behind them, in which nothing stands any more: the branch has retired, and fetch goes
+/// on at its target.
+fn drained(rt: &(impl Abort + AllocGlobal), moves: &[Leg], behind: &[Leg]) -> Result<Core, Fail> {
     let mut core = guessed(rt)?;
-    make(rt, &mut core, moves);
+    make_all(rt, &mut core, moves);
+    make_all(rt, &mut core, behind);
     assert!(rt; core.drained(), "not drained");
     assert!(rt; core.fetch() == Fetch::Running(0x1_0010), "elsewhere");
     assert_eq!(rt; core.retired(), 1);
@@ -207,9 +194,9 @@ fn drained(rt: &(impl Abort + AllocGlobal), moves: &[Move]) -> Result<Core, Fail
 /// All orders of moves that drain one state lead to one state, but for what is kept at the bottom.
 #[test]
 fn drains_end_in_one_state(rt: HostRuntime) -> Result<(), Fail> {
-    let first = drained(&rt, DIES_FIRST)?;
-    let second = drained(&rt, DIES_LAUNCHED)?;
-    let third = drained(&rt, DIES_OWING)?;
+    let first = drained(&rt, DIES_FIRST, &[])?;
+    let second = drained(&rt, DIES_LAUNCHED, LEAVE)?;
+    let third = drained(&rt, DIES_OWING, LEAVE)?;
     assert!(rt; first.same(&second) && second.same(&third) && first.same(&third));
     assert!(rt; !first.same(&guessed(&rt)?));
     Ok(())

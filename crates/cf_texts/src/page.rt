@@ -11,7 +11,7 @@ use digits::hex8;
 use itoa::Buffer;
 use std::marker::Model;
 
-/// How many bytes a page has room for.
+/// How many bytes a page has room for: 416 for the 32 registers, and 224 for the lines before them.
 const ROOM: usize = 640;
 
 /// A page of text, which takes no memory: there is room for a line of each kind, a count and the 32 registers. It is seen as

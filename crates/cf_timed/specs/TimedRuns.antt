@@ -1,12 +1,12 @@
 -- A timed run: the moves that are done first, one after another, and what the clock tells of them.
 use Rattle.std.specs.Prelude.{◌≡◌, ℕ, List, [], None}
+use Rattle.cf_asked.specs.declared.show.Show.TheVariants as show
 use Rattle.rv_machine.specs.Streams.{Streams}
 use Rattle.cf_core.specs.Processors.{Processor}
 use Rattle.cf_report.specs.declared.tally.Tally.{Tally}
 use Rattle.cf_run.specs.declared.answer.Ran.{Ran as Answer}
 use Rattle.cf_run.specs.declared.answer.Ran.TheVariants as ran
 use Rattle.cf_run.specs.declared.answer.Scripted.TheVariants.{Ran}
-use Rattle.cf_run.specs.declared.show.Show.TheVariants as show
 use Rattle.cf_run.specs.Ending.{EndsSequentially}
 use Rattle.cf_run.specs.Moving.{Place, place_of}
 use Rattle.cf_run.specs.Policies.{RunsRight}

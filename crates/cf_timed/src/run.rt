@@ -1,6 +1,7 @@
 //! The timed run.
 
 ghost use Rattle.std.specs.Prelude.{◌≡◌, ◌≢◌, ◌+◌, ◌-◌, ◌<◌, ◌≤◌, ◌^◌, Some, length};
+ghost use Rattle.cf_asked.specs.Limits.{most_limit};
 ghost use Rattle.cf_io.specs.Causes.{HasCause};
 ghost use Rattle.rv_machine.specs.Streams.{streams_of};
 ghost use Rattle.cf_layout.specs.Accepted.{IsAccepted};
@@ -36,7 +37,7 @@ pub fn run_timed<S: Source, K: Sink>(
     output: &mut K,
     moves: &mut u64,
 ) -> Timed
-    requires limit { limit ≤ 1000000000 }
+    requires limit { limit ≤ most_limit }
     requires retired { core.old.state.retired ≤ limit }
     requires opened { IsOpened core.old }
     requires clock { clock.old ≡ started core.old.plan clock.old.delays }

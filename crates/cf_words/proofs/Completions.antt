@@ -4,9 +4,9 @@ use Rattle.std.specs.List.{list_all}
 use Rattle.std.specs.Prelude.{is_some, if◌then◌else◌}
 use Rattle.std.proofs.lemmas.Bool.{cases_lt}
 use Rattle.std.proofs.lemmas.List.{length-append, take-append-le, take-map, drop-map}
+use Rattle.cf_asked.specs.declared.show.Show.TheVariants as shows
 use Rattle.cf_words.specs.declared.names.Name.{Name}
 use Rattle.cf_words.specs.declared.names.Name.TheVariants as names
-use Rattle.cf_words.specs.declared.options.Show.TheVariants as shows
 use Rattle.cf_words.specs.declared.options.Key.{Key}
 use Rattle.cf_words.specs.declared.options.Key.TheVariants as keys
 use Rattle.cf_words.specs.declared.reading.Subject.{Subject}

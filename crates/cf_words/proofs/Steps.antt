@@ -3,14 +3,15 @@ use Rattle.std.proofs.Common.{◌≡◌, ◌≤◌, ◌<◌, ◌⊎◌, ℕ, Lis
 use Rattle.std.specs.Prelude.{is_some, nat_le, nat_lt}
 use Rattle.std.specs.Str.Parse.{digits_value}
 use Rattle.std.proofs.lemmas.Bool.Decides.{nat_tests}
+use Rattle.cf_asked.specs.Limits.{most_limit}
+use Rattle.cf_asked.specs.declared.show.Show.{Show}
 use Rattle.cf_words.specs.declared.names.Name.{Name}
-use Rattle.cf_words.specs.declared.options.Show.{Show}
 use Rattle.cf_words.specs.declared.options.Key.{Key}
 use Rattle.cf_words.specs.declared.options.Key.TheVariants as keys
 use Rattle.cf_words.specs.declared.reading.Subject.{Subject}
 use Rattle.cf_words.specs.Values.{is_file_name, is_number, count_in}
 use Rattle.cf_words.specs.Commands.{word_of, fewest, most, counts, is_positional}
-use Rattle.cf_words.specs.Options.{key_word, show_word, key_of, value_words, takes_key, has_lines, has_sites, is_value, most_limit, most_seed, Setting, limit_to, show_lines, show_sites, script_from, seed_from, with_mul, with_run, by_script, by_seed, Given}
+use Rattle.cf_words.specs.Options.{key_word, show_word, key_of, value_words, takes_key, has_lines, has_sites, is_value, most_seed, Setting, limit_to, show_lines, show_sites, script_from, seed_from, with_mul, with_run, by_script, by_seed, Given}
 use Rattle.cf_words.specs.Reading.{State, start, placed, options, valued, bare, one_more, follow, when, behind_name, behind_key, behind_option, behind_value, has_place, has_key, is_text, with_value, with_limit, with_seed, with_lines, name_in, key_in, lines_in, number_in, nothing_given}
 use Rattle.cf_words.proofs.Texts.{is-text, name-read, name-written, key-read, key-written, lines-read, lines-written, lines-no-sites}
 

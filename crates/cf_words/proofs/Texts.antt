@@ -1,10 +1,10 @@
 -- The words that name commands, options and what is shown: each names one, and is written in one way.
 use Rattle.std.proofs.Common.{◌≡◌, ℕ, List, codes, true, false, refl, arith, Some}
 use lib.Pointwise.{bytes_decides}
+use Rattle.cf_asked.specs.declared.show.Show.{Show}
+use Rattle.cf_asked.specs.declared.show.Show.TheVariants as shows
 use Rattle.cf_words.specs.declared.names.Name.{Name}
 use Rattle.cf_words.specs.declared.names.Name.TheVariants as names
-use Rattle.cf_words.specs.declared.options.Show.{Show}
-use Rattle.cf_words.specs.declared.options.Show.TheVariants as shows
 use Rattle.cf_words.specs.declared.options.Key.{Key}
 use Rattle.cf_words.specs.declared.options.Key.TheVariants as keys
 use Rattle.cf_words.specs.Commands.{word_of}

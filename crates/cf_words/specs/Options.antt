@@ -1,10 +1,11 @@
 -- The options of the project's command line: how each is written, which commands have it, and what it gives.
 use Rattle.std.specs.Prelude.{◌≢◌, ℕ, List, [], ◌∷◌, ◌++◌, codes, Bool, true, false, ◌&&◌, Option, Some, None}
 use Rattle.std.specs.Str.Parse.{digits_value}
+use Rattle.cf_asked.specs.Limits.{most_limit}
+use Rattle.cf_asked.specs.declared.show.Show.{Show}
+use Rattle.cf_asked.specs.declared.show.Show.TheVariants as shows
 use Rattle.cf_words.specs.declared.names.Name.{Name}
 use Rattle.cf_words.specs.declared.names.Name.TheVariants as names
-use Rattle.cf_words.specs.declared.options.Show.{Show}
-use Rattle.cf_words.specs.declared.options.Show.TheVariants as shows
 use Rattle.cf_words.specs.declared.options.Key.{Key}
 use Rattle.cf_words.specs.declared.options.Key.TheVariants as keys
 use Rattle.cf_words.specs.Values.{is_file_name, is_number}
@@ -91,10 +92,6 @@ has_sites _ = false
 -- the limit where none is given
 abbrev pub default_limit : ℕ
 default_limit = 10000000
-
--- the greatest limit
-abbrev pub most_limit : ℕ
-most_limit = 1000000000
 
 -- the greatest seed
 abbrev pub most_seed : ℕ

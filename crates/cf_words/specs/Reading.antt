@@ -2,16 +2,17 @@
 use Rattle.std.specs.Prelude.{ℕ, ◌+◌, List, codes, take, drop, nat_eq, nat_le, nat_lt, Bool, true, false, not, ◌&&◌, ◌||◌, Option, Some, None, if◌then◌else◌}
 use Rattle.std.specs.Str.Parse.{digits_value}
 use lib.Pointwise.{pointwise}
+use Rattle.cf_asked.specs.Limits.{most_limit}
+use Rattle.cf_asked.specs.declared.show.Show.{Show}
+use Rattle.cf_asked.specs.declared.show.Show.TheVariants as shows
 use Rattle.cf_words.specs.declared.names.Name.{Name}
 use Rattle.cf_words.specs.declared.names.Name.TheVariants as names
-use Rattle.cf_words.specs.declared.options.Show.{Show}
-use Rattle.cf_words.specs.declared.options.Show.TheVariants as shows
 use Rattle.cf_words.specs.declared.options.Key.{Key}
 use Rattle.cf_words.specs.declared.options.Key.TheVariants as keys
 use Rattle.cf_words.specs.declared.reading.Subject.{Subject}
 use Rattle.cf_words.specs.Values.{is_file_name, is_number}
 use Rattle.cf_words.specs.Commands.{fewest, most, is_positional}
-use Rattle.cf_words.specs.Options.{takes_key, has_lines, has_sites, most_limit, most_seed, Matter, limits, showing, schedules, multiplies, running, matter_of, by_script, by_seed, Given}
+use Rattle.cf_words.specs.Options.{takes_key, has_lines, has_sites, most_seed, Matter, limits, showing, schedules, multiplies, running, matter_of, by_script, by_seed, Given}
 use Rattle.cf_words.specs.Words.{Asked, asked_by}
 
 -- a word that is this text

@@ -9,8 +9,9 @@ ghost use Rattle.cf_words.specs.Views.{state_of, given_of, asked_of, layout_of};
 
 use crate::names::Name;
 use crate::numbers::read_count;
-use crate::options::{Options, Schedule, Show};
+use crate::options::{Options, Schedule};
 use crate::reading::Reading;
+use cf_asked::Show;
 
 /// The limit where `--limit` is not given.
 pub const DEFAULT_LIMIT: u64 = 10_000_000;

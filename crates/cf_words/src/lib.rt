@@ -7,10 +7,11 @@ mod numbers;
 mod options;
 mod reading;
 
+pub use cf_asked::Show;
 pub use command::{
     Command, DEFAULT_LIMIT, LayoutWord, MachineOptions, RunOptions, TimeOptions, read_words,
 };
-pub use options::{Schedule, Show};
+pub use options::Schedule;
 
 #[cfg(test)]
 mod tests;

@@ -8,23 +8,13 @@ ghost use Rattle.cf_words.specs.Views.{given_of};
 
 use crate::names::{Name, is_file_name};
 use crate::numbers::read_number;
+use cf_asked::Show;
 
 /// The greatest number of retired instructions behind `--limit`.
 const MOST_LIMIT: u64 = 1_000_000_000;
 
 /// The greatest seed behind `--seed`.
 const MOST_SEED: u64 = 0xFFFF_FFFF;
-
-/// What is shown of a run.
-#[derive(Clone, Copy)]
-pub enum Show {
-    /// The closing report alone.
-    Report,
-    /// A line for each retired instruction before it.
-    Retired,
-    /// A line for each move of the processor before it.
-    Moves,
-}
 
 /// What chooses the moves of a run.
 #[derive(Clone, Copy)]
@@ -91,28 +81,26 @@ impl Key {
     }
 }
 
-impl Show {
-    /// What the value of `--show` asks.
-    fn from_word(word: &str) -> Option<Self>
-        ensures { result ≡ lines_in word.now }
-    {
-        match word {
-            "report" => Some(Show::Report),
-            "retired" => Some(Show::Retired),
-            "moves" => Some(Show::Moves),
-            _ => None,
-        }
+/// What the value of `--show` asks to be shown of a run.
+fn lines_of(word: &str) -> Option<Show>
+    ensures { result ≡ lines_in word.now }
+{
+    match word {
+        "report" => Some(Show::Report),
+        "retired" => Some(Show::Retired),
+        "moves" => Some(Show::Moves),
+        _ => None,
     }
+}
 
-    /// Whether a command can show this of a run: only one of the processor has moves.
-    fn is_of(self, name: Name) -> bool
-        ensures { result ≡ has_lines name self }
-    {
-        matches!(
-            (name, self),
-            (Name::Run, _) | (Name::Machine, Show::Report | Show::Retired)
-        )
-    }
+/// Whether a command can show this of a run: only one of the processor has moves.
+fn can_show(name: Name, show: Show) -> bool
+    ensures { result ≡ has_lines name show }
+{
+    matches!(
+        (name, show),
+        (Name::Run, _) | (Name::Machine, Show::Report | Show::Retired)
+    )
 }
 
 impl<'a> Options<'a> {
@@ -153,8 +141,8 @@ impl<'a> Options<'a> {
                 ..self
             });
         }
-        let show = Show::from_word(word)?;
-        show.is_of(name).then_some(Options {
+        let show = lines_of(word)?;
+        can_show(name, show).then_some(Options {
             show: Some(show),
             ..self
         })

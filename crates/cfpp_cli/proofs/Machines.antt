@@ -1,5 +1,6 @@
 -- A run of the processor that ends with Exit, Trap or Limit answers as `machine` does.
 use Rattle.std.proofs.Common.{◌≡◌, ◌<◌, ◌+◌, ◌-◌, ℕ, zero, suc, List, [], ◌++◌, Option, Some, None, Result, Ok, Err, false, refl, sym, ap, subst, ◌∙◌, inl, inr, arith}
+use Rattle.cf_asked.specs.declared.show.Show.{Show}
 use Rattle.rv_inst.specs.declared.isa.Isa.{Isa}
 use Rattle.rv_machine.specs.Hart.{Hart}
 use Rattle.rv_machine.specs.Machine.{Machine}
@@ -20,7 +21,6 @@ use Rattle.cf_run.specs.declared.answer.Ran.{Ran as RunAnswer}
 use Rattle.cf_run.specs.declared.answer.Ran.TheVariants as ran
 use Rattle.cf_run.specs.declared.answer.Scripted.{Scripted}
 use Rattle.cf_run.specs.declared.answer.Scripted.TheVariants.{Ran, ScriptEnd, BadScript, BarredAt}
-use Rattle.cf_run.specs.declared.show.Show.{Show}
 use Rattle.cf_run.specs.Made.{Made}
 use Rattle.cf_run.specs.Ending.{EndsAsMachine, EndsSequentially, Ends, IsAfter}
 use Rattle.cf_run.specs.Moving.{Place, place_of}
@@ -240,17 +240,17 @@ abbrev pub Opens : (limit : ℕ) (show : Show) (core last : Processor) → Ready
 Opens limit show core last schedule before after blank full result =
     Comes (RunsCore limit show core last (chosen_by limit show schedule) before after blank.written) (BreaksCore limit show core (chosen_by limit show schedule) before after blank.written full.written) blank full result
 
-seen-opened : (limit : ℕ) (seen show : Show) (core last : Processor) (plan : Plan) (hart : Hart) (schedule : ReadySchedule) (before after : Streams) (blank full : Report) (result : Result Reported Failed) → core ≡ opened plan hart → seen ≡ show
-    → Opens limit seen core last schedule before after blank full result → Opens limit show (opened plan hart) last schedule before after blank full result
-seen-opened limit seen show core last plan hart schedule before after blank full result is same opens =
-    subst (λ (s : Show). Opens limit s (opened plan hart) last schedule before after blank full result) same (subst (λ (p : Processor). Opens limit seen p last schedule before after blank full result) is opens)
+on-opened : (limit : ℕ) (show : Show) (core last : Processor) (plan : Plan) (hart : Hart) (schedule : ReadySchedule) (before after : Streams) (blank full : Report) (result : Result Reported Failed) → core ≡ opened plan hart
+    → Opens limit show core last schedule before after blank full result → Opens limit show (opened plan hart) last schedule before after blank full result
+on-opened limit show core last plan hart schedule before after blank full result is opens =
+    subst (λ (p : Processor). Opens limit show p last schedule before after blank full result) is opens
 
 -- is what comes of the layout, the hart and the schedule, once the tail was put
-pub opened-comes : (limit : ℕ) (seen show : Show) (tail : Tail) (core last : Processor) (plan : Plan) (hart : Hart) (schedule : ReadySchedule) (before after : Streams) (blank half full : Report) (reported behind : Reported) → core ≡ opened plan hart → seen ≡ show → hart.retired ≡ 0
-    → Opens limit seen core last schedule before after blank half (Ok reported) → behind.status ≡ reported.status → Adds reported.put half full (lines_behind tail reported.status last) behind.put
+pub opened-comes : (limit : ℕ) (show : Show) (tail : Tail) (core last : Processor) (plan : Plan) (hart : Hart) (schedule : ReadySchedule) (before after : Streams) (blank half full : Report) (reported behind : Reported) → core ≡ opened plan hart → hart.retired ≡ 0
+    → Opens limit show core last schedule before after blank half (Ok reported) → behind.status ≡ reported.status → Adds reported.put half full (lines_behind tail reported.status last) behind.put
     → Comes (ComesOf limit show tail plan hart schedule before after blank.written) (BreaksCore limit show (opened plan hart) (chosen_by limit show schedule) before after blank.written full.written) blank full (Ok behind)
-opened-comes limit seen show tail core last plan hart schedule before after blank half full reported behind is same fresh opens said added =
-    let run = seen-opened limit seen show core last plan hart schedule before after blank half (Ok reported) is same opens in
+opened-comes limit show tail core last plan hart schedule before after blank half full reported behind is fresh opens said added =
+    let run = on-opened limit show core last plan hart schedule before after blank half (Ok reported) is opens in
     let text : List ℕ = run.1 in (
       run.0,
       text ++ lines_behind tail reported.status last,
@@ -258,12 +258,6 @@ opened-comes limit seen show tail core last plan hart schedule before after blan
           (inl (last, runs-opened limit show tail last plan hart schedule before after blank.written reported.status run.0 text fresh run.2)),
       adds-behind blank half full run.0 text (lines_behind tail reported.status last) reported.put behind.put run.3 added,
     )
-
--- or the report failed in the run
-pub opened-breaks : {failed : Failed} (limit : ℕ) (seen show : Show) (core last : Processor) (plan : Plan) (hart : Hart) (schedule : ReadySchedule) (before after : Streams) (blank full : Report) → core ≡ opened plan hart → seen ≡ show
-    → Opens limit seen core last schedule before after blank full (Err failed)
-    → BreaksCore limit show (opened plan hart) (chosen_by limit show schedule) before after blank.written full.written × Rose blank.faults full.faults
-opened-breaks {failed = failed} limit seen show core last plan hart schedule before after blank full is same opens = seen-opened limit seen show core last plan hart schedule before after blank full (Err failed) is same opens
 
 -- or memory for it was refused
 pub unopened-comes : (limit : ℕ) (show : Show) (tail : Tail) (plan : Plan) (hart : Hart) (schedule : ReadySchedule) (before after : Streams) (told : Option (List ℕ)) (blank full : Report) (answer : Status) (text : List ℕ) (reported : Reported) → reported.status ≡ answer

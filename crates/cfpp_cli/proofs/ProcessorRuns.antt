@@ -1,5 +1,6 @@
 -- A run of the processor, its closing lines, and what the report then has.
 use Rattle.std.proofs.Common.{◌≡◌, ◌≤◌, ◌-◌, ℕ, List, Bool, true, false, Option, Some, Result, Ok, Err, refl, sym, ap, subst, ◌∙◌}
+use Rattle.cf_asked.specs.declared.show.Show.{Show}
 use Rattle.cf_io.specs.Causes.{Rose, HasCause}
 use Rattle.cf_io.specs.Puts.{Writes}
 use Rattle.cf_io.specs.declared.failed.Failed.{Failed}
@@ -10,7 +11,6 @@ use Rattle.cf_run.specs.declared.answer.Ran.{Ran as RunAnswer}
 use Rattle.cf_run.specs.declared.answer.Ran.TheVariants as ran
 use Rattle.cf_run.specs.declared.answer.Scripted.{Scripted}
 use Rattle.cf_run.specs.declared.answer.Scripted.TheVariants.{Ran, ScriptEnd, BadScript, BarredAt}
-use Rattle.cf_run.specs.declared.show.Show.{Show}
 use Rattle.cf_report.specs.declared.tally.Tally.{Tally}
 use Rattle.cf_scripts.specs.Scripts.{Told, script_of}
 use Rattle.cf_run.specs.Ending.{EndsSequentially}

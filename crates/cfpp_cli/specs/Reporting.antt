@@ -3,12 +3,13 @@ use Rattle.std.specs.Prelude.{◌≡◌, ◌≤◌, ℕ, List, Option, Result, O
 use Rattle.cf_io.specs.Causes.{Rose, HasCause}
 use Rattle.cf_io.specs.Puts.{Writes}
 use Rattle.cf_io.specs.declared.failed.Failed.{Failed}
+use Rattle.rv_machine.specs.Streams.{Streams}
 use Rattle.cf_report.specs.Putting.{PutsText}
 use Rattle.cli_files.specs.Causes.{files_answered}
 use Rattle.cli_files.specs.Outside.{Outside, Report}
 use Rattle.cli_files.specs.declared.answer.Answer.{Answer}
 use Rattle.cli_files.specs.declared.status.Status.{Status}
-use Rattle.cfpp_cli.specs.Worlds.{Span}
+use Rattle.cfpp_cli.specs.Worlds.{Span, Passage}
 use Rattle.cfpp_cli.specs.declared.reporting.Reported.{Reported}
 
 -- the text was put to the report, or the report failed behind a front of it
@@ -36,6 +37,10 @@ ReportsAlone answers blank full reported =
 abbrev pub ReportsAll : (Outside → Outside → Status → List ℕ → Type 0) → Span → Reported → Type 0
 ReportsAll answers s reported = ReportsAlone (answers s.before s.after) s.blank s.full reported
 
+-- the same of a run, over its streams and its report alone
+abbrev pub ReportsOver : (Streams → Streams → Status → List ℕ → Type 0) → Passage → Reported → Type 0
+ReportsOver answers p reported = ReportsAlone (answers p.before p.after) p.blank p.full reported
+
 -- it was carried out, or the report failed while it was
 abbrev pub Comes : (Status → List ℕ → List ℕ → Type 0) → Type 0 → (blank full : Report) → Result Reported Failed → Type 0
 Comes answers breaks blank full (Ok reported) = Carries answers blank full reported
@@ -46,6 +51,12 @@ abbrev pub CarriesOut : (Outside → Outside → Option (List ℕ) → Status �
     (Outside → Outside → Option (List ℕ) → Option (List ℕ) → Type 0) → Span → Result Reported Failed → Type 0
 CarriesOut answers breaks s result =
     Comes (answers s.before s.after s.blank.written) (breaks s.before s.after s.blank.written s.full.written) s.blank s.full result
+
+-- the same of a run, over its streams and its report alone
+abbrev pub ComesOver : (Streams → Streams → Option (List ℕ) → Status → List ℕ → List ℕ → Type 0) →
+    (Streams → Streams → Option (List ℕ) → Option (List ℕ) → Type 0) → Passage → Result Reported Failed → Type 0
+ComesOver answers breaks p result =
+    Comes (answers p.before p.after p.blank.written) (breaks p.before p.after p.blank.written p.full.written) p.blank p.full result
 
 -- an error where a file could not be read
 abbrev pub files_reported : Result Reported Failed → Result (Unit {0}) (Unit {0})

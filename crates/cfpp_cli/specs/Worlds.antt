@@ -2,6 +2,7 @@
 use Rattle.std.specs.Prelude.{ℕ, List, Option}
 use Rattle.std.specs.Borrow.{MutBor}
 use Rattle.cf_io.specs.Reads.{Told}
+use Rattle.rv_machine.specs.Streams.{Streams, streams_of}
 use Rattle.cli_files.specs.Outside.{Outside, Report, outside_of, report_of}
 use Rattle.cfpp_cli.specs.declared.world.World.{World}
 
@@ -38,4 +39,21 @@ span told file_faults unread input_faults written output_faults reported report_
       (written (output_left left)) (output_faults (output_left left));
   blank = report_of (reported lent.report.now) (report_faults lent.report.now);
   full = report_of (reported (report_left left)) (report_faults (report_left left));
+}
+
+-- the streams and the report of a run, before and after
+pub record Passage : Type 0 where
+  pub before : Streams
+  pub after : Streams
+  pub blank : Report
+  pub full : Report
+
+-- what the three objects tell that a run is lent, as it begins and as it ends
+abbrev pub passage : {S K R : Type 0} → (S → Option (List ℕ)) → (K → Option (List ℕ)) → (R → Option (List ℕ)) → (R → ℕ) →
+    S → K → R → S → K → R → Passage
+passage unread written reported faults input output report input_left output_left report_left = record {
+  before = streams_of (unread input) (written output);
+  after = streams_of (unread input_left) (written output_left);
+  blank = report_of (reported report) (faults report);
+  full = report_of (reported report_left) (faults report_left);
 }

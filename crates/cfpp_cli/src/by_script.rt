@@ -1,13 +1,12 @@
 //! A run of the processor by a script.
 
 ghost use Rattle.std.specs.Prelude.{◌≡◌, ◌≤◌, false, length, Ok};
-ghost use Rattle.rv_machine.specs.Streams.{streams_of};
-ghost use Rattle.cf_words.specs.Options.{most_limit};
+ghost use Rattle.cf_asked.specs.Limits.{most_limit};
 ghost use Rattle.cli_files.specs.Causes.{input_answered, output_answered};
-ghost use Rattle.cli_files.specs.Outside.{report_of};
 ghost use Rattle.cf_scripts.specs.Limits.{most_script};
-ghost use Rattle.cfpp_cli.specs.Reporting.{Comes, Tells, files_reported};
+ghost use Rattle.cfpp_cli.specs.Reporting.{ComesOver, Tells, files_reported};
 ghost use Rattle.cfpp_cli.specs.Run.{ByScript, RunsCore, BreaksCore};
+ghost use Rattle.cfpp_cli.specs.Worlds.{passage};
 
 use crate::finishing::{close, no_moves};
 use crate::reporting::Reported;
@@ -30,14 +29,9 @@ pub fn run_by_script<S: Source, K: Sink, R: Sink>(
     requires retired { core.old.state.retired ≤ limit }
     requires works { core.old.state.failed ≡ false }
     requires fits { length text.now ≤ most_script }
-    ensures runs { Comes
-        (RunsCore limit show core.old core.new (ByScript limit show text.now)
-        (streams_of (S.left input.old) (K.written output.old))
-        (streams_of (S.left input.new) (K.written output.new)) (R.written report.old))
-        (BreaksCore limit show core.old (ByScript limit show text.now)
-        (streams_of (S.left input.old) (K.written output.old))
-        (streams_of (S.left input.new) (K.written output.new)) (R.written report.old) (R.written report.new))
-        (report_of (R.written report.old) (R.faults report.old)) (report_of (R.written report.new) (R.faults report.new)) result }
+    ensures runs { ComesOver (RunsCore limit show core.old core.new (ByScript limit show text.now))
+        (BreaksCore limit show core.old (ByScript limit show text.now))
+        (passage S.left K.written R.written R.faults input.old output.old report.old input.new output.new report.new) result }
     ensures files { files_reported result ≡ Ok tt }
     ensures input { Tells input_answered (S.faults input.old) (S.faults input.new) result }
     ensures output { Tells output_answered (K.faults output.old) (K.faults output.new) result }

@@ -3,12 +3,11 @@
 ghost use Rattle.std.specs.Prelude.{◌≡◌, ◌≤◌, Ok, IfOk, IfErr};
 ghost use Rattle.cf_io.specs.Causes.{HasCause};
 ghost use Rattle.cf_gen.specs.Program.{program_text};
-ghost use Rattle.rv_machine.specs.Streams.{streams_of};
 ghost use Rattle.cli_files.specs.Causes.{files_answered, input_answered, output_answered};
-ghost use Rattle.cli_files.specs.Outside.{report_of};
 ghost use Rattle.cfpp_cli.specs.Drawn.{AnswersDrawn, BreaksDrawn, IsUndrawn, StartsDrawn};
 ghost use Rattle.cfpp_cli.specs.FileCommands.{PutsOrFails};
-ghost use Rattle.cfpp_cli.specs.Reporting.{Comes, Tells, files_reported};
+ghost use Rattle.cfpp_cli.specs.Reporting.{ComesOver, Tells, files_reported};
+ghost use Rattle.cfpp_cli.specs.Worlds.{passage};
 
 use crate::assembling::file_of;
 use crate::reporting::{Reported, put_answer};
@@ -89,12 +88,8 @@ pub fn run_drawn<S: Source, K: Sink, R: Sink>(
 ) -> Result<Reported, Failed>
     requires some { 1 ≤ number }
     requires limit { number ≤ 30000 }
-    ensures answers { Comes
-        (AnswersDrawn number (streams_of (S.left input.old) (K.written output.old))
-        (streams_of (S.left input.new) (K.written output.new)) (R.written report.old))
-        (BreaksDrawn number (streams_of (S.left input.old) (K.written output.old))
-        (streams_of (S.left input.new) (K.written output.new)) (R.written report.old) (R.written report.new))
-        (report_of (R.written report.old) (R.faults report.old)) (report_of (R.written report.new) (R.faults report.new)) result }
+    ensures answers { ComesOver (AnswersDrawn number) (BreaksDrawn number)
+        (passage S.left K.written R.written R.faults input.old output.old report.old input.new output.new report.new) result }
     ensures files { files_reported result ≡ Ok tt }
     ensures input { Tells input_answered (S.faults input.old) (S.faults input.new) result }
     ensures output { Tells output_answered (K.faults output.old) (K.faults output.new) result }

@@ -2,13 +2,11 @@
 
 ghost use Rattle.std.specs.Prelude.{◌≡◌, Ok};
 ghost use Rattle.cf_io.specs.Causes.{HasCause};
-ghost use Rattle.rv_machine.specs.Streams.{streams_of};
 ghost use Rattle.cli_files.specs.Causes.{input_answered, output_answered};
-ghost use Rattle.cli_files.specs.Outside.{report_of};
 ghost use Rattle.cfpp_cli.specs.Machine.{RunsHart, BreaksHart, AnswersMachine, BreaksProgram};
 ghost use Rattle.cfpp_cli.specs.Options.{chosen_of};
-ghost use Rattle.cfpp_cli.specs.Reporting.{CarriesOut, Comes, Tells, files_reported};
-ghost use Rattle.cfpp_cli.specs.Worlds.{span, files_left, input_left, output_left};
+ghost use Rattle.cfpp_cli.specs.Reporting.{CarriesOut, ComesOver, Tells, files_reported};
+ghost use Rattle.cfpp_cli.specs.Worlds.{passage, span, files_left, input_left, output_left};
 
 use crate::finishing::close_machine;
 use crate::reporting::{Reported, put_answer};
@@ -32,14 +30,10 @@ fn run_machine<S: Source, K: Sink, R: Sink>(
     report: &mut R,
 ) -> Result<Reported, Failed>
     requires { machine.retired ≡ 0 }
-    ensures comes { Comes
-        (RunsHart (chosen_of options.limit options.show_retired options.mul) machine
-        (streams_of (S.left input.old) (K.written output.old))
-        (streams_of (S.left input.new) (K.written output.new)))
-        (BreaksHart (chosen_of options.limit options.show_retired options.mul) machine
-        (streams_of (S.left input.old) (K.written output.old))
-        (streams_of (S.left input.new) (K.written output.new)) (R.written report.old) (R.written report.new))
-        (report_of (R.written report.old) (R.faults report.old)) (report_of (R.written report.new) (R.faults report.new)) result }
+    ensures comes { ComesOver
+        (λ before after blank. RunsHart (chosen_of options.limit options.show_retired options.mul) machine before after)
+        (BreaksHart (chosen_of options.limit options.show_retired options.mul) machine)
+        (passage S.left K.written R.written R.faults input.old output.old report.old input.new output.new report.new) result }
     ensures files { files_reported result ≡ Ok tt }
     ensures input { Tells input_answered (S.faults input.old) (S.faults input.new) result }
     ensures output { Tells output_answered (K.faults output.old) (K.faults output.new) result }

@@ -1,16 +1,14 @@
 //! The command `rounds`.
 
 ghost use Rattle.std.specs.Prelude.{◌≡◌, ◌≤◌, Ok};
+ghost use Rattle.cf_asked.specs.Limits.{most_limit};
 ghost use Rattle.cf_io.specs.Causes.{HasCause};
-ghost use Rattle.rv_machine.specs.Streams.{streams_of};
-ghost use Rattle.cf_words.specs.Options.{most_limit};
 ghost use Rattle.cf_words.specs.Views.{layout_of};
 ghost use Rattle.cf_rounds.specs.Running.{ran_of as ran_for};
 ghost use Rattle.cf_run.specs.Policies.{IsOpened};
 ghost use Rattle.cli_files.specs.Causes.{files_answered, input_answered, output_answered};
-ghost use Rattle.cli_files.specs.Outside.{report_of};
-ghost use Rattle.cfpp_cli.specs.Reporting.{ReportsAlone, ReportsAll};
-ghost use Rattle.cfpp_cli.specs.Worlds.{span, files_left, input_left, output_left};
+ghost use Rattle.cfpp_cli.specs.Reporting.{ReportsAll, ReportsOver};
+ghost use Rattle.cfpp_cli.specs.Worlds.{passage, span, files_left, input_left, output_left};
 ghost use Rattle.cfpp_cli.specs.Rounds.{rounds_asked, RunsCoreInRounds, ComesInRounds, AnswersRounds};
 
 use crate::finishing::{close_in_rounds, no_moves};
@@ -51,11 +49,8 @@ fn run_core<S: Source, K: Sink, R: Sink>(
     requires limit { limit ≤ most_limit }
     requires retired { core.old.state.retired ≤ limit }
     requires opened { IsOpened core.old }
-    ensures runs { ReportsAlone
-        (RunsCoreInRounds limit core.old core.new
-        (streams_of (S.left input.old) (K.written output.old))
-        (streams_of (S.left input.new) (K.written output.new)))
-        (report_of (R.written report.old) (R.faults report.old)) (report_of (R.written report.new) (R.faults report.new)) result }
+    ensures runs { ReportsOver (RunsCoreInRounds limit core.old core.new)
+        (passage S.left K.written R.written R.faults input.old output.old report.old input.new output.new report.new) result }
     ensures files { files_answered result.status ≡ Ok tt }
     ensures input { HasCause (S.faults input.old) (S.faults input.new) (input_answered result.status) }
     ensures output { HasCause (K.faults output.old) (K.faults output.new) (output_answered result.status) }
@@ -84,13 +79,10 @@ fn run_loaded<S: Source, K: Sink, R: Sink>(
     output: &mut K,
     report: &mut R,
 ) -> Reported
-    requires limit { limit ≤ most_limit }
     requires count { loaded.machine.retired ≡ 0 }
-    ensures comes { ReportsAlone
-        (ComesInRounds limit loaded.layout loaded.machine
-        (streams_of (S.left input.old) (K.written output.old))
-        (streams_of (S.left input.new) (K.written output.new)))
-        (report_of (R.written report.old) (R.faults report.old)) (report_of (R.written report.new) (R.faults report.new)) result }
+    requires limit { limit ≤ most_limit }
+    ensures comes { ReportsOver (ComesInRounds limit loaded.layout loaded.machine)
+        (passage S.left K.written R.written R.faults input.old output.old report.old input.new output.new report.new) result }
     ensures files { files_answered result.status ≡ Ok tt }
     ensures input { HasCause (S.faults input.old) (S.faults input.new) (input_answered result.status) }
     ensures output { HasCause (K.faults output.old) (K.faults output.new) (output_answered result.status) }

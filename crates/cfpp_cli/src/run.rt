@@ -1,18 +1,16 @@
 //! The commands `run` and `moves`.
 
 ghost use Rattle.std.specs.Prelude.{◌≡◌, ◌≤◌, Ok};
+ghost use Rattle.cf_asked.specs.Limits.{most_limit};
 ghost use Rattle.cf_io.specs.Causes.{HasCause};
-ghost use Rattle.rv_machine.specs.Streams.{streams_of};
-ghost use Rattle.cf_words.specs.Options.{most_limit};
 ghost use Rattle.cf_words.specs.Views.{layout_of, schedule_view as asked_schedule};
 ghost use Rattle.cf_core.specs.Processors.{opened};
 ghost use Rattle.cf_run.specs.Policies.{IsOpened};
 ghost use Rattle.cli_files.specs.Causes.{input_answered, output_answered};
-ghost use Rattle.cli_files.specs.Outside.{report_of};
-ghost use Rattle.cli_files.specs.RunFiles.{run_asked, show_of};
-ghost use Rattle.cfpp_cli.specs.Reporting.{CarriesOut, Comes, Tells, files_reported};
+ghost use Rattle.cli_files.specs.RunFiles.{run_asked};
+ghost use Rattle.cfpp_cli.specs.Reporting.{CarriesOut, ComesOver, Tells, files_reported};
 ghost use Rattle.cfpp_cli.specs.Run.{chosen_by, RunsCore, BreaksCore, ComesOf, AnswersRun, BreaksRun};
-ghost use Rattle.cfpp_cli.specs.Worlds.{span, files_left, input_left, output_left};
+ghost use Rattle.cfpp_cli.specs.Worlds.{passage, span, files_left, input_left, output_left};
 ghost use Rattle.cli_files.specs.Schedules.{schedule_view, FitsScript};
 
 use crate::by_policy::run_by_policy;
@@ -25,20 +23,9 @@ use cf_index::Candidates;
 use cf_io::{Failed, Files, Sink, Source};
 use cf_run::Show;
 use cf_sched::{Drawn, Round};
-use cf_words::{LayoutWord, RunOptions, Show as ShowWord};
+use cf_words::{LayoutWord, RunOptions};
 use cli_files::{Ready, ReadySchedule, no_memory, read_files};
 use std::alloc::Global;
-
-/// What is shown, by the word for it.
-fn shown(word: ShowWord) -> Show
-    ensures { result ≡ show_of word }
-{
-    match word {
-        ShowWord::Report => Show::Report,
-        ShowWord::Retired => Show::Retired,
-        ShowWord::Moves => Show::Moves,
-    }
-}
 
 /// Runs the opened processor by what was read.
 #[tactic(auto, using(cli_files::proofs::Opened::opened_cores))]
@@ -56,14 +43,9 @@ fn run_scheduled<S: Source, K: Sink, R: Sink>(
     requires retired { core.old.state.retired ≤ limit }
     requires opened { IsOpened core.old }
     requires fits { FitsScript (schedule_view schedule.now) }
-    ensures runs { Comes
-        (RunsCore limit show core.old core.new (chosen_by limit show (schedule_view schedule.now))
-        (streams_of (S.left input.old) (K.written output.old))
-        (streams_of (S.left input.new) (K.written output.new)) (R.written report.old))
-        (BreaksCore limit show core.old (chosen_by limit show (schedule_view schedule.now))
-        (streams_of (S.left input.old) (K.written output.old))
-        (streams_of (S.left input.new) (K.written output.new)) (R.written report.old) (R.written report.new))
-        (report_of (R.written report.old) (R.faults report.old)) (report_of (R.written report.new) (R.faults report.new)) result }
+    ensures runs { ComesOver (RunsCore limit show core.old core.new (chosen_by limit show (schedule_view schedule.now)))
+        (BreaksCore limit show core.old (chosen_by limit show (schedule_view schedule.now)))
+        (passage S.left K.written R.written R.faults input.old output.old report.old input.new output.new report.new) result }
     ensures files { files_reported result ≡ Ok tt }
     ensures input { Tells input_answered (S.faults input.old) (S.faults input.new) result }
     ensures output { Tells output_answered (K.faults output.old) (K.faults output.new) result }
@@ -73,29 +55,15 @@ fn run_scheduled<S: Source, K: Sink, R: Sink>(
             run_by_script(core, text.as_slice(), limit, show, input, output, report)
         }
         ReadySchedule::Seed(seed) => {
-            let mut policy = Drawn::new(*seed);
+            let mut drawn = Drawn::new(*seed);
             run_by_policy(
-                core,
-                candidates,
-                &mut policy,
-                limit,
-                show,
-                input,
-                output,
-                report,
+                core, candidates, &mut drawn, limit, show, input, output, report,
             )
         }
         ReadySchedule::Rule => {
-            let mut policy = Round::new();
+            let mut round = Round::new();
             run_by_policy(
-                core,
-                candidates,
-                &mut policy,
-                limit,
-                show,
-                input,
-                output,
-                report,
+                core, candidates, &mut round, limit, show, input, output, report,
             )
         }
     }
@@ -115,14 +83,10 @@ pub fn run_ready<S: Source, K: Sink, R: Sink>(
     requires limit { options.limit ≤ most_limit }
     requires count { ready.machine.retired ≡ 0 }
     requires fits { FitsScript (schedule_view ready.schedule) }
-    ensures comes { Comes
-        (ComesOf options.entry.limit (show_of options.entry.show) tail ready.layout ready.machine
-        (schedule_view ready.schedule) (streams_of (S.left input.old) (K.written output.old))
-        (streams_of (S.left input.new) (K.written output.new)) (R.written report.old))
-        (BreaksCore options.entry.limit (show_of options.entry.show) (opened ready.layout ready.machine)
-        (chosen_by options.entry.limit (show_of options.entry.show) (schedule_view ready.schedule)) (streams_of (S.left input.old) (K.written output.old))
-        (streams_of (S.left input.new) (K.written output.new)) (R.written report.old) (R.written report.new))
-        (report_of (R.written report.old) (R.faults report.old)) (report_of (R.written report.new) (R.faults report.new)) result }
+    ensures comes { ComesOver
+        (ComesOf options.entry.limit options.entry.show tail ready.layout ready.machine (schedule_view ready.schedule))
+        (BreaksCore options.entry.limit options.entry.show (opened ready.layout ready.machine) (chosen_by options.entry.limit options.entry.show (schedule_view ready.schedule)))
+        (passage S.left K.written R.written R.faults input.old output.old report.old input.new output.new report.new) result }
     ensures files { files_reported result ≡ Ok tt }
     ensures input { Tells input_answered (S.faults input.old) (S.faults input.new) result }
     ensures output { Tells output_answered (K.faults output.old) (K.faults output.new) result }
@@ -139,7 +103,7 @@ pub fn run_ready<S: Source, K: Sink, R: Sink>(
         &mut candidates,
         &ready.schedule,
         options.limit,
-        shown(options.show),
+        options.show,
         input,
         output,
         report,

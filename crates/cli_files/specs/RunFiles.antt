@@ -1,24 +1,15 @@
 -- The files that `run` reads, one after another: the layout's, the program's and, where its moves stand in one, the script's.
 use Rattle.std.specs.Prelude.{◌≡◌, ◌⊎◌, ℕ, List, Option}
+use Rattle.cf_asked.specs.declared.show.Show.{Show}
 use Rattle.cf_io.specs.Reads.{Told}
 use Rattle.rv_machine.specs.Hart.{Hart}
 use Rattle.cf_layout.specs.Layout.{Plan}
 use Rattle.cf_words.specs.Options.{Schedule}
 use Rattle.cf_words.specs.Words.{Layout}
-use Rattle.cf_words.specs.declared.options.Show.{Show as ShowWord}
-use Rattle.cf_words.specs.declared.options.Show.TheVariants as word
-use Rattle.cf_run.specs.declared.show.Show.{Show}
-use Rattle.cf_run.specs.declared.show.Show.TheVariants as show
 use Rattle.cli_files.specs.Loading.{IsLoaded, LacksLoaded}
 use Rattle.cli_files.specs.Outside.{Outside}
 use Rattle.cli_files.specs.Schedules.{ReadySchedule, IsScheduled, LacksSchedule}
 use Rattle.cli_files.specs.declared.status.Status.{Status}
-
--- what a run of the processor is to show, by the word for it
-abbrev pub show_of : ShowWord → Show
-show_of word.Report = show.Report
-show_of word.Retired = show.Retired
-show_of word.Moves = show.Moves
 
 -- what the words ask of `run`: where the layout is, the file with the program, what chooses the moves, the retired instructions at which the run stops, and what it shows
 pub record RunAsked : Type 0 where
@@ -28,13 +19,13 @@ pub record RunAsked : Type 0 where
   pub limit : ℕ
   pub show : Show
 
-abbrev pub run_asked : Layout → List ℕ → Schedule → ℕ → ShowWord → RunAsked
-run_asked layout program schedule limit lines = record {
+abbrev pub run_asked : Layout → List ℕ → Schedule → ℕ → Show → RunAsked
+run_asked layout program schedule limit show = record {
   layout = layout;
   program = program;
   schedule = schedule;
   limit = limit;
-  show = show_of lines;
+  show = show;
 }
 
 -- all are there: behind layout and program this schedule was read

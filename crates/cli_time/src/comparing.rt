@@ -1,6 +1,7 @@
 //! The command `time`.
 
 ghost use Rattle.std.specs.Prelude.{◌≡◌, ◌≤◌, IfOk, MatchResult, Ok, length, map, string_bytes, vec_items};
+ghost use Rattle.cf_asked.specs.Limits.{most_limit};
 ghost use Rattle.cf_io.specs.Causes.{HasCause};
 ghost use Rattle.cf_words.specs.Words.{layout_in};
 ghost use Rattle.cli_files.specs.Causes.{input_answered, output_answered};
@@ -37,7 +38,7 @@ fn time_each<R: Sink>(
     options: TimeOptions,
     report: &mut R,
 ) -> Result<ArrayVec<u64, 8>, Stop>
-    requires limit { options.limit ≤ 1000000000 }
+    requires limit { options.limit ≤ most_limit }
     requires program { IsProgram (vec_items ready.now.image) }
     requires words { length words.now ≡ length (vec_items ready.now.layouts) }
     requires few { length words.now ≤ 8 }
@@ -78,7 +79,7 @@ fn compare_ready<R: Sink>(
     options: TimeOptions,
     report: &mut R,
 ) -> Result<Answer, Failed>
-    requires limit { options.limit ≤ 1000000000 }
+    requires limit { options.limit ≤ most_limit }
     requires program { IsProgram (vec_items ready.now.image) }
     requires words { length words.now ≡ length (vec_items ready.now.layouts) }
     requires some { 1 ≤ length words.now }
@@ -117,7 +118,7 @@ pub fn compare_layouts<F: Files, R: Sink>(
     files: &mut F,
     report: &mut R,
 ) -> Result<Answer, Failed>
-    requires limit { options.limit ≤ 1000000000 }
+    requires limit { options.limit ≤ most_limit }
     requires some { 1 ≤ length layouts.now }
     requires few { length layouts.now ≤ 8 }
     ensures answers { Decides

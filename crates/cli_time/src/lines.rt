@@ -6,7 +6,7 @@ ghost use Rattle.cf_report.specs.Putting.{PutsText};
 ghost use Rattle.cf_timed.specs.TimedRuns.{answer_of};
 ghost use Rattle.cf_words.specs.Views.{layout_of};
 ghost use Rattle.cli_time.specs.Asked.{name_of};
-ghost use Rattle.cli_time.specs.Lines.{ending_text, layout_lines, least_line, measured_text, number_text, time_line};
+ghost use Rattle.cli_time.specs.Lines.{ending_text, layout_lines, least_line, measured_text, number_text};
 ghost use Rattle.cf_texts.specs.Room.{page_room};
 
 use crate::measuring::Measured;
@@ -84,20 +84,6 @@ fn put_both<R: Sink>(first: &[u8], second: &[u8], report: &mut R) -> Result<(), 
     put_all(report, second)
 }
 
-/// Puts the line of a layout.
-fn put_line<R: Sink>(
-    limit: u64,
-    word: LayoutWord<'_>,
-    measured: Measured,
-    report: &mut R,
-) -> Result<(), Failed>
-    ensures { PutsText (R.written report.old) (R.written report.new)
-        (R.faults report.old) (R.faults report.new) (time_line limit (layout_of word.entry) measured) result }
-{
-    let page = measured_page(limit, measured);
-    put_both(name_of(word), page.bytes(), report)
-}
-
 /// Puts the line of a layout, and behind it those of what its time is made of, where that is shown.
 pub(crate) fn put_layout<R: Sink>(
     limit: u64,
@@ -108,7 +94,8 @@ pub(crate) fn put_layout<R: Sink>(
     ensures { PutsText (R.written report.old) (R.written report.new)
         (R.faults report.old) (R.faults report.new) (layout_lines limit (layout_of word.entry) measured) result }
 {
-    put_line(limit, word, measured, report)?;
+    let page = measured_page(limit, measured);
+    put_both(name_of(word), page.bytes(), report)?;
     put_sites(&measured.sites, report)
 }
 

@@ -1,6 +1,7 @@
 //! The run of a program on a layout, by which its time is measured.
 
 ghost use Rattle.std.specs.Prelude.{◌≡◌, ◌≤◌, IfOk, Some, false, true};
+ghost use Rattle.cf_asked.specs.Limits.{most_limit};
 ghost use Rattle.cf_io.specs.Causes.{HasCause};
 ghost use Rattle.cf_ledger.specs.Ledgers.{opened as opened_ledger};
 ghost use Rattle.cf_run.specs.Policies.{IsOpened, input_stopped, output_stopped};
@@ -34,9 +35,28 @@ pub struct Measured {
     pub sites: Option<Breakdown>,
 }
 
+/// What is measured of a run that ended so.
+fn measured(
+    core: &Core,
+    answer: Timed,
+    clock: &Clock,
+    moves: u64,
+    sites: Option<Breakdown>,
+) -> Measured
+    ensures { result ≡ record { answer = answer; time = clock.now.latest; moves = moves; retired = core.now.state.retired; sites = sites } }
+{
+    Measured {
+        answer,
+        time: clock.greatest(),
+        moves,
+        retired: core.retired(),
+        sites,
+    }
+}
+
 /// Runs an opened processor by a clock that was told no move, and no ledger is kept.
 fn take_time(core: &mut Core, candidates: &mut Candidates, clock: Clock, limit: u64) -> Measured
-    requires limit { limit ≤ 1000000000 }
+    requires limit { limit ≤ most_limit }
     requires retired { core.old.state.retired ≤ limit }
     requires opened { IsOpened core.old }
     requires clock { clock ≡ started core.old.plan clock.delays }
@@ -55,13 +75,7 @@ fn take_time(core: &mut Core, candidates: &mut Candidates, clock: Clock, limit: 
         &mut Nowhere,
         &mut moves,
     );
-    Measured {
-        answer,
-        time: clock.greatest(),
-        moves,
-        retired: core.retired(),
-        sites: None,
-    }
+    measured(core, answer, &clock, moves, None)
 }
 
 /// The same with a ledger that was told no move either, by which it is told what the time is made of.
@@ -72,7 +86,7 @@ fn take_sites(
     ledger: Ledger,
     limit: u64,
 ) -> Measured
-    requires limit { limit ≤ 1000000000 }
+    requires limit { limit ≤ most_limit }
     requires retired { core.old.state.retired ≤ limit }
     requires opened { IsOpened core.old }
     requires clock { clock ≡ started core.old.plan clock.delays }
@@ -94,13 +108,7 @@ fn take_sites(
         &mut Nowhere,
         &mut moves,
     );
-    Measured {
-        answer,
-        time: clock.greatest(),
-        moves,
-        retired: core.retired(),
-        sites: Some(ledger.breakdown()),
-    }
+    measured(core, answer, &clock, moves, Some(ledger.breakdown()))
 }
 
 /// Loads the program anew, and runs it on the processor of a layout by the moves that are done first, over an empty input and
@@ -114,7 +122,7 @@ pub(crate) fn measure(
     delays: Delays,
     options: TimeOptions,
 ) -> Result<Measured, AllocError>
-    requires limit { options.limit ≤ 1000000000 }
+    requires limit { options.limit ≤ most_limit }
     requires program { IsProgram image.now }
     ensures { IfOk result (Measures delays options layout.now (opened image.now)) }
 {

@@ -1,6 +1,6 @@
 //! The headers of a file and the entries of its symbol table.
 
-ghost use Rattle.std.specs.Prelude.{◌≡◌, ◌+◌, ◌*◌, ◌<◌, ◌≤◌, length, map};
+ghost use Rattle.std.specs.Prelude.{◌≡◌, ◌+◌, ◌*◌, ◌<◌, ◌≤◌, ◌^◌, length, map};
 ghost use Rattle.elf_view.specs.Fields.{FitsIn, entries};
 ghost use Rattle.elf_view.specs.Headers.{file_header, program_header, section_header, symbol_entry, program_headers, section_headers, number_of_sections};
 
@@ -59,7 +59,7 @@ impl FileHeader {
         ensures headers { entries program_header 32 result.file.now result.at result.left
             ≡ program_headers file.now }
         ensures count { result.left ≡ self.now.program_count }
-        ensures few { result.left < 65536 }
+        ensures few { result.left < 2 ^ 16 }
     {
         let count = self.program_count;
         Entries::new(file, self.program_offset as usize, usize::from(count))
@@ -72,7 +72,7 @@ impl FileHeader {
         ensures headers { entries section_header 40 result.file.now result.at result.left
             ≡ section_headers file.now }
         ensures count { result.left ≡ number_of_sections self.now }
-        ensures few { result.left < 65536 }
+        ensures few { result.left < 2 ^ 16 }
     {
         Entries::new(
             file,

@@ -1,6 +1,6 @@
 //! The tests that a file must pass.
 
-ghost use Rattle.std.specs.Prelude.{◌≡◌, ◌<◌, ◌≤◌, ◌*◌, ◌+◌, [], ◌∷◌, OnOk, IfOk, IfErr, IfSome, IfNone, length, find, position};
+ghost use Rattle.std.specs.Prelude.{◌≡◌, ◌<◌, ◌≤◌, ◌^◌, ◌*◌, ◌+◌, [], ◌∷◌, OnOk, IfOk, IfErr, IfSome, IfNone, length, find, position};
 ghost use Rattle.std.specs.List.{list_any};
 ghost use Rattle.elf_view.specs.Fields.{places, ends_beyond, FitsIn};
 ghost use Rattle.elf_view.specs.Headers.{file_header, program_headers, section_headers, number_of_sections};
@@ -213,7 +213,7 @@ fn first_outside(file: &[u8], header: &FileHeader) -> Option<usize>
     requires header { header.now ≡ file_header file.now }
     requires fits { FitsIn file.now header.now.program_offset 32 header.now.program_count }
     ensures index { result ≡ position (is_outside file.now) (program_headers file.now) }
-    ensures within { IfSome result (λ i. i < 65536) }
+    ensures within { IfSome result (λ i. i < 2 ^ 16) }
 {
     header
         .programs(file)
@@ -225,7 +225,7 @@ fn first_larger(file: &[u8], header: &FileHeader) -> Option<usize>
     requires header { header.now ≡ file_header file.now }
     requires fits { FitsIn file.now header.now.program_offset 32 header.now.program_count }
     ensures index { result ≡ position is_larger (program_headers file.now) }
-    ensures within { IfSome result (λ i. i < 65536) }
+    ensures within { IfSome result (λ i. i < 2 ^ 16) }
 {
     header
         .programs(file)

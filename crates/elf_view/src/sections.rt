@@ -1,6 +1,6 @@
 //! The sections of a file, and which of them its symbols are read from.
 
-ghost use Rattle.std.specs.Prelude.{◌≡◌, ◌<◌, ◌≤◌, ◌+◌, ◌*◌, ◌/◌, IfSome, IsTrue, length, position};
+ghost use Rattle.std.specs.Prelude.{◌≡◌, ◌<◌, ◌≤◌, ◌^◌, ◌+◌, ◌*◌, ◌/◌, IfSome, IsTrue, length, position};
 ghost use Rattle.elf_view.specs.Fields.{entries as table_entries, FitsIn};
 ghost use Rattle.elf_view.specs.Headers.{file_header, symbol_entry, number_of_sections};
 ghost use Rattle.elf_view.specs.Sections.{is_symbol_table, first_symbol_table, section_at, lies_in, content_of, entries_of, has_whole_entries, ends_in_nul, names_begin_in, has_sound_names, is_sound_table};
@@ -111,7 +111,7 @@ pub(crate) fn first_symbol_table(file: &[u8], header: &FileHeader) -> Option<usi
     requires header { header.now ≡ file_header file.now }
     requires fits { FitsIn file.now header.now.section_offset 40 (number_of_sections header.now) }
     ensures index { result ≡ first_symbol_table file.now }
-    ensures few { IfSome result (λ i. i < 65536) }
+    ensures few { IfSome result (λ i. i < 2 ^ 16) }
     ensures within { IfSome result (λ i. i < number_of_sections header.now) }
 {
     header

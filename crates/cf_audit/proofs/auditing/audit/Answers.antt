@@ -16,25 +16,10 @@ advance-requires-clause-retired g c =
     let low = retires-below _ _ _ c.loop-answer.invariant.comes c.requires.size in
     omega (arith, low)
 
-pub advance-requires-clause-moves : goal.advance-requires-clause-moves
-advance-requires-clause-moves g c =
+pub advance-requires-clause-counts : goal.advance-requires-clause-counts
+advance-requires-clause-counts g c =
     let small = counts-small _ _ _ c.loop-answer.invariant.comes c.requires.size in
-    omega (arith, small.0)
-
-pub advance-requires-clause-meets : goal.advance-requires-clause-meets
-advance-requires-clause-meets g c =
-    let small = counts-small _ _ _ c.loop-answer.invariant.comes c.requires.size in
-    omega (arith, small.1)
-
-pub advance-requires-clause-kills : goal.advance-requires-clause-kills
-advance-requires-clause-kills g c =
-    let small = counts-small _ _ _ c.loop-answer.invariant.comes c.requires.size in
-    omega (arith, small.2)
-
-pub advance-requires-clause-dead : goal.advance-requires-clause-dead
-advance-requires-clause-dead g c =
-    let small = counts-small _ _ _ c.loop-answer.invariant.comes c.requires.size in
-    omega (arith, small.3)
+    record { moves = omega (arith, small.0); meets = omega (arith, small.1); kills = omega (arith, small.2); dead = omega (arith, small.3) }
 
 pub loop-answer-preserved : goal.loop-answer-preserved
 loop-answer-preserved g c = record {

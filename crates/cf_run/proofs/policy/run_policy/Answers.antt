@@ -4,7 +4,7 @@ use Rattle.cf_core.specs.Asking.{AsksInput, AsksOutput}
 use Rattle.cf_run.proofs.ByPolicy.{policy-bounded, policy-sequential}
 use Rattle.cf_run.proofs.Coming.{comes-first, comes-offered, comes-counted, comes-more, comes-nearer, comes-runs, comes-unasked, turned-plan, turned-within, unasked-comes}
 use Rattle.cf_run.proofs.Ending.{policy-ends-sequentially}
-use Rattle.cf_run.proofs.Runs.{counts-within}
+use Rattle.cf_run.proofs.Runs.{can-count}
 use Rattle.cf_run.proofs.policy.run_policy.Goals as goal
 
 pub loop-ran-init : goal.loop-ran-init
@@ -22,28 +22,10 @@ loop-ran-init g c = record {
 pub advance-end-requires-clause-some : goal.advance-end-requires-clause-some
 advance-end-requires-clause-some g c = comes-offered _ _ _ _ _ _ _ _ _ c.known.ensures.accepted c.known.ensures.registers c.requires.opened c.loop-ran.invariant.comes
 
-pub advance-end-requires-clause-moves : goal.advance-end-requires-clause-moves
-advance-end-requires-clause-moves g c =
+pub advance-end-requires-clause-counts : goal.advance-end-requires-clause-counts
+advance-end-requires-clause-counts g c =
     let few = comes-counted _ _ _ _ _ _ _ _ _ c.known.ensures.accepted c.known.ensures.registers c.requires.opened c.loop-ran.invariant.comes c.loop-ran.invariant.within c.requires.limit in
-    omega (arith, few)
-
-pub advance-end-requires-clause-meets : goal.advance-end-requires-clause-meets
-advance-end-requires-clause-meets g c =
-    let few = comes-counted _ _ _ _ _ _ _ _ _ c.known.ensures.accepted c.known.ensures.registers c.requires.opened c.loop-ran.invariant.comes c.loop-ran.invariant.within c.requires.limit in
-    let within = counts-within _ _ _ _ c.loop-ran.invariant.comes.reached in
-    omega (arith, few, within.0)
-
-pub advance-end-requires-clause-kills : goal.advance-end-requires-clause-kills
-advance-end-requires-clause-kills g c =
-    let few = comes-counted _ _ _ _ _ _ _ _ _ c.known.ensures.accepted c.known.ensures.registers c.requires.opened c.loop-ran.invariant.comes c.loop-ran.invariant.within c.requires.limit in
-    let within = counts-within _ _ _ _ c.loop-ran.invariant.comes.reached in
-    omega (arith, few, within.1)
-
-pub advance-end-requires-clause-dead : goal.advance-end-requires-clause-dead
-advance-end-requires-clause-dead g c =
-    let few = comes-counted _ _ _ _ _ _ _ _ _ c.known.ensures.accepted c.known.ensures.registers c.requires.opened c.loop-ran.invariant.comes c.loop-ran.invariant.within c.requires.limit in
-    let within = counts-within _ _ _ _ c.loop-ran.invariant.comes.reached in
-    omega (arith, few, within.2)
+    can-count _ _ _ _ c.loop-ran.invariant.comes.reached (omega (arith, few))
 
 pub returns-in-Some-clause-run : goal.returns-in-Some-clause-run
 returns-in-Some-clause-run g c =

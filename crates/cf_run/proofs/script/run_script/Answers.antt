@@ -1,7 +1,7 @@
 use Rattle.std.proofs.Common.{refl, ap, inl, inr, ◌∙◌, arith}
 use Rattle.cf_core.specs.Asking.{AsksInput, AsksOutput}
 use Rattle.cf_report.specs.declared.tally.Tally.{Tally}
-use Rattle.cf_run.proofs.Runs.{followed-none, followed-more, tried-within, tried-left, tried-counted, counts-within, few-made, few-more}
+use Rattle.cf_run.proofs.Runs.{followed-none, followed-more, tried-within, tried-left, tried-counted, can-count, few-made, few-more}
 use Rattle.cf_run.proofs.Asked.{unasked-more}
 use Rattle.cf_run.proofs.Ending.{script-ends-sequentially}
 use Rattle.cf_run.proofs.Headline.{runs-sequentially}
@@ -19,20 +19,8 @@ loop-end-init g c = record {
   report = refl;
 }
 
-pub advance-requires-clause-meets : goal.advance-requires-clause-meets
-advance-requires-clause-meets g c =
-    let within = counts-within _ _ _ _ c.loop-end.invariant.followed.reaches in
-    omega (arith, few-made _ _ c.loop-end.invariant.few, within.0)
-
-pub advance-requires-clause-kills : goal.advance-requires-clause-kills
-advance-requires-clause-kills g c =
-    let within = counts-within _ _ _ _ c.loop-end.invariant.followed.reaches in
-    omega (arith, few-made _ _ c.loop-end.invariant.few, within.1)
-
-pub advance-requires-clause-dead : goal.advance-requires-clause-dead
-advance-requires-clause-dead g c =
-    let within = counts-within _ _ _ _ c.loop-end.invariant.followed.reaches in
-    omega (arith, few-made _ _ c.loop-end.invariant.few, within.2)
+pub advance-requires-clause-counts : goal.advance-requires-clause-counts
+advance-requires-clause-counts g c = can-count _ _ _ _ c.loop-end.invariant.followed.reaches (omega (arith, few-made _ _ c.loop-end.invariant.few))
 
 pub loop-end-preserved : goal.loop-end-preserved
 loop-end-preserved g c =
