@@ -21,15 +21,6 @@ use Rattle.cf_index.proofs.Filled.{all_chosen}
 use Rattle.cf_index.proofs.Held.{others_parts}
 use Rattle.cf_index.proofs.Passed.{later}
 
--- the first of a list in parts
-pub found_part : (xs ys : List Move) (o : Option Move) (m : Move) → o ≡ slice_get xs 0 → o ≡ Some m → Some m ≡ slice_get (xs ++ ys) 0
-found_part [] ys o m e f = absurd (cc)
-found_part (x ∷ xs) ys o m e f = sym f ∙ e
-
-pub next_part : (xs ys : List Move) (o r : Option Move) → o ≡ slice_get xs 0 → o ≡ None → r ≡ slice_get ys 0 → r ≡ slice_get (xs ++ ys) 0
-next_part [] ys o r e f g = g
-next_part (x ∷ xs) ys o r e f g = absurd (cc)
-
 -- the first that is no Issue
 pub emit_first : (plan : Plan) (s : State) → is_allowed plan s Emit ≡ true → Some Emit ≡ slice_get (allowed_others plan s) 0
 emit_first plan s e = rw e refl
@@ -208,7 +199,5 @@ pub found_soon : (plan : Plan) (s : State) (last m : Move) (held : Bool) (o : Op
     Some m ≡ slice_get (withheld held (candidates plan s)) (first_behind (Some last) (withheld held (candidates plan s)))
 found_soon plan s last m true o behind e is = found_behind last (held_back (candidates plan s)) m (found_held (stands_behind last) (candidates plan s) m (λ mv f. no_issue last mv behind f) (found_candidate plan s last m behind (sym e ∙ is)))
 found_soon plan s last m false o behind e is = found_behind last (candidates plan s) m (found_candidate plan s last m behind (sym e ∙ is))
-
-pub ruleset first_parts = (emit_first, found_part)
 
 pub ruleset firsts = (first_held, first_issue, first_free)

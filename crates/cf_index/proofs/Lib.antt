@@ -19,5 +19,5 @@ pub mod SharedSites
 pub mod Behinds
 pub mod There
 pub mod Independence
-pub mod Leavings
+pub mod Ranks
 pub mod Firsts

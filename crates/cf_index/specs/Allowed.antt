@@ -52,6 +52,9 @@ meet_on plan s = at_word Meet (passing_of plan s).meet ++ execute_on plan s
 abbrev pub fall_on : Plan → State → List Move
 fall_on plan s = at_word Fall (passing_of plan s).fall ++ meet_on plan s
 
+abbrev pub climb_on : Plan → State → List Move
+climb_on plan s = at_word Climb (passing_of plan s).climb ++ fall_on plan s
+
 -- the parts of the list of all moves
 abbrev pub all_entering : List Move
 all_entering = Issue guess.Next ∷ Issue guess.Taken ∷ Issue guess.Wait ∷ Emit ∷ []

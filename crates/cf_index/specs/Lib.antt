@@ -1,6 +1,7 @@
 pub mod Places
 pub mod Listed
 pub mod Order
+pub mod Ranks
 pub mod Allowed
 pub mod Words
 pub mod Spread

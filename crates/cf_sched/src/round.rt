@@ -1,6 +1,7 @@
 //! The policy that takes the candidates in turn.
 
-ghost use Rattle.std.specs.Prelude.{◌≡◌, ◌<◌, None, length};
+ghost use Rattle.std.specs.Prelude.{◌≡◌, ◌<◌, None, Some, length, slice_get};
+ghost use Rattle.cf_sched.specs.Paces.{offers};
 ghost use Rattle.cf_sched.specs.Policies.{round_on, round_pick};
 
 use crate::pace::Pace;
@@ -33,6 +34,20 @@ impl Round {
     {
         Round { last: None }
     }
+
+    /// Picks one of the moves that a processor offers, by a look at all of them.
+    // That is rare, and a call, so that the search behind the last move is part of the loop of a run.
+    #[inline(never)]
+    fn choose_of_all(&mut self, core: &Core, candidates: &mut Candidates, pace: &Pace) -> Move
+        requires { 0 < length (offers pace.now core.now.plan core.now.state) }
+        ensures choice { Some result ≡ slice_get (offers pace.now core.now.plan core.now.state)
+            (round_pick self.old (offers pace.now core.now.plan core.now.state)) }
+        ensures onward { self.new ≡ round_on self.old (offers pace.now core.now.plan core.now.state) }
+    {
+        pace.offer(core, candidates);
+        let place = self.pick(candidates);
+        candidates.pick(place)
+    }
 }
 
 impl Policy for Round {
@@ -55,8 +70,6 @@ impl Policy for Round {
                 return next;
             }
         }
-        pace.offer(core, candidates);
-        let place = self.pick(candidates);
-        candidates.pick(place)
+        self.choose_of_all(core, candidates, pace)
     }
 }

@@ -1,19 +1,15 @@
-use Rattle.std.proofs.Common.{◌++◌}
-use Rattle.std.specs.Prelude.{filter}
+use Rattle.std.proofs.Common.{◌≡◌, ◌≢◌, ◌∙◌, ◌++◌, ap, subst, sym}
+use Rattle.std.specs.Prelude.{filter, find}
 use Rattle.cf_semantics.specs.moves.Candidates.{slides_from}
+use Rattle.cf_index.specs.declared.rank.Rank.{Rank}
 use Rattle.cf_index.specs.Allowed.{all_leaving, all_passing, is_allowed}
-use Rattle.cf_index.specs.Order.{stands_behind}
-use Rattle.cf_index.proofs.Leavings.{found_here, found_there}
+use Rattle.cf_index.specs.Ranks.{is_past}
+use Rattle.cf_index.proofs.Ranks.{found_past}
 use Rattle.cf_index.proofs.soon.onward.Goals as goal
 
-pub returns-in-Some : goal.returns-in-Some
-returns-in-Some c = λ other.
-    let q = is_allowed c.args.core.now.plan c.args.core.now.state in
-    let rest = filter q (slides_from 0 c.args.core.now.plan.sidings) ++ filter q (all_leaving c.args.core.now.plan) in
-    found_here (stands_behind c.args.last) (filter q (all_passing c.args.core.now.plan)) rest c.next_passing.result c.in-Some.next c.next_passing.ensures c.in-Some.is
-
-pub returns-in-None : goal.returns-in-None
-returns-in-None c = λ other.
-    let q = is_allowed c.args.core.now.plan c.args.core.now.state in
-    let rest = filter q (slides_from 0 c.args.core.now.plan.sidings) ++ filter q (all_leaving c.args.core.now.plan) in
-    found_there (stands_behind c.args.last) (filter q (all_passing c.args.core.now.plan)) rest c.next_passing.result c.beyond.result c.next_passing.ensures c.in-None.is (c.beyond.ensures other)
+pub returns : goal.returns
+returns c = λ other.
+    let plan = c.args.core.now.plan in
+    let q = is_allowed plan c.args.core.now.state in
+    let rest = filter q (all_passing plan) ++ (filter q (slides_from 0 plan.sidings) ++ filter q (all_leaving plan)) in
+    c.next.ensures (subst (λ (r : Rank). r.kind ≢ 8) (sym c.of.ensures) other) ∙ ap (λ (r : Rank). find (is_past r) rest) c.of.ensures ∙ found_past c.args.last rest c.requires other
