@@ -21,3 +21,4 @@ pub mod There
 pub mod Independence
 pub mod Leavings
 pub mod Firsts
+pub mod Others
