@@ -99,7 +99,7 @@ in_parts plan s =
     let q = is_allowed plan s in
     sym (all_chosen plan s (filter q all_entering) (filter q (all_passing plan)) (filter q (slides_from 0 plan.sidings)) (filter q (all_leaving plan)) refl refl refl refl)
 
-others_are : (plan : Plan) (s : State) → other_moves (candidates plan s) ≡ allowed_others plan s
+pub others_are : (plan : Plan) (s : State) → other_moves (candidates plan s) ≡ allowed_others plan s
 unfolding rest_of
 others_are plan s =
     let q = is_allowed plan s in

@@ -21,3 +21,4 @@ pub mod There
 pub mod Independence
 pub mod Ranks
 pub mod Firsts
+pub mod Others

@@ -67,6 +67,14 @@ all_passing plan =
 abbrev pub all_leaving : Plan → List Move
 all_leaving plan = Access ∷ (at_stages plan Recover ++ Leave ∷ Exit ∷ Serve ∷ [])
 
+-- the allowed moves that issue
+abbrev pub allowed_issues : Plan → State → List Move
+allowed_issues plan s = filter (is_allowed plan s) (Issue guess.Next ∷ Issue guess.Taken ∷ Issue guess.Wait ∷ [])
+
+-- those that are offered where Issue is held back, and where it is not
+abbrev pub unheld_issues : Bool → Plan → State → List Move
+unheld_issues held plan s = if held then [] else allowed_issues plan s
+
 -- the allowed moves but for each Issue
 abbrev pub allowed_others : Plan → State → List Move
 allowed_others plan s = filter (is_allowed plan s) (Emit ∷ []) ++ (filter (is_allowed plan s) (all_passing plan) ++ (filter (is_allowed plan s) (slides_from 0 plan.sidings) ++ filter (is_allowed plan s) (all_leaving plan)))

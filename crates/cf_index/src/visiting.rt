@@ -1,16 +1,23 @@
 //! The candidates are shown one after another, each kind from number to number of its word.
 
-ghost use Rattle.std.specs.Prelude.{◌≡◌, ◌<◌, fold, map};
+ghost use Rattle.std.specs.Prelude.{◌≡◌, ◌<◌, ◌≤◌, ◌∷◌, [], filter, fold, length, map, slice_get};
 ghost use Rattle.cf_bind.specs.declared.moves.Move.{Move as Step};
+ghost use Rattle.cf_bind.specs.declared.moves.Move.TheVariants as mv;
+ghost use Rattle.cf_core.specs.Masks.{masks_of};
+ghost use Rattle.cf_semantics.specs.moves.Candidates.{slides_from};
+ghost use Rattle.cf_index.specs.Allowed.{all_leaving, all_passing, allowed_issues, allowed_others, is_allowed};
 ghost use Rattle.cf_index.specs.Listed.{entering_moves, flagged, leaving_moves, passing_moves, slides_of};
 ghost use Rattle.cf_index.specs.Places.{places};
 ghost use Rattle.cf_index.specs.Spread.{numbered};
 
+use crate::bits::count;
 use crate::candidates::Candidates;
 use crate::entering::Entering;
+use crate::fill::{leaving, passing, slides};
 use crate::leaving::Leaving;
 use crate::passing::Passing;
 use cf_bind::{Guess, Move};
+use cf_core::{Core, Masks};
 
 /// What is shown moves, one after another. What it is behind a move depends on nothing but what it was and on the move.
 pub trait Visitor {
@@ -134,5 +141,84 @@ impl Candidates {
         self.passing.visit(visitor);
         visit_word(visitor, Spread::Slide, self.slides);
         self.leaving.visit(visitor);
+    }
+}
+
+/// Shows Emit where it is allowed.
+#[inline(always)]
+#[tactic(auto, using(crate::proofs::Others::emit_chosen))]
+fn visit_emit<V: Visitor>(core: &Core, visitor: &mut V)
+    ensures { visitor.new ≡ fold V.behind visitor.old (filter (is_allowed core.now.plan core.now.state) (mv.Emit ∷ [])) }
+{
+    visit_if(visitor, core.may_emit(), Move::Emit);
+}
+
+/// Shows what is allowed in the stages.
+#[inline(always)]
+fn visit_passing<V: Visitor>(core: &Core, masks: &Masks, visitor: &mut V)
+    requires { masks.now ≡ masks_of core.now.plan core.now.state }
+    ensures shown { visitor.new ≡ fold V.behind visitor.old (filter (is_allowed core.now.plan core.now.state) (all_passing core.now.plan)) }
+    ensures few { length (filter (is_allowed core.now.plan core.now.state) (all_passing core.now.plan)) ≤ 384 }
+{
+    let passing = passing(core, masks);
+    let _count = passing.len();
+    passing.visit(visitor);
+}
+
+/// Shows what is allowed within the sidings.
+#[inline(always)]
+#[tactic(auto, using(crate::proofs::Parts::lengths), unfolding(crate::specs::Listed::slides_of))]
+fn visit_slides<V: Visitor>(core: &Core, visitor: &mut V)
+    ensures shown { visitor.new ≡ fold V.behind visitor.old (filter (is_allowed core.now.plan core.now.state) (slides_from 0 core.now.plan.sidings)) }
+    ensures few { length (filter (is_allowed core.now.plan core.now.state) (slides_from 0 core.now.plan.sidings)) ≤ 64 }
+{
+    let slides = slides(core);
+    let _count = count(slides);
+    visit_word(visitor, Spread::Slide, slides);
+}
+
+/// Shows what is allowed to leave.
+#[inline(always)]
+fn visit_leaving<V: Visitor>(core: &Core, masks: &Masks, visitor: &mut V)
+    requires { masks.now ≡ masks_of core.now.plan core.now.state }
+    ensures shown { visitor.new ≡ fold V.behind visitor.old (filter (is_allowed core.now.plan core.now.state) (all_leaving core.now.plan)) }
+    ensures few { length (filter (is_allowed core.now.plan core.now.state) (all_leaving core.now.plan)) ≤ 68 }
+{
+    let leaving = leaving(core, masks);
+    let _count = leaving.len();
+    leaving.visit(visitor);
+}
+
+impl Candidates {
+    /// Shows each allowed move of the processor but those that issue, in the order of all moves. No candidates are filled in.
+    #[inline(always)]
+    #[tactic(auto, using(crate::proofs::Shown::shown_parts, crate::proofs::Others::few_parts))]
+    pub fn visit_others<V: Visitor>(core: &Core, visitor: &mut V)
+        ensures shown { visitor.new ≡ fold V.behind visitor.old (allowed_others core.now.plan core.now.state) }
+        ensures few { length (allowed_others core.now.plan core.now.state) ≤ 517 }
+    {
+        let masks = core.masks();
+        visit_emit(core, visitor);
+        visit_passing(core, &masks, visitor);
+        visit_slides(core, visitor);
+        visit_leaving(core, &masks, visitor);
+    }
+
+    /// The first of the allowed moves that issue.
+    #[inline(always)]
+    #[tactic(auto, using(crate::proofs::Others::issues))]
+    pub fn first_issue(core: &Core) -> Option<Move>
+        ensures { result ≡ slice_get (allowed_issues core.now.plan core.now.state) 0 }
+    {
+        let issuable = core.issuable();
+        if issuable.next {
+            Some(Move::Issue(Guess::Next))
+        } else if issuable.taken {
+            Some(Move::Issue(Guess::Taken))
+        } else if issuable.wait {
+            Some(Move::Issue(Guess::Wait))
+        } else {
+            None
+        }
     }
 }

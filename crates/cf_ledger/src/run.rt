@@ -14,10 +14,9 @@ use crate::ledger::Ledger;
 use crate::watching::Watching;
 use cf_core::Core;
 use cf_index::Candidates;
-use cf_io::{Nowhere, Sink, Source};
-use cf_report::Tally;
-use cf_run::{Show, known, run_policy};
-use cf_timed::{Clock, Timed, clock_behind, timed};
+use cf_io::{Sink, Source};
+use cf_run::known;
+use cf_timed::{Clock, Timed, clock_behind, run_unreported, timed};
 
 /// Runs an opened processor as `run_timed` of cf_timed does, by a clock and with a ledger that were told no move. The ledger is told
 /// the moves that the clock is told. It takes no memory, and always comes to an end.
@@ -47,25 +46,7 @@ pub fn run_noted<S: Source, K: Sink>(
     known(core);
     clock.known();
     let mut watching = Watching::new(*clock, *ledger);
-    let mut nowhere = Nowhere;
-    let mut tally = Tally {
-        moves: 0,
-        meets: 0,
-        kills: 0,
-        dead: 0,
-    };
-    let ran = run_policy(
-        core,
-        candidates,
-        &mut watching,
-        limit,
-        Show::Report,
-        input,
-        output,
-        &mut nowhere,
-        &mut tally,
-    );
-    *moves = tally.moves;
+    let ran = run_unreported(core, candidates, &mut watching, limit, input, output, moves);
     *clock = clock_behind(watching.timing(), ran);
     *ledger = watching.ledger_behind(ran);
     timed(ran)

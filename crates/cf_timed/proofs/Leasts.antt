@@ -1,5 +1,5 @@
 -- The first of the moves with the least time.
-use Rattle.std.proofs.Common.{◌≡◌, refl, sym, ℕ, ◌<◌, ◌≤◌, List, [], ◌∷◌, length, get_or, Bool, true, false, arith}
+use Rattle.std.proofs.Common.{◌≡◌, refl, sym, ℕ, zero, suc, ◌+◌, ◌<◌, ◌≤◌, List, [], ◌∷◌, ◌++◌, length, get_or, Bool, true, false, arith}
 use Rattle.std.specs.Prelude.{nat_le}
 use Rattle.std.specs.List.{AllByRecursion, list_all, position_or_len}
 use Rattle.std.proofs.lemmas.Bool.Decides.{nat_tests}
@@ -31,6 +31,48 @@ least-of_all time moves place least d h =
 
     here : list_all (λ other. nat_le (time (get_or moves place d)) (time other)) moves ≡ true
     here = list_all-from_AllPass (λ other. nat_le (time (get_or moves place d)) (time other)) moves (λ k e below. let m = h.most k e below in let i = h.is d in grind (arith, nat_tests, m, i))
+
+-- behind a move that is later it is still the least
+behind_one : (time : Move → ℕ) (x : Move) (moves : List Move) (place least : ℕ) → least < time x → IsLeast time moves place least → IsLeast time (x ∷ moves) (suc place) least
+behind_one time x moves place least later h = record {
+  within = let w = h.within in omega (arith, w);
+  is = h.is;
+  most = most;
+  first = first;
+}
+  where
+    most : (k : ℕ) (d : Move) → k < length (x ∷ moves) → least ≤ time (get_or (x ∷ moves) k d)
+    most zero d below = omega (arith, later)
+    most (suc k) d below = h.most k d (omega arith)
+
+    first : (k : ℕ) (d : Move) → k < suc place → least < time (get_or (x ∷ moves) k d)
+    first zero d before = later
+    first (suc k) d before = h.first k d (omega arith)
+
+-- and behind some that are later
+pub least-behind : (time : Move → ℕ) (front moves : List Move) (place least : ℕ) → ((k : ℕ) (d : Move) → k < length front → least < time (get_or front k d)) → IsLeast time moves place least →
+    IsLeast time (front ++ moves) (length front + place) least
+least-behind time [] moves place least later h = let z : 0 + place ≡ place = omega arith in rw z h
+least-behind time (x ∷ front) moves place least later h =
+    let r = least-behind time front moves place least (λ k d below. later (suc k) d (omega arith)) h in
+    let e : suc (length front) + place ≡ suc (length front + place) = omega arith in
+    rw e (behind_one time x (front ++ moves) (length front + place) least (later 0 x (omega arith)) r)
+
+-- the first of some moves of one time, where the moves behind them are no sooner
+pub least-front : (time : Move → ℕ) (front moves : List Move) (least : ℕ) → 0 < length front → ((k : ℕ) (d : Move) → k < length front → time (get_or front k d) ≡ least) → ((k : ℕ) (d : Move) → k < length moves → least ≤ time (get_or moves k d)) →
+    IsLeast time (front ++ moves) 0 least
+least-front time [] moves least some same later = absurd (omega arith)
+least-front time (x ∷ front) moves least some same later = record {
+  within = omega arith;
+  is = λ d. let e = same 0 d some in omega (arith, e);
+  most = all (x ∷ front) same;
+  first = λ k d before. absurd (omega arith);
+}
+  where
+    all : (xs : List Move) → ((k : ℕ) (d : Move) → k < length xs → time (get_or xs k d) ≡ least) → (k : ℕ) (d : Move) → k < length (xs ++ moves) → least ≤ time (get_or (xs ++ moves) k d)
+    all [] same k d below = later k d below
+    all (x ∷ xs) same zero d below = let e = same 0 d (omega arith) in omega (arith, e)
+    all (x ∷ xs) same (suc k) d below = all xs (λ j e low. same (suc j) e (omega arith)) k d (omega arith)
 
 -- two tests that agree on the moves
 all_same : (p q : Move → Bool) (moves : List Move) → AllByRecursion (λ mv. p mv ≡ q mv) moves → list_all p moves ≡ list_all q moves

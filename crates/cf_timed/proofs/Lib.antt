@@ -6,6 +6,7 @@ pub mod Chaining
 pub mod Swapping
 pub mod Leasts
 pub mod Sought
+pub mod Sooner
 pub mod Room
 pub mod Simulated
 pub mod Rightly

@@ -6,7 +6,7 @@ use Rattle.std.proofs.lemmas.Option.{get_or_from_slice_get}
 use Rattle.cf_bind.specs.declared.moves.Move.{Move}
 use Rattle.cf_timed.specs.Clocks.{SiteTimes, capped}
 use Rattle.cf_timed.specs.Earliest.{first_least}
-use Rattle.cf_timed.specs.Seeking.{Seeking, counted, shown}
+use Rattle.cf_timed.specs.Seeking.{Seeking, counted, nothing, shown}
 use Rattle.cf_timed.proofs.Leasts.{IsLeast, least-of_all}
 
 -- of the moves that were shown the first with the least time is known, or none has a time below the greatest number
@@ -82,11 +82,8 @@ found-rest clock moves s (mv ∷ rest) few count left h =
     counts false below = grind arith
 
 -- nothing was shown
-abbrev nothing : SiteTimes → Move → Seeking
-nothing clock mv = record { clock = clock; shown = 0; place = 0; time = 2 ^ 64 - 1; move = mv }
-
-found-nothing : (clock : SiteTimes) (moves : List Move) (mv : Move) → Found clock moves (nothing clock mv)
-found-nothing clock moves mv = record {
+found-nothing : (clock : SiteTimes) (moves : List Move) → Found clock moves (nothing clock)
+found-nothing clock moves = record {
   same = refl;
   least = λ k d below. absurd (omega arith);
   first = λ k d before. absurd (omega arith);
@@ -95,34 +92,57 @@ found-nothing clock moves mv = record {
   within = omega arith;
 }
 
--- where all were shown and one has a time below the greatest number, the first of the least is found
-pub found-first : (clock : SiteTimes) (moves : List Move) (mv : Move) (s : Seeking) → length moves ≤ 2 ^ 64 - 1 → s ≡ fold shown (nothing clock mv) moves → s.time < 2 ^ 64 - 1 →
-    (s.place ≡ first_least (capped clock) moves) × (s.place < length moves) × (Some s.move ≡ slice_get moves s.place)
-found-first clock moves mv s few e below =
-    let f = found-rest clock moves (nothing clock mv) moves few (omega arith) refl (found-nothing clock moves mv) in
-    let h : Found clock moves s = rw e (f.0) in
-    let all : s.shown ≡ length moves = rw e (f.1) in
+-- what was found once all were shown
+found-all : (clock : SiteTimes) (moves : List Move) (s : Seeking) → length moves ≤ 2 ^ 64 - 1 → s ≡ fold shown (nothing clock) moves → Found clock moves s × (s.shown ≡ length moves)
+found-all clock moves s few e =
+    let f = found-rest clock moves (nothing clock) moves few (omega arith) refl (found-nothing clock moves) in
+    (rw e (f.0), rw e (f.1))
+
+-- none has a lesser time
+pub found-bound : (clock : SiteTimes) (moves : List Move) (s : Seeking) → length moves ≤ 2 ^ 64 - 1 → s ≡ fold shown (nothing clock) moves → (k : ℕ) (d : Move) → k < length moves → s.time ≤ capped clock (get_or moves k d)
+found-bound clock moves s few e k d below =
+    let f = found-all clock moves s few e in
+    let all = f.1 in
+    (f.0).least k d (rw all below)
+
+-- where one has a time below the greatest number, the first of the least is found
+pub record Reached (clock : SiteTimes) (moves : List Move) (s : Seeking) : Type 0 where
+  pub least : IsLeast (capped clock) moves s.place s.time
+  pub move : slice_get moves s.place ≡ Some s.move
+  pub time : capped clock s.move ≡ s.time
+
+pub found-least : (clock : SiteTimes) (moves : List Move) (s : Seeking) → length moves ≤ 2 ^ 64 - 1 → s ≡ fold shown (nothing clock) moves → s.time < 2 ^ 64 - 1 → Reached clock moves s
+found-least clock moves s few e below =
+    let f = found-all clock moves s few e in
+    let h = f.0 in
+    let all = f.1 in
     let g = h.some below in
-    let within : s.place < length moves = let w = g.0 in omega (arith, all, w) in
-    let is : IsLeast (capped clock) moves s.place s.time = record {
-      within = within;
-      is = λ d. let p = get_or_from_slice_get moves s.place s.move d (g.1) in let t = g.2 in rw p (omega (arith, t));
-      most = λ k d low. h.least k d (rw all low);
-      first = h.first;
-    } in
-    (least-of_all (capped clock) moves s.place s.time s.move is, within, sym (g.1))
+    record {
+      least = record {
+        within = let w = g.0 in omega (arith, all, w);
+        is = λ d. let p = get_or_from_slice_get moves s.place s.move d (g.1) in let t = g.2 in rw p (omega (arith, t));
+        most = λ k d low. h.least k d (rw all low);
+        first = h.first;
+      };
+      move = g.1;
+      time = g.2;
+    }
+
+pub found-first : (clock : SiteTimes) (moves : List Move) (s : Seeking) → length moves ≤ 2 ^ 64 - 1 → s ≡ fold shown (nothing clock) moves → s.time < 2 ^ 64 - 1 →
+    (s.place ≡ first_least (capped clock) moves) × (s.place < length moves) × (Some s.move ≡ slice_get moves s.place)
+found-first clock moves s few e below =
+    let r = found-least clock moves s few e below in
+    (least-of_all (capped clock) moves s.place s.time s.move r.least, r.least.within, sym r.move)
 
 -- and where none has, it is the first of all
-pub first-found : (clock : SiteTimes) (moves : List Move) (mv : Move) (s : Seeking) → length moves ≤ 2 ^ 64 - 1 → 0 < length moves → s ≡ fold shown (nothing clock mv) moves → 2 ^ 64 - 1 ≤ s.time →
+pub first-found : (clock : SiteTimes) (moves : List Move) (s : Seeking) → length moves ≤ 2 ^ 64 - 1 → 0 < length moves → s ≡ fold shown (nothing clock) moves → 2 ^ 64 - 1 ≤ s.time →
     0 ≡ first_least (capped clock) moves
-first-found clock moves mv s few some e above =
-    let f = found-rest clock moves (nothing clock mv) moves few (omega arith) refl (found-nothing clock moves mv) in
-    let h : Found clock moves s = rw e (f.0) in
-    let all : s.shown ≡ length moves = rw e (f.1) in
+first-found clock moves s few some e above =
+    let bound = found-bound clock moves s few e in
     let is : IsLeast (capped clock) moves 0 s.time = record {
       within = some;
       is = λ d. let c : capped clock (get_or moves 0 d) ≤ 2 ^ 64 - 1 = grind arith in omega (arith, c, above);
-      most = λ k d low. h.least k d (rw all low);
+      most = bound;
       first = λ k d before. absurd (omega arith);
     } in
-    least-of_all (capped clock) moves 0 s.time mv is
+    least-of_all (capped clock) moves 0 s.time s.move is

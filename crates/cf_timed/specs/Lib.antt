@@ -6,6 +6,7 @@ pub mod Exchanges
 pub mod Clocks
 pub mod Earliest
 pub mod Seeking
+pub mod Soonest
 pub mod Timings
 pub mod TimedRuns
 pub mod Limits

@@ -1,6 +1,7 @@
 -- The first of the moves with the least time, sought while one after another is shown.
 use Rattle.std.specs.Prelude.{ℕ, ◌+◌, ◌-◌, ◌^◌, min, nat_lt, if◌then◌else◌}
 use Rattle.cf_bind.specs.declared.moves.Move.{Move}
+use Rattle.cf_bind.specs.declared.moves.Move.TheVariants.{Exit}
 use Rattle.cf_timed.specs.Clocks.{SiteTimes, capped}
 
 -- how many moves were shown, and the first of those with the least time: its place, its time and itself
@@ -18,3 +19,7 @@ counted s = record s { shown = min (s.shown + 1) (2 ^ 64 - 1) }
 -- it is taken where it has a lesser time than those before it
 abbrev pub shown : Seeking → Move → Seeking
 shown s mv = counted (if nat_lt (capped s.clock mv) s.time then record s { place = s.shown; time = capped s.clock mv; move = mv } else s)
+
+-- where none was shown yet
+abbrev pub nothing : SiteTimes → Seeking
+nothing clock = record { clock = clock; shown = 0; place = 0; time = 2 ^ 64 - 1; move = Exit }

@@ -1,7 +1,8 @@
 -- A timed run: the moves that are done first, one after another, and what the clock tells of them.
-use Rattle.std.specs.Prelude.{◌≡◌, ℕ, List, [], None}
+use Rattle.std.specs.Prelude.{◌≡◌, ◌≢◌, ℕ, List, [], None}
 use Rattle.cf_asked.specs.declared.show.Show.TheVariants as show
 use Rattle.rv_machine.specs.Streams.{Streams}
+use Rattle.cf_bind.specs.declared.moves.Move.{Move}
 use Rattle.cf_core.specs.Processors.{Processor}
 use Rattle.cf_report.specs.declared.tally.Tally.{Tally}
 use Rattle.cf_run.specs.declared.answer.Ran.{Ran as Answer}
@@ -28,6 +29,14 @@ answer_of WriteFault = ran.WriteFault
 -- where a timed run begins, which reports nothing
 abbrev pub begins : Processor → Streams → Place
 begins core streams = place_of core streams None no_tally
+
+-- from there it is a run of a policy, which reports nothing and whose report does not fail; so many moves were made
+pub record RunsUnreported {P : Type 0} (picked : P → List Move → ℕ) (onward : P → List Move → P) (limit : ℕ) (begin : Place) (core : Processor) (streams : Streams) (policy later : P) (moves : ℕ) (answer : Answer) : Type 0 where
+  pub tally : Tally
+  pub counted : tally.moves ≡ moves
+  pub right : RunsRight picked onward limit show.Report begin (place_of core streams None tally) policy later answer
+  pub ends : EndsSequentially limit begin (place_of core streams None tally) (Ran answer)
+  pub reports : answer ≢ ran.ReportFault
 
 -- from there it is a run of the policy that picks what is done first, right by the sequential machine; so many moves were made, and the clock was told just these
 pub record RunsTimed (delays : List ℕ) (limit : ℕ) (begin : Place) (core : Processor) (streams : Streams) (clock : SiteTimes) (moves : ℕ) (answer : Timed) : Type 0 where

@@ -1,9 +1,11 @@
 //! The first of the moves that are done no later than any, found while they are shown.
 
 ghost use Rattle.std.specs.Prelude.{◌≡◌};
-ghost use Rattle.cf_timed.specs.Seeking.{shown};
+ghost use Rattle.cf_timed.specs.Seeking.{nothing, shown};
+ghost use Rattle.cf_timed.specs.Soonest.{due_of};
 
 use crate::clock::Clock;
+use crate::soonest::Due;
 use cf_bind::Move;
 use cf_index::Visitor;
 use std::marker::Model;
@@ -38,5 +40,36 @@ impl<'a> Visitor for Least<'a> {
             self.mv = mv;
         }
         self.shown = self.shown.saturating_add(1);
+    }
+}
+
+impl<'a> Least<'a> {
+    /// No move was shown yet.
+    #[inline(always)]
+    pub(crate) fn new(clock: &'a Clock) -> Least<'a>
+        ensures { result ≡ nothing clock.now }
+    {
+        Least {
+            clock,
+            shown: 0,
+            place: 0,
+            time: u64::MAX,
+            mv: Move::Exit,
+        }
+    }
+
+    /// The one that was found, where its time is below the greatest u64.
+    #[inline(always)]
+    pub(crate) fn due(&self) -> Option<Due>
+        ensures { result ≡ due_of self.now }
+    {
+        if self.time < u64::MAX {
+            Some(Due {
+                mv: self.mv,
+                time: self.time,
+            })
+        } else {
+            None
+        }
     }
 }

@@ -11,6 +11,7 @@ mod reaching;
 mod reading;
 mod refusal;
 mod run;
+mod soonest;
 mod timing;
 
 pub use answer::Timed;
@@ -19,7 +20,7 @@ pub use delays::{Delays, kind_place};
 pub use reaching::port;
 pub use reading::{MOST_DELAYS, read_delays};
 pub use refusal::{DelayErr, DelayKind};
-pub use run::{clock_behind, run_timed, timed};
+pub use run::{clock_behind, run_timed, run_unreported, timed};
 pub use timing::Timing;
 
 #[cfg(test)]

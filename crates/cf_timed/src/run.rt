@@ -9,7 +9,7 @@ ghost use Rattle.cf_run.specs.declared.answer.Ran.TheVariants as answers;
 ghost use Rattle.cf_run.specs.Policies.{IsOpened, input_stopped, most_moves, output_stopped};
 ghost use Rattle.cf_timed.specs.Clocks.{started};
 ghost use Rattle.cf_timed.specs.Delays.{AreDelays};
-ghost use Rattle.cf_timed.specs.TimedRuns.{RunsTimed, answer_of, begins};
+ghost use Rattle.cf_timed.specs.TimedRuns.{RunsTimed, RunsUnreported, answer_of, begins};
 ghost use Rattle.cf_timed.specs.Timings.{clock_behind};
 
 use crate::answer::Timed;
@@ -20,6 +20,51 @@ use cf_index::Candidates;
 use cf_io::{Nowhere, Sink, Source};
 use cf_report::Tally;
 use cf_run::{Ran, Show, known, run_policy};
+use cf_sched::Policy;
+
+/// Runs an opened processor by a policy as `run_policy` of cf_run does, and reports nothing. The number of the moves that were made
+/// is given. It takes no memory, and always comes to an end.
+#[inline(always)]
+pub fn run_unreported<P: Policy, S: Source, K: Sink>(
+    core: &mut Core,
+    candidates: &mut Candidates,
+    policy: &mut P,
+    limit: u64,
+    input: &mut S,
+    output: &mut K,
+    moves: &mut u64,
+) -> Ran
+    requires limit { limit ≤ 1000000000 }
+    requires retired { core.old.state.retired ≤ limit }
+    requires opened { IsOpened core.old }
+    ensures run { RunsUnreported P.picked P.onward limit
+        (begins core.old (streams_of (S.left input.old) (K.written output.old)))
+        core.new (streams_of (S.left input.new) (K.written output.new)) policy.old policy.new moves.new result }
+    ensures bounded { moves.new ≤ most_moves core.old.plan (core.new.state.retired - core.old.state.retired) }
+    ensures input { HasCause (S.faults input.old) (S.faults input.new) (input_stopped (Some result)) }
+    ensures output { HasCause (K.faults output.old) (K.faults output.new) (output_stopped (Some result)) }
+{
+    let mut nowhere = Nowhere;
+    let mut tally = Tally {
+        moves: 0,
+        meets: 0,
+        kills: 0,
+        dead: 0,
+    };
+    let ran = run_policy(
+        core,
+        candidates,
+        policy,
+        limit,
+        Show::Report,
+        input,
+        output,
+        &mut nowhere,
+        &mut tally,
+    );
+    *moves = tally.moves;
+    ran
+}
 
 /// Runs an opened processor by a clock that was told no move: of the candidates that any policy would be offered, the one that is done
 /// first is made, and the first in the order of all moves where several are. Until the program ends, as many instructions have
@@ -52,25 +97,7 @@ pub fn run_timed<S: Source, K: Sink>(
     known(core);
     clock.known();
     let mut timing = Timing::new(*clock);
-    let mut nowhere = Nowhere;
-    let mut tally = Tally {
-        moves: 0,
-        meets: 0,
-        kills: 0,
-        dead: 0,
-    };
-    let ran = run_policy(
-        core,
-        candidates,
-        &mut timing,
-        limit,
-        Show::Report,
-        input,
-        output,
-        &mut nowhere,
-        &mut tally,
-    );
-    *moves = tally.moves;
+    let ran = run_unreported(core, candidates, &mut timing, limit, input, output, moves);
     *clock = clock_behind(&timing, ran);
     timed(ran)
 }

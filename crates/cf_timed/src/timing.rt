@@ -1,12 +1,15 @@
 //! The policy that picks what is done first.
 
 ghost use Rattle.std.specs.Prelude.{◌≡◌, ◌<◌, None, Some, length, slice_get};
+ghost use Rattle.cf_sched.specs.Paces.{offers};
 ghost use Rattle.cf_timed.specs.Clocks.{capped};
 ghost use Rattle.cf_timed.specs.Earliest.{first_least};
-ghost use Rattle.cf_timed.specs.Timings.{behind_pick, marked, pending_pick, told};
+ghost use Rattle.cf_timed.specs.Soonest.{IsSoonest};
+ghost use Rattle.cf_timed.specs.Timings.{behind_pick, pending_pick, told};
 
 use crate::clock::Clock;
 use crate::least::Least;
+use crate::soonest::Due;
 use cf_bind::Move;
 use cf_core::Core;
 use cf_index::Candidates;
@@ -14,32 +17,28 @@ use cf_sched::{Pace, Policy};
 use std::marker::Model;
 
 /// Picks the candidate that is done first, and the first in the order of all moves where several are. The clock is told a move once
-/// the next one is to be picked, since a call of the environment may fail. It is seen as the clock and the last pick.
+/// the next one is to be picked, since a call of the environment may fail. It is seen as the clock and the last pick, beside which
+/// stands when that is done, in ticks.
 #[derive(Drop)]
 pub struct Timing {
     clock: Clock,
     last: Option<Move>,
+    time: u64,
 }
 
 impl Model for Timing {
+    ghost use Rattle.std.specs.Prelude.{◌≡◌, IfSome};
+    ghost use Rattle.cf_timed.specs.Clocks.{capped};
     ghost use Rattle.cf_timed.specs.Timings.{Pending};
 
     ghost Value = { Pending };
 
     ghost view = { λ t. record { clock = t.clock; last = t.last } };
+
+    ghost invariant = { λ t. IfSome t.last (λ mv. t.time ≡ capped t.clock mv) };
 }
 
 impl Clock {
-    /// Takes note of a move that is made now; its time is at most the greatest u64.
-    #[inline(always)]
-    #[tactic(auto, unfolding(crate::specs::Timings::marked))]
-    fn mark(&mut self, mv: Move)
-        ensures { self.new ≡ marked self.old mv }
-    {
-        let time = self.capped(mv);
-        self.stamp(mv, time);
-    }
-
     /// The first of the candidates that are done no later than any, and its place.
     #[inline(always)]
     fn first_least(&self, candidates: &Candidates) -> (usize, Move)
@@ -48,13 +47,7 @@ impl Clock {
         ensures within { result.0 < length candidates.now }
         ensures mv { Some result.1 ≡ slice_get candidates.now result.0 }
     {
-        let mut least = Least {
-            clock: self,
-            shown: 0,
-            place: 0,
-            time: u64::MAX,
-            mv: Move::Exit,
-        };
+        let mut least = Least::new(self);
         // Their number fits, so that no place is counted wrongly.
         let _count = candidates.len();
         candidates.visit(&mut least);
@@ -65,6 +58,33 @@ impl Clock {
             (0, candidates.pick(0))
         }
     }
+
+    /// The first of the moves that are done no later than any, of those that are offered; they are filled in for it.
+    #[inline(never)]
+    fn earliest_filled(&self, core: &Core, candidates: &mut Candidates, pace: &Pace) -> Due
+        requires { 0 < length (offers pace.now core.now.plan core.now.state) }
+        ensures { IsSoonest self.now (offers pace.now core.now.plan core.now.state) result }
+    {
+        pace.offer(core, candidates);
+        let mv = self.first_least(candidates).1;
+        Due {
+            mv,
+            time: self.capped(mv),
+        }
+    }
+
+    /// The first of the moves that are done no later than any, of those that are offered.
+    #[inline(always)]
+    #[tactic(auto, using(crate::proofs::Sooner::soonest_offered))]
+    fn earliest(&self, core: &Core, candidates: &mut Candidates, pace: &Pace) -> Due
+        requires { 0 < length (offers pace.now core.now.plan core.now.state) }
+        ensures { IsSoonest self.now (offers pace.now core.now.plan core.now.state) result }
+    {
+        match self.soonest(core, pace.held()) {
+            Some(due) => due,
+            None => self.earliest_filled(core, candidates, pace),
+        }
+    }
 }
 
 impl Timing {
@@ -72,7 +92,11 @@ impl Timing {
     pub fn new(clock: Clock) -> Timing
         ensures { result ≡ record { clock = clock; last = None } }
     {
-        Timing { clock, last: None }
+        Timing {
+            clock,
+            last: None,
+            time: 0,
+        }
     }
 
     /// The last pick, of which the clock was not told yet.
@@ -92,43 +116,68 @@ impl Timing {
 
     /// The clock, told of the last pick.
     #[inline(always)]
-    #[tactic(auto, unfolding(crate::specs::Timings::told))]
+    #[tactic(auto, unfolding(crate::specs::Timings::told, crate::specs::Timings::marked))]
     pub fn told(&self) -> Clock
         ensures { result ≡ told self.now }
     {
         let mut clock = self.clock;
         if let Some(mv) = self.last {
-            clock.mark(mv);
+            clock.stamp(mv, self.time);
         }
         clock
     }
 
     /// Tells the clock of the last pick.
     #[inline(always)]
-    #[tactic(auto, unfolding(crate::specs::Timings::told))]
+    #[tactic(auto, unfolding(crate::specs::Timings::told, crate::specs::Timings::marked))]
     fn tell(&mut self)
         ensures { self.new ≡ record { clock = told self.old; last = None } }
     {
         if let Some(mv) = self.last {
-            self.clock.mark(mv);
+            self.clock.stamp(mv, self.time);
             self.last = None;
         }
     }
 
-    /// Tells the clock of the last pick, and picks one of the candidates: its place, and the move.
+    /// Keeps the pick.
+    #[inline(always)]
+    fn keep(&mut self, due: Due)
+        requires { due.time ≡ capped self.old.clock due.mv }
+        ensures { self.new ≡ record { clock = self.old.clock; last = Some due.mv } }
+    {
+        self.last = Some(due.mv);
+        self.time = due.time;
+    }
+
+    /// Tells the clock of the last pick, and picks one of the candidates, by its place.
     #[inline(always)]
     #[tactic(auto, unfolding(crate::specs::Timings::pending_pick, crate::specs::Timings::behind_pick))]
-    fn least(&mut self, candidates: &Candidates) -> (usize, Move)
+    fn place_of_pick(&mut self, candidates: &Candidates) -> usize
         requires { 0 < length candidates.now }
-        ensures place { result.0 ≡ pending_pick self.old candidates.now }
-        ensures within { result.0 < length candidates.now }
-        ensures mv { Some result.1 ≡ slice_get candidates.now result.0 }
+        ensures place { result ≡ pending_pick self.old candidates.now }
+        ensures within { result < length candidates.now }
         ensures onward { self.new ≡ behind_pick self.old candidates.now }
     {
         self.tell();
-        let least = self.clock.first_least(candidates);
-        self.last = Some(least.1);
-        least
+        let (place, mv) = self.clock.first_least(candidates);
+        let time = self.clock.capped(mv);
+        self.keep(Due { mv, time });
+        place
+    }
+
+    /// Tells the clock of the last pick, and picks one of the moves that are offered.
+    #[inline(always)]
+    #[tactic(auto, unfolding(crate::specs::Timings::pending_pick, crate::specs::Timings::behind_pick))]
+    fn earliest(&mut self, core: &Core, candidates: &mut Candidates, pace: &Pace) -> Move
+        requires { 0 < length (offers pace.now core.now.plan core.now.state) }
+        ensures choice { Some result ≡ slice_get (offers pace.now core.now.plan core.now.state)
+            (pending_pick self.old (offers pace.now core.now.plan core.now.state)) }
+        ensures onward { self.new ≡ behind_pick self.old (offers pace.now core.now.plan core.now.state) }
+    {
+        self.tell();
+        let due = self.clock.earliest(core, candidates, pace);
+        self.keep(due);
+        due.mv
     }
 }
 
@@ -139,12 +188,11 @@ impl Policy for Timing {
 
     #[inline(always)]
     fn pick(&mut self, candidates: &Candidates) -> usize {
-        self.least(candidates).0
+        self.place_of_pick(candidates)
     }
 
     #[inline(always)]
     fn choose(&mut self, core: &Core, candidates: &mut Candidates, pace: &Pace) -> Move {
-        pace.offer(core, candidates);
-        self.least(candidates).1
+        self.earliest(core, candidates, pace)
     }
 }

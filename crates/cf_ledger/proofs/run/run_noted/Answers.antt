@@ -1,14 +1,13 @@
 use Rattle.std.proofs.Common.{◌∙◌, ap}
 use Rattle.cf_timed.specs.Timings.{Pending, clock_behind}
-use Rattle.cf_timed.proofs.Rightly.{never-fails}
 use Rattle.cf_ledger.proofs.Noted.{first-is, runs-noted}
 use Rattle.cf_ledger.proofs.run.run_noted.Goals as goal
 
 pub returns-clause-run : goal.returns-clause-run
 returns-clause-run g c =
-    let none = never-fails c.run_policy-ran.result c.run_policy-ran.ensures.report in
-    runs-noted c.args.clock.now.delays c.args.limit c.args.core.now c.run_policy-ran.new.core _ _ c.run_policy-ran.new.tally c.new-watching.result c.run_policy-ran.new.policy c.run_policy-ran.result c.timed.result c.clock_behind.result c.ledger_behind.result
-    c.known.ensures.accepted c.known.ensures.registers c.requires.opened c.known-2.ensures c.requires.limit c.requires.retired none
+    let ran = c.run_unreported-ran.ensures.run in
+    rw (← ran.counted) (runs-noted c.args.clock.now.delays c.args.limit c.args.core.now c.run_unreported-ran.new.core _ _ ran.tally c.new-watching.result c.run_unreported-ran.new.policy c.run_unreported-ran.result c.timed.result c.clock_behind.result c.ledger_behind.result
+    c.known.ensures.accepted c.known.ensures.registers c.requires.opened c.known-2.ensures c.requires.limit c.requires.retired ran.reports
     (first-is c.args.core.now.plan c.args.clock.now.delays c.args.clock.now c.args.ledger.now c.new-watching.result c.new-watching.ensures c.requires.clock c.requires.ledger)
-    c.run_policy-ran.ensures.run c.run_policy-ran.ensures.ends (c.timed.ensures none)
-    (c.clock_behind.ensures ∙ ap (λ (p : Pending). clock_behind p c.run_policy-ran.result) c.timing.ensures) c.ledger_behind.ensures
+    ran.right ran.ends (c.timed.ensures ran.reports)
+    (c.clock_behind.ensures ∙ ap (λ (p : Pending). clock_behind p c.run_unreported-ran.result) c.timing.ensures) c.ledger_behind.ensures)
