@@ -56,4 +56,4 @@ docs/ASSEMBLY.md the assembler's language.
 ";
 
 /// What `--version` writes: the version, and the logic that the proofs were made with.
-pub const VERSION: &[u8] = b"cfpp 0.9.0 (rattle-kit-13b logic dac8208d650f15bf)\n";
+pub const VERSION: &[u8] = b"cfpp 0.9.0 (rattle-kit-13f logic dac8208d650f15bf)\n";
