@@ -7,7 +7,7 @@ ghost use Rattle.cf_index.specs.Allowed.{launch_on, send_on, execute_on, meet_on
 ghost use Rattle.cf_index.specs.Ranks.{is_past};
 
 use crate::bits::lowest;
-use crate::rank::Rank;
+use crate::rank::{CLIMB, EXECUTE, FALL, LAUNCH, MEET, Rank, SEND};
 use crate::stages::{climbs, executes, falls, launches, meets, sends, stages};
 use cf_bind::Move;
 use cf_core::{Core, Masks};
@@ -18,7 +18,7 @@ fn next_launch(core: &Core, masks: &Masks, last: Rank) -> Option<Move>
     requires { masks.now ≡ masks_of core.now.plan core.now.state }
     ensures { result ≡ find (is_past last) (launch_on core.now.plan core.now.state) }
 {
-    match lowest(last.behind(7, launches(core, masks))) {
+    match lowest(last.behind(LAUNCH, launches(core, masks))) {
         Some(k) => Some(Move::Launch(k + 1)),
         None => None,
     }
@@ -30,7 +30,7 @@ fn next_send(core: &Core, masks: &Masks, last: Rank) -> Option<Move>
     requires { masks.now ≡ masks_of core.now.plan core.now.state }
     ensures { result ≡ find (is_past last) (send_on core.now.plan core.now.state) }
 {
-    match lowest(last.behind(6, sends(core, masks))) {
+    match lowest(last.behind(SEND, sends(core, masks))) {
         Some(k) => Some(Move::Send(k + 1)),
         None => next_launch(core, masks, last),
     }
@@ -42,7 +42,7 @@ fn next_execute(core: &Core, masks: &Masks, last: Rank) -> Option<Move>
     requires { masks.now ≡ masks_of core.now.plan core.now.state }
     ensures { result ≡ find (is_past last) (execute_on core.now.plan core.now.state) }
 {
-    match lowest(last.behind(5, executes(core, masks))) {
+    match lowest(last.behind(EXECUTE, executes(core, masks))) {
         Some(k) => Some(Move::Execute(k + 1)),
         None => next_send(core, masks, last),
     }
@@ -54,7 +54,7 @@ fn next_meet(core: &Core, masks: &Masks, last: Rank) -> Option<Move>
     requires { masks.now ≡ masks_of core.now.plan core.now.state }
     ensures { result ≡ find (is_past last) (meet_on core.now.plan core.now.state) }
 {
-    match lowest(last.behind(4, meets(core, masks))) {
+    match lowest(last.behind(MEET, meets(core, masks))) {
         Some(k) => Some(Move::Meet(k + 1)),
         None => next_execute(core, masks, last),
     }
@@ -66,7 +66,7 @@ fn next_fall(core: &Core, masks: &Masks, last: Rank) -> Option<Move>
     requires { masks.now ≡ masks_of core.now.plan core.now.state }
     ensures { result ≡ find (is_past last) (fall_on core.now.plan core.now.state) }
 {
-    match lowest(last.behind(3, falls(core, masks))) {
+    match lowest(last.behind(FALL, falls(core, masks))) {
         Some(k) => Some(Move::Fall(k + 1)),
         None => next_meet(core, masks, last),
     }
@@ -78,7 +78,7 @@ fn next_climb(core: &Core, masks: &Masks, last: Rank) -> Option<Move>
     requires { masks.now ≡ masks_of core.now.plan core.now.state }
     ensures { result ≡ find (is_past last) (climb_on core.now.plan core.now.state) }
 {
-    match lowest(last.behind(2, climbs(core, masks))) {
+    match lowest(last.behind(CLIMB, climbs(core, masks))) {
         Some(k) => Some(Move::Climb(k + 1)),
         None => next_fall(core, masks, last),
     }

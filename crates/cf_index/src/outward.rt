@@ -10,7 +10,7 @@ ghost use Rattle.cf_index.specs.Ranks.{is_past};
 
 use crate::bits::lowest;
 use crate::fill::slides;
-use crate::rank::Rank;
+use crate::rank::{ACCESS, EXIT, LEAVE, RECOVER, Rank, SERVE, SLIDE};
 use crate::stages::stages;
 use cf_bind::Move;
 use cf_core::{Core, Masks};
@@ -20,7 +20,7 @@ use cf_core::{Core, Masks};
 fn next_serve(core: &Core, last: Rank) -> Option<Move>
     ensures { result ≡ find (is_past last) (filter (is_allowed core.now.plan core.now.state) (mv.Serve ∷ [])) }
 {
-    if last.kind < 13 && core.may_serve() {
+    if last.kind < SERVE && core.may_serve() {
         Some(Move::Serve)
     } else {
         None
@@ -32,7 +32,7 @@ fn next_serve(core: &Core, last: Rank) -> Option<Move>
 fn next_exit(core: &Core, last: Rank) -> Option<Move>
     ensures { result ≡ find (is_past last) (filter (is_allowed core.now.plan core.now.state) (mv.Exit ∷ mv.Serve ∷ [])) }
 {
-    if last.kind < 12 && core.may_exit() {
+    if last.kind < EXIT && core.may_exit() {
         Some(Move::Exit)
     } else {
         next_serve(core, last)
@@ -44,7 +44,7 @@ fn next_exit(core: &Core, last: Rank) -> Option<Move>
 fn next_leave(core: &Core, last: Rank) -> Option<Move>
     ensures { result ≡ find (is_past last) (filter (is_allowed core.now.plan core.now.state) (mv.Leave ∷ mv.Exit ∷ mv.Serve ∷ [])) }
 {
-    if last.kind < 11 && core.may_leave() {
+    if last.kind < LEAVE && core.may_leave() {
         Some(Move::Leave)
     } else {
         next_exit(core, last)
@@ -58,7 +58,7 @@ fn next_recover(core: &Core, masks: &Masks, last: Rank) -> Option<Move>
     ensures { result ≡ find (is_past last) (filter (is_allowed core.now.plan core.now.state) (at_stages core.now.plan mv.Recover ++ mv.Leave ∷ mv.Exit ∷ mv.Serve ∷ [])) }
 {
     let _stages = stages(core);
-    match lowest(last.behind(10, masks.recover)) {
+    match lowest(last.behind(RECOVER, masks.recover)) {
         Some(k) => Some(Move::Recover(k + 1)),
         None => next_leave(core, last),
     }
@@ -70,7 +70,7 @@ fn next_leaving(core: &Core, masks: &Masks, last: Rank) -> Option<Move>
     requires { masks.now ≡ masks_of core.now.plan core.now.state }
     ensures { result ≡ find (is_past last) (filter (is_allowed core.now.plan core.now.state) (all_leaving core.now.plan)) }
 {
-    if last.kind < 9 && core.may_access() {
+    if last.kind < ACCESS && core.may_access() {
         Some(Move::Access)
     } else {
         next_recover(core, masks, last)
@@ -96,7 +96,7 @@ fn first_slide(slides: u64) -> Option<Move>
 fn next_slide(core: &Core, last: Rank) -> Option<Move>
     ensures { last.kind ≢ 8 → result ≡ find (is_past last) (filter (is_allowed core.now.plan core.now.state) (slides_from 0 core.now.plan.sidings)) }
 {
-    if last.kind < 8 {
+    if last.kind < SLIDE {
         first_slide(slides(core))
     } else {
         None

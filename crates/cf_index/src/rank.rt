@@ -8,6 +8,35 @@ ghost use Rattle.cf_index.specs.Ranks.{rank_of};
 use crate::words::past;
 use cf_bind::Move;
 
+/// The places of the kinds in the order of all moves.
+pub(crate) const ISSUE: u32 = 0;
+
+pub(crate) const EMIT: u32 = 1;
+
+pub(crate) const CLIMB: u32 = 2;
+
+pub(crate) const FALL: u32 = 3;
+
+pub(crate) const MEET: u32 = 4;
+
+pub(crate) const EXECUTE: u32 = 5;
+
+pub(crate) const SEND: u32 = 6;
+
+pub(crate) const LAUNCH: u32 = 7;
+
+pub(crate) const SLIDE: u32 = 8;
+
+pub(crate) const ACCESS: u32 = 9;
+
+pub(crate) const RECOVER: u32 = 10;
+
+pub(crate) const LEAVE: u32 = 11;
+
+pub(crate) const EXIT: u32 = 12;
+
+pub(crate) const SERVE: u32 = 13;
+
 /// Where a move stands in the order of all moves: the place of its kind among the kinds, and its stage, or its siding.
 #[derive(Clone, Copy)]
 pub(crate) struct Rank {
@@ -23,24 +52,66 @@ impl Rank {
         ensures { result ≡ rank_of mv }
     {
         match mv {
-            Move::Issue(_) => Rank { kind: 0, place: 0 },
-            Move::Emit => Rank { kind: 1, place: 0 },
-            Move::Climb(i) => Rank { kind: 2, place: i },
-            Move::Fall(i) => Rank { kind: 3, place: i },
-            Move::Meet(i) => Rank { kind: 4, place: i },
-            Move::Execute(i) => Rank { kind: 5, place: i },
-            Move::Send(i) => Rank { kind: 6, place: i },
-            Move::Launch(i) => Rank { kind: 7, place: i },
-            Move::Slide(k, _) => Rank { kind: 8, place: k },
-            Move::Access => Rank { kind: 9, place: 0 },
-            Move::Recover(i) => Rank { kind: 10, place: i },
-            Move::Leave => Rank { kind: 11, place: 0 },
-            Move::Exit => Rank { kind: 12, place: 0 },
-            Move::Serve => Rank { kind: 13, place: 0 },
+            Move::Issue(_) => Rank {
+                kind: ISSUE,
+                place: 0,
+            },
+            Move::Emit => Rank {
+                kind: EMIT,
+                place: 0,
+            },
+            Move::Climb(i) => Rank {
+                kind: CLIMB,
+                place: i,
+            },
+            Move::Fall(i) => Rank {
+                kind: FALL,
+                place: i,
+            },
+            Move::Meet(i) => Rank {
+                kind: MEET,
+                place: i,
+            },
+            Move::Execute(i) => Rank {
+                kind: EXECUTE,
+                place: i,
+            },
+            Move::Send(i) => Rank {
+                kind: SEND,
+                place: i,
+            },
+            Move::Launch(i) => Rank {
+                kind: LAUNCH,
+                place: i,
+            },
+            Move::Slide(k, _) => Rank {
+                kind: SLIDE,
+                place: k,
+            },
+            Move::Access => Rank {
+                kind: ACCESS,
+                place: 0,
+            },
+            Move::Recover(i) => Rank {
+                kind: RECOVER,
+                place: i,
+            },
+            Move::Leave => Rank {
+                kind: LEAVE,
+                place: 0,
+            },
+            Move::Exit => Rank {
+                kind: EXIT,
+                place: 0,
+            },
+            Move::Serve => Rank {
+                kind: SERVE,
+                place: 0,
+            },
         }
     }
 
-    /// The stages of the word at which the move of the kind of this place stands behind.
+    /// The stages of the word at which the move of this kind stands behind.
     #[inline(always)]
     #[tactic(auto, using(crate::proofs::Ranks::above))]
     pub(crate) fn behind(self, kind: u32, word: u32) -> u32

@@ -2,11 +2,11 @@ use Rattle.std.proofs.Common.{◌<◌, ◌∙◌, arith}
 use Rattle.cf_index.proofs.Ranks.{early_slides, late_slides}
 use Rattle.cf_index.proofs.outward.next_slide.Goals as goal
 
-pub returns-then-last-lt8 : goal.returns-then-last-lt8
-returns-then-last-lt8 c = λ other.
+pub returns-then-last-lt-SLIDE : goal.returns-then-last-lt-SLIDE
+returns-then-last-lt-SLIDE c = λ other.
     c.first_slide.ensures ∙ early_slides c.args.core.now.plan c.args.core.now.state c.args.last c.slides.result (omega arith) c.slides.ensures
 
-pub returns-else-last-lt8 : goal.returns-else-last-lt8
-returns-else-last-lt8 c = λ other.
+pub returns-else-last-lt-SLIDE : goal.returns-else-last-lt-SLIDE
+returns-else-last-lt-SLIDE c = λ other.
     let late : 8 < c.args.last.kind = grind (arith, other) in
     late_slides c.args.core.now.plan c.args.core.now.state c.args.last late
