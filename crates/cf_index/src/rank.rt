@@ -8,7 +8,7 @@ ghost use Rattle.cf_index.specs.Ranks.{rank_of};
 use crate::words::past;
 use cf_bind::Move;
 
-/// The places of the kinds in the order of all moves.
+// The places of the kinds in the order of all moves, by which a search compares them.
 pub(crate) const ISSUE: u32 = 0;
 
 pub(crate) const EMIT: u32 = 1;
