@@ -1,12 +1,12 @@
 use Rattle.std.proofs.Common.{refl, sym}
 use Rattle.cf_run.specs.Moving.{Does}
 use Rattle.cf_audit.proofs.Trying.{tried-shown, tried-unshown, tried-still}
-use Rattle.cf_audit.proofs.Turning.{tests-barred, tests-none, tests-tried}
+use Rattle.cf_audit.proofs.Turning.{tests-none, tests-tried}
 use Rattle.cf_audit.proofs.auditing.advance.Goals as goal
 
-pub returns-in-None-clause-tests : goal.returns-in-None-clause-tests
-returns-in-None-clause-tests g c =
-    tests-none _ _ _ _ _ _ c.wrong-in-None.ensures c.agreed-in-None.ensures.count c.rest-left.ensures (sym c.if-not-has_line.ensures) c.in-None.ensures refl
+pub returns-in_default-clause-tests : goal.returns-in_default-clause-tests
+returns-in_default-clause-tests g c =
+    tests-none _ _ _ _ _ _ c.wrong-in_default.ensures c.agreed-in_default.ensures.count c.rest-left.ensures (sym c.if-not-has_line.ensures) c.in_default.ensures refl
 
 pub unreachable-requires-in-Err-Exit : goal.unreachable-requires-in-Err-Exit
 unfolding Does
@@ -20,15 +20,16 @@ pub unreachable-requires-in-Err-Limit : goal.unreachable-requires-in-Err-Limit
 unfolding Does
 unreachable-requires-in-Err-Limit g c = rw c.in-Err-Limit.field-0-is at c.in-Err-Limit.ensures.does
 
-pub returns-in-Ok-clause-tries : goal.returns-in-Ok-clause-tries
-returns-in-Ok-clause-tries g c = tried-shown _ _ _ _ _ _ c.in-Ok.ensures.does c.compared.ensures
+pub returns-in-Ok-clause-tests : goal.returns-in-Ok-clause-tests
+returns-in-Ok-clause-tests g c = tests-tried _ _ _ _ _ _ c.rest-left.ensures c.in-Some.ensures (tried-shown _ _ _ _ _ _ c.in-Ok.ensures.does c.compared.ensures)
 
 pub returns-in-Ok-clause-input : goal.returns-in-Ok-clause-input
 returns-in-Ok-clause-input g c = tried-still _ _ _ _ _ c.compared.ensures c.in-Ok.ensures.input.still
 
-pub returns-in-Err-ReportFault-clause-tries : goal.returns-in-Err-ReportFault-clause-tries
-returns-in-Err-ReportFault-clause-tries g c =
-    tried-unshown _ _ _ _ _ _ (rw c.in-Err-ReportFault.field-0-is at c.in-Err-ReportFault.ensures.does) (rw c.in-Err-ReportFault.field-0-is at c.in-Err-ReportFault.ensures.report).rose c.compared-in-Err-ReportFault.ensures
+pub returns-in-Err-ReportFault-clause-tests : goal.returns-in-Err-ReportFault-clause-tests
+returns-in-Err-ReportFault-clause-tests g c =
+    tests-tried _ _ _ _ _ _ c.rest-left.ensures c.in-Some.ensures
+    (tried-unshown _ _ _ _ _ _ (rw c.in-Err-ReportFault.field-0-is at c.in-Err-ReportFault.ensures.does) (rw c.in-Err-ReportFault.field-0-is at c.in-Err-ReportFault.ensures.report).rose c.compared-in-Err-ReportFault.ensures)
 
 pub returns-in-Err-ReportFault-clause-input : goal.returns-in-Err-ReportFault-clause-input
 returns-in-Err-ReportFault-clause-input g c =
