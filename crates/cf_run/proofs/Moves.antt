@@ -3,6 +3,7 @@ use Rattle.std.proofs.Common.{◌≡◌, ℕ, List, [], Option, Some, None, Ok, 
 use Rattle.cf_asked.specs.declared.show.Show.{Show}
 use Rattle.cf_asked.specs.declared.show.Show.TheVariants as shows
 use Rattle.cf_io.specs.Puts.{Writes}
+use Rattle.cf_io.proofs.Owing.{writes-nothing}
 use Rattle.rv_machine.specs.Streams.{Streams}
 use Rattle.cf_bind.specs.declared.moves.Move.{Move}
 use Rattle.cf_layout.specs.Layout.{Plan}
@@ -13,7 +14,6 @@ use Rattle.cf_core.specs.Stepping.{MakesOrFails}
 use Rattle.cf_core.specs.declared.fault.Fault.TheVariants as fault
 use Rattle.cf_report.specs.declared.tally.Tally.{Tally}
 use Rattle.cf_report.specs.Putting.{PutsText}
-use Rattle.cf_report.proofs.Puttings.{writes-nothing}
 use Rattle.cf_run.specs.declared.answer.Ran.TheVariants as ran
 use Rattle.cf_run.specs.declared.answer.Scripted.{Scripted}
 use Rattle.cf_run.specs.declared.answer.Scripted.TheVariants.{Ran, ScriptEnd, BadScript, BarredAt}
