@@ -4,6 +4,3 @@
 mod refusals;
 
 pub use refusals::bad_source;
-
-#[cfg(test)]
-mod tests;

@@ -18,6 +18,3 @@ pub use move_texts::move_text;
 pub use moves::{Bar, Move};
 pub use packet::{Fetch, Packet};
 pub use passenger::{End, Guess, Passenger};
-
-#[cfg(test)]
-mod tests;

@@ -37,6 +37,3 @@ pub use issuing::Issuable;
 pub use masks::Masks;
 pub use step::Step;
 pub use undo::Undo;
-
-#[cfg(test)]
-mod tests;

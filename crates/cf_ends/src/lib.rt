@@ -4,7 +4,5 @@
 mod cache;
 mod ends;
 mod lane;
-#[cfg(test)]
-mod tests;
 
 pub use ends::Ends;

@@ -7,6 +7,3 @@ mod program;
 mod statement;
 
 pub use program::generate;
-
-#[cfg(test)]
-mod tests;

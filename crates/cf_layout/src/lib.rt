@@ -24,6 +24,3 @@ pub use layout::Layout;
 pub use listed::Listed;
 pub use parts::{Parts, Siding};
 pub use refusal::LayoutErr;
-
-#[cfg(test)]
-mod tests;

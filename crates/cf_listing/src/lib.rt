@@ -8,6 +8,3 @@ mod texts;
 mod words;
 
 pub use listing::{ListingErr, put_elf_listing, put_flat_listing};
-
-#[cfg(test)]
-mod tests;

@@ -18,6 +18,3 @@ pub use launching::{launch_trap, operation};
 pub use reading::{first_missing, instruction, kind, missing, value_in};
 pub use retiring::{leaving, retirement};
 pub use stopping::{ends_units, launches, recovers, stops_at};
-
-#[cfg(test)]
-mod tests;

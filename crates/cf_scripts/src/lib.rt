@@ -15,6 +15,3 @@ pub use refusal::{ScriptErr, ScriptKind};
 pub use script::{MOST_SCRIPT, Script, is_skipped};
 pub use words::Words;
 pub use writing::write_move;
-
-#[cfg(test)]
-mod tests;

@@ -4,8 +4,6 @@
 mod access;
 mod siding;
 mod sidings;
-#[cfg(test)]
-mod tests;
 
 pub use cf_bind::Op;
 pub use sidings::Sidings;

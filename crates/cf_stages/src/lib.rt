@@ -6,8 +6,6 @@ mod comparing;
 mod moving;
 mod places;
 mod stages;
-#[cfg(test)]
-mod tests;
 mod words;
 
 pub use cf_bind::Cell;

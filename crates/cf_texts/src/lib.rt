@@ -6,6 +6,3 @@ mod retirement;
 
 pub use page::Page;
 pub use retirement::retirement_line;
-
-#[cfg(test)]
-mod tests;

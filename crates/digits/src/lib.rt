@@ -4,6 +4,3 @@
 mod hexadecimal;
 
 pub use hexadecimal::{hex_digit, hex8};
-
-#[cfg(test)]
-mod tests;

@@ -8,6 +8,3 @@ mod symbols;
 mod writing;
 
 pub use writing::write_elf;
-
-#[cfg(test)]
-mod tests;

@@ -16,6 +16,3 @@ pub use refusal::ElfErr;
 pub use segment::Segment;
 pub use segments::Segments;
 pub use symbols::{LazySymbol, LazySymbols, Symbol, Symbols};
-
-#[cfg(test)]
-mod tests;

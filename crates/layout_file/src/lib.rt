@@ -15,6 +15,3 @@ pub use fault::FileErr;
 pub use name::Name;
 pub use reading::{MOST_LAYOUT, read_layout};
 pub use writing::write_layout;
-
-#[cfg(test)]
-mod tests;

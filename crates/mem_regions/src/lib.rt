@@ -18,6 +18,3 @@ pub use access::MemErr;
 pub use part::Part;
 pub use refusal::LoadErr;
 pub use regions::Regions;
-
-#[cfg(test)]
-mod tests;

@@ -23,6 +23,3 @@ pub use assembling::assemble;
 pub use label::{Label, Labels, Name};
 pub use object::{Bytes, Object};
 pub use refusal::{AsmErr, AsmKind};
-
-#[cfg(test)]
-mod tests;

@@ -24,6 +24,3 @@ pub use instruction::{Cond, ImmOp, Instr, LoadKind, MulOp, RegOp, StoreKind};
 pub use isa::{Isa, decode_as};
 pub use operands::{dest, sources};
 pub use ranges::fits;
-
-#[cfg(test)]
-mod tests;

@@ -13,6 +13,3 @@ mod stepping;
 pub use machine::{Machine, MachineParts};
 pub use outcome::{Retired, Served, Stepped};
 pub use serving::serve;
-
-#[cfg(test)]
-mod tests;

@@ -7,6 +7,3 @@ mod values;
 
 pub use products::product;
 pub use values::value;
-
-#[cfg(test)]
-mod tests;

@@ -26,6 +26,3 @@ pub use statement::{Jump, Statement, distance};
 pub use text_err::TextErr;
 pub use text_line::TextLine;
 pub use writing::write_instr;
-
-#[cfg(test)]
-mod tests;

@@ -1,6 +1,6 @@
 //! Scripts, and what the grammar says of them.
-use super::*;
 use cf_bind::{Guess, Move};
+use cf_scripts::{Script, ScriptErr, ScriptKind, kind_name, place_named, read_move, write_move};
 use rv_text::TextLine;
 use std::process::Abort;
 

@@ -1,7 +1,10 @@
 //! Words and values from outside: the manual's encodings and pseudoinstructions.
 ghost use Rattle.std.specs.Prelude.{◌≡◌};
 
-use super::*;
+use rv_inst::{
+    Class, Cond, ImmOp, Instr, LoadKind, MulOp, RegOp, StoreKind, alu, class_of, decode, decode_m,
+    encode, fits,
+};
 
 fn imm_op(op: ImmOp, rd: u8, rs1: u8, imm: i32) -> Instr
     ensures { result ≡ Instr.OpImm op rd rs1 imm }

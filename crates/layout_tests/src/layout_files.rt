@@ -1,7 +1,7 @@
 //! What no clause says: that files are read, and that the definitions mean what is wanted.
-use crate::laws::read_back;
-use crate::{FileErr, read_layout, write_layout};
 use cf_layout::{LayoutErr, plain};
+use layout_file::laws::read_back;
+use layout_file::{FileErr, read_layout, write_layout};
 use rv_inst::Class;
 
 const PLAIN: &str =

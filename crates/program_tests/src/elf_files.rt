@@ -4,8 +4,8 @@
 
 ghost use Rattle.std.specs.Prelude.{◌+◌, ◌≤◌};
 
-use super::*;
 use byteorder::{ByteOrder, LittleEndian};
+use elf_view::{Elf, ElfErr};
 use std::process::Abort;
 
 fn put(file: &mut [u8; 248], at: usize, number: u32)

@@ -1,7 +1,7 @@
 //! Programs and environment calls that were worked by hand from the manual and the tables of Linux.
-use super::*;
 use cf_io::{Empty, MemSink, MemSource, Nowhere};
 use mem_regions::{Part, Regions};
+use rv_machine::{Machine, Served, Stepped, serve};
 use std::process::Abort;
 use std::test::Fail;
 

@@ -1,5 +1,5 @@
 //! Lines that were worked by hand.
-use super::*;
+use cf_texts::retirement_line;
 
 #[test]
 fn lines(rt: HostRuntime) {

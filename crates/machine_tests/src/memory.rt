@@ -5,7 +5,7 @@
 ghost use Rattle.std.specs.Prelude.{◌≡◌, All, [], false};
 ghost use Rattle.mem_regions.specs.Loading.{LiesIn};
 
-use super::*;
+use mem_regions::{LoadErr, MemErr, Part, Regions};
 use std::process::Abort;
 
 const NOP: u32 = 0x0000_0013;

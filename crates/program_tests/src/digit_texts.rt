@@ -1,5 +1,5 @@
 //! Digits that were worked by hand.
-use super::*;
+use digits::hex8;
 
 #[test]
 fn eight_digits(rt: HostRuntime) {

@@ -1,8 +1,8 @@
 //! What no clause says: that there is memory for the lane, and that requests are answered in their order, also where the
 //! lane wraps around. The values are worked out by hand.
 
-use crate::Ends;
 use cf_bind::Packet;
+use cf_ends::Ends;
 use std::process::Abort;
 use std::test::Fail;
 

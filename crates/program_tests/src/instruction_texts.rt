@@ -1,6 +1,6 @@
 //! Texts and words from the GNU assembler, and what the grammar says of other spellings.
-use super::*;
 use rv_inst::{ImmOp, Instr, LoadKind, decode_m, encode, fits};
+use rv_text::{TextErr, TextLine, read_instr, read_register, write_instr};
 
 /// Each instruction once, from 0x00010000 on: the word that GNU as 2.40 makes of the text there.
 const LISTING: [(u32, &str); 49] = [

@@ -1,7 +1,7 @@
 //! What no clause says: that there is memory for the sidings of a layout, and that an operation passes through one.
 
-use crate::{Op, Sidings};
 use cf_layout::plain;
+use cf_sidings::{Op, Sidings};
 use rv_inst::{Instr, LoadKind};
 use std::process::Abort;
 use std::test::Fail;
@@ -24,7 +24,7 @@ fn load() -> Op {
 }
 
 #[test]
-#[tactic(auto, unfolding(crate::specs::Sidings::empty_sidings, crate::specs::Sidings::moved_on))]
+#[tactic(auto, unfolding(cf_sidings::specs::Sidings::empty_sidings, cf_sidings::specs::Sidings::moved_on))]
 fn an_operation_passes_through(rt: HostRuntime) -> Result<(), Fail> {
     let mut sidings = Sidings::new(rt.alloc(), &plain())?;
     sidings.launch(0, load());

@@ -1,7 +1,7 @@
 //! Runs that were worked by hand, under the built-in layout: what no clause says is that there is memory for a processor, and
 //! that these moves lead from its start to where a reader of the table of moves expects them to.
-use super::*;
 use cf_bind::{Bar, Guess, Move};
+use cf_core::{Core, Step};
 use cf_io::{Empty, Nowhere};
 use cf_layout::plain;
 use mem_regions::{Part, Regions};

@@ -1,6 +1,6 @@
 //! What no clause says: the texts of refusals, letter by letter.
 
-use super::*;
+use asm_texts::bad_source;
 use rv_asm::{AsmErr, AsmKind};
 use rv_text::TextErr;
 use std::process::Abort;

@@ -5,7 +5,7 @@
 
 ghost use Rattle.std.specs.Prelude.{◌≤◌};
 
-use super::*;
+use cf_gen::generate;
 use cf_io::{Failed, MemSink};
 use std::process::Abort;
 use std::test::Fail;

@@ -1,5 +1,5 @@
 //! The built-in layout, by its table.
-use crate::plain;
+use cf_layout::plain;
 use rv_inst::Class;
 
 #[test]

@@ -1,8 +1,8 @@
 //! What no clause says: that the definitions mean what is wanted. Three instructions, worked through by hand.
 
-use crate::{answered, finish, fresh, goto, kind, requests};
 use cf_bind::{Binding, End, Guess, Packet, Passenger};
 use cf_ends::Ends;
+use cf_passengers::{answered, finish, fresh, goto, kind, requests};
 use rv_inst::{Class, decode};
 use std::process::Abort;
 use std::test::Fail;

@@ -1,7 +1,7 @@
 //! What no clause says: the lines of a listing, letter by letter.
 
-use super::*;
 use cf_io::MemSink;
+use cf_listing::put_flat_listing;
 use std::process::Abort;
 
 /// Whether the listing of a flat image is this text.

@@ -1,5 +1,5 @@
 //! Sources and the words that GNU as and ld 2.40 make of them, and refusals in their order.
-use super::*;
+use rv_asm::{AsmKind, assemble};
 use rv_text::TextErr;
 use std::process::Abort;
 use std::test::Fail;

@@ -2,7 +2,7 @@
 //! those of the Tool Interface Standard, Executable and Linking Format Specification; `readelf -a` of GNU binutils reads the
 //! file as it is told here.
 
-use super::*;
+use elf_make::write_elf;
 use elf_view::Elf;
 use rv_asm::assemble;
 use std::process::Abort;

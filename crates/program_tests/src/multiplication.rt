@@ -1,6 +1,6 @@
 //! Values from outside: the manual's table of edge cases of division, and the greatest and least factors.
-use super::*;
 use rv_inst::MulOp;
+use rv_mul::product;
 
 /// The greatest word and the least signed one, worked by hand from the manual's definitions.
 #[test]

@@ -4,8 +4,8 @@
 ghost use Rattle.std.specs.Prelude.{◌≡◌, Some};
 ghost use Rattle.cf_semantics.specs.state.State.{cell_at};
 
-use crate::Stages;
 use cf_bind::{Binding, Cell, Guess, Packet, Passenger};
+use cf_stages::Stages;
 use rv_inst::{ImmOp, Instr};
 use std::process::Abort;
 use std::test::Fail;

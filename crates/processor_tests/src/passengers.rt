@@ -1,5 +1,5 @@
 //! The texts of moves, and the meetings of two instructions `addi x1, x1, 1` that were worked by hand.
-use super::*;
+use cf_bind::{Binding, Guess, Move, MoveLine, Packet, Passenger, meet, move_text};
 use rv_inst::decode;
 
 /// One row for each kind of move and each guess, by the grammar of scripts.

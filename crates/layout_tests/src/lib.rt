@@ -1,0 +1,8 @@
+//! Tests of public calls of layouts and their files, a file for each crate: a crate that has
+//! tests of its own is proved a second time with them.
+#![tactic(auto)]
+
+#[cfg(test)]
+mod layout_files;
+#[cfg(test)]
+mod layouts;

@@ -1,0 +1,24 @@
+//! Tests of public calls of instructions, their texts, programs and their files, a file for each crate: a crate that has
+//! tests of its own is proved a second time with them.
+#![tactic(auto)]
+
+#[cfg(test)]
+mod assembler;
+#[cfg(test)]
+mod digit_texts;
+#[cfg(test)]
+mod drawn_programs;
+#[cfg(test)]
+mod elf_files;
+#[cfg(test)]
+mod instruction_texts;
+#[cfg(test)]
+mod instructions;
+#[cfg(test)]
+mod listings;
+#[cfg(test)]
+mod multiplication;
+#[cfg(test)]
+mod source_refusals;
+#[cfg(test)]
+mod written_files;
