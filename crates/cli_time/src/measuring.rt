@@ -36,7 +36,7 @@ pub struct Measured {
 }
 
 /// What is measured of a run that ended so.
-fn measured(
+fn measurement(
     core: &Core,
     answer: Timed,
     clock: &Clock,
@@ -75,7 +75,7 @@ fn take_time(core: &mut Core, candidates: &mut Candidates, clock: Clock, limit: 
         &mut Nowhere,
         &mut moves,
     );
-    measured(core, answer, &clock, moves, None)
+    measurement(core, answer, &clock, moves, None)
 }
 
 /// The same with a ledger that was told no move either, by which it is told what the time is made of.
@@ -108,7 +108,7 @@ fn take_sites(
         &mut Nowhere,
         &mut moves,
     );
-    measured(core, answer, &clock, moves, Some(ledger.breakdown()))
+    measurement(core, answer, &clock, moves, Some(ledger.breakdown()))
 }
 
 /// Loads the program anew, and runs it on the processor of a layout by the moves that are done first, over an empty input and

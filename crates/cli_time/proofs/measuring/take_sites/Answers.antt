@@ -9,13 +9,13 @@ use Rattle.cli_time.proofs.measuring.take_sites.Goals as goal
 
 pub returns-clause-takes : goal.returns-clause-takes
 returns-clause-takes c =
-    subst (λ (m : Measured). Takes c.args.clock.delays (record { limit = c.args.limit; sites = true }) c.args.core.now.plan c.args.core.now m) (sym c.measured.ensures)
+    subst (λ (m : Measured). Takes c.args.clock.delays (record { limit = c.args.limit; sites = true }) c.args.core.now.plan c.args.core.now m) (sym c.measurement.ensures)
     (takes-sites c.args.clock.delays c.args.limit c.args.core.now _ _ _ _ c.breakdown.result c.run_noted-answer.ensures.run refl refl refl c.breakdown.ensures)
 
 pub returns-clause-input : goal.returns-clause-input
 returns-clause-input c =
-    subst (λ (m : Measured). HasCause 0 0 (input_stopped (Some (answer_of m.answer)))) (sym c.measured.ensures) c.run_noted-answer.ensures.input
+    subst (λ (m : Measured). HasCause 0 0 (input_stopped (Some (answer_of m.answer)))) (sym c.measurement.ensures) c.run_noted-answer.ensures.input
 
 pub returns-clause-output : goal.returns-clause-output
 returns-clause-output c =
-    subst (λ (m : Measured). HasCause 0 0 (output_stopped (Some (answer_of m.answer)))) (sym c.measured.ensures) c.run_noted-answer.ensures.output
+    subst (λ (m : Measured). HasCause 0 0 (output_stopped (Some (answer_of m.answer)))) (sym c.measurement.ensures) c.run_noted-answer.ensures.output
