@@ -5,20 +5,19 @@ ghost use Rattle.cf_semantics.specs.moves.Candidates.{candidates, slides_from};
 ghost use Rattle.cf_semantics.specs.claims.Weight.{is_issue};
 ghost use Rattle.cf_index.specs.Allowed.{all_leaving, all_passing, allowed_others, is_allowed, withheld};
 ghost use Rattle.cf_index.specs.Order.{first_behind, kind_place, stands_behind};
-ghost use Rattle.cf_index.specs.Ranks.{is_past};
+ghost use Rattle.cf_index.specs.Ranks.{is_past, rank_of};
 
 use crate::ahead::next_passing;
 use crate::candidates::Candidates;
 use crate::outward::next_outward;
-use crate::rank::Rank;
 use crate::stages::goes_on;
 use cf_bind::{Guess, Move};
 use cf_core::Core;
 
 /// The first move that does not enter, behind one that is not within the sidings.
 #[inline(always)]
-fn next(core: &Core, last: Rank) -> Option<Move>
-    ensures { last.kind ≢ 8 → result ≡ find (is_past last) (filter (is_allowed core.now.plan core.now.state) (all_passing core.now.plan) ++ (filter (is_allowed core.now.plan core.now.state) (slides_from 0 core.now.plan.sidings) ++ filter (is_allowed core.now.plan core.now.state) (all_leaving core.now.plan))) }
+fn next(core: &Core, last: Move) -> Option<Move>
+    ensures { kind_place last ≢ 8 → result ≡ find (is_past (rank_of last)) (filter (is_allowed core.now.plan core.now.state) (all_passing core.now.plan) ++ (filter (is_allowed core.now.plan core.now.state) (slides_from 0 core.now.plan.sidings) ++ filter (is_allowed core.now.plan core.now.state) (all_leaving core.now.plan))) }
 {
     let masks = core.masks();
     match next_passing(core, &masks, last) {
@@ -33,7 +32,7 @@ fn onward(core: &Core, last: Move) -> Option<Move>
     requires { 0 < kind_place last }
     ensures { kind_place last ≢ 8 → result ≡ find (stands_behind last) (filter (is_allowed core.now.plan core.now.state) (all_passing core.now.plan) ++ (filter (is_allowed core.now.plan core.now.state) (slides_from 0 core.now.plan.sidings) ++ filter (is_allowed core.now.plan core.now.state) (all_leaving core.now.plan))) }
 {
-    next(core, Rank::of(last))
+    next(core, last)
 }
 
 /// The first move that is no Issue.
@@ -44,7 +43,7 @@ fn first_other(core: &Core) -> Option<Move>
     if core.may_emit() {
         Some(Move::Emit)
     } else {
-        next(core, Rank::of(Move::Emit))
+        next(core, Move::Emit)
     }
 }
 
