@@ -1,6 +1,6 @@
 -- The move that is done first is one that issues, or the first of the others.
-use Rattle.std.proofs.Common.{◌≡◌, ◌∙◌, sym, refl, ap, ℕ, zero, suc, ◌+◌, ◌-◌, ◌^◌, ◌<◌, ◌≤◌, List, [], ◌∷◌, ◌++◌, All, fold, length, get_or, Bool, true, false, nat_lt, Option, Some, None, arith}
-use Rattle.std.specs.Prelude.{◌||◌, IfSome, slice_get}
+use Rattle.std.proofs.Common.{◌≡◌, ◌∙◌, sym, refl, ap, ℕ, zero, suc, ◌+◌, ◌-◌, ◌^◌, ◌<◌, ◌≤◌, List, [], ◌∷◌, ◌++◌, All, fold, length, get_or, Bool, true, false, nat_lt, Some, None, arith}
+use Rattle.std.specs.Prelude.{IfSome, slice_get}
 use Rattle.std.proofs.lemmas.Bool.Decides.{nat_tests}
 use Rattle.std.proofs.lemmas.List.Elements.{All-filter}
 use Rattle.std.proofs.lemmas.Option.{get_or_from_slice_get, slice_get_within}
@@ -21,8 +21,8 @@ use Rattle.cf_timed.specs.Earliest.{first_least}
 use Rattle.cf_timed.specs.Seeking.{Seeking, nothing, shown}
 use Rattle.cf_timed.specs.Soonest.{AreLater, IsIssueBy, IsSoonest, due_of}
 use Rattle.cf_timed.specs.declared.soonest.Due.{Due}
-use Rattle.cf_timed.proofs.Leasts.{IsLeast, least-behind, least-front, least-of_all}
-use Rattle.cf_timed.proofs.Sought.{Reached, found-bound, found-least}
+use Rattle.cf_timed.proofs.Leasts.{least-behind, least-front, least-of_all}
+use Rattle.cf_timed.proofs.Sought.{found-bound, found-least}
 
 -- all that issue use the same places, and are of one kind
 issue_time : (c : SiteTimes) (g : Guess) → capped c (Issue g) ≡ capped c (Issue Next)

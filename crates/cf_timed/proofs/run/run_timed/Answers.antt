@@ -1,4 +1,4 @@
-use Rattle.std.proofs.Common.{◌≡◌, ◌∙◌, ap, subst, ℕ, None}
+use Rattle.std.proofs.Common.{◌∙◌, ap, None}
 use Rattle.cf_timed.specs.Clocks.{SiteTimes}
 use Rattle.cf_timed.specs.Timings.{Pending}
 use Rattle.cf_timed.proofs.Rightly.{runs-timed}
