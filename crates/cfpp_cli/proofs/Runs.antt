@@ -232,10 +232,9 @@ breaks-off c start now new before between after blank half full n count line bel
       is = a.is;
       hart = a.hart;
       streams = a.streams;
-      put = part.0;
-      short = part.1;
-      report = writes-again blank half full _ _ (all-shown c.shows blank half a.lines shows a.report)
-          part.2;
+      half = half;
+      put = all-shown c.shows blank half a.lines shows a.report;
+      breaks = part;
     }
 
 -- a run that has ended, and its lines were written

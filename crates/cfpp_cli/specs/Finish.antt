@@ -1,5 +1,5 @@
 -- How a run of the sequential machine finishes, what it leaves of the outside, and the lines that it shows.
-use Rattle.std.specs.Prelude.{◌≡◌, ◌<◌, ◌≤◌, ◌+◌, ℕ, List, [], ◌++◌, length, take, true, Option, unwrap_or}
+use Rattle.std.specs.Prelude.{◌≡◌, ◌<◌, ◌+◌, ℕ, List, [], true, Option, unwrap_or}
 use Rattle.rv_inst.specs.declared.isa.Isa.{Isa}
 use Rattle.rv_machine.specs.Hart.{Hart}
 use Rattle.rv_machine.specs.Machine.{Machine}
@@ -9,7 +9,7 @@ use Rattle.rv_machine.specs.Step.{step}
 use Rattle.rv_machine.specs.Streams.{Streams, Leaves}
 use Rattle.rv_machine.specs.Faults.{FailsReading, FailsWriting}
 use Rattle.rv_machine.specs.Acts.{CallsHere}
-use Rattle.cf_io.specs.Puts.{Writes}
+use Rattle.cf_io.specs.Puts.{Writes, WritesFront}
 use Rattle.cf_report.specs.Lines.{retired_line}
 use Rattle.cf_run.specs.declared.answer.Ran.{Ran}
 use Rattle.cf_run.specs.declared.answer.Ran.TheVariants as ran
@@ -75,9 +75,9 @@ pub record BreaksOff (chosen : Chosen) (start new : Hart) (before after : Stream
   pub is : step chosen.isa last ≡ Next next line
   pub hart : new ≡ next.hart
   pub streams : Leaves before after next.rest next.output
-  pub put : ℕ
-  pub short : put ≤ length (retired_line next.hart.retired line)
-  pub report : Writes blank full (lines ++ take put (retired_line next.hart.retired line))
+  pub half : Option (List ℕ)
+  pub put : Writes blank half lines
+  pub breaks : WritesFront half full (retired_line next.hart.retired line)
 
 -- the run finished so, and its lines were written; or the report failed
 abbrev pub RunsTo : Chosen → Hart → Hart → Streams → Streams → Option (List ℕ) → Option (List ℕ) → Ran → Type 0
