@@ -4,21 +4,21 @@ ghost use Rattle.std.specs.Prelude.{◌≡◌, filter, find};
 ghost use Rattle.cf_core.specs.Masks.{masks_of};
 ghost use Rattle.cf_index.specs.Allowed.{all_passing, is_allowed};
 ghost use Rattle.cf_index.specs.Allowed.{launch_on, send_on, execute_on, meet_on, fall_on, climb_on};
-ghost use Rattle.cf_index.specs.Ranks.{is_past, rank_of};
+ghost use Rattle.cf_index.specs.Ranks.{is_past};
 
 use crate::bits::lowest;
-use crate::rank::{CLIMB, EXECUTE, FALL, LAUNCH, MEET, SEND, behind};
+use crate::rank::{CLIMB, EXECUTE, FALL, LAUNCH, MEET, Rank, SEND};
 use crate::stages::{climbs, executes, falls, launches, meets, sends, stages};
 use cf_bind::Move;
 use cf_core::{Core, Masks};
 
 /// The first Launch behind.
 #[inline(always)]
-fn next_launch(core: &Core, masks: &Masks, last: Move) -> Option<Move>
+fn next_launch(core: &Core, masks: &Masks, last: Rank) -> Option<Move>
     requires { masks.now ≡ masks_of core.now.plan core.now.state }
-    ensures { result ≡ find (is_past (rank_of last)) (launch_on core.now.plan core.now.state) }
+    ensures { result ≡ find (is_past last) (launch_on core.now.plan core.now.state) }
 {
-    match lowest(behind(last, LAUNCH, launches(core, masks))) {
+    match lowest(last.behind(LAUNCH, launches(core, masks))) {
         Some(k) => Some(Move::Launch(k + 1)),
         None => None,
     }
@@ -26,11 +26,11 @@ fn next_launch(core: &Core, masks: &Masks, last: Move) -> Option<Move>
 
 /// The first Send behind, or else the first of the kinds behind it.
 #[inline(always)]
-fn next_send(core: &Core, masks: &Masks, last: Move) -> Option<Move>
+fn next_send(core: &Core, masks: &Masks, last: Rank) -> Option<Move>
     requires { masks.now ≡ masks_of core.now.plan core.now.state }
-    ensures { result ≡ find (is_past (rank_of last)) (send_on core.now.plan core.now.state) }
+    ensures { result ≡ find (is_past last) (send_on core.now.plan core.now.state) }
 {
-    match lowest(behind(last, SEND, sends(core, masks))) {
+    match lowest(last.behind(SEND, sends(core, masks))) {
         Some(k) => Some(Move::Send(k + 1)),
         None => next_launch(core, masks, last),
     }
@@ -38,11 +38,11 @@ fn next_send(core: &Core, masks: &Masks, last: Move) -> Option<Move>
 
 /// The first Execute behind, or else the first of the kinds behind it.
 #[inline(always)]
-fn next_execute(core: &Core, masks: &Masks, last: Move) -> Option<Move>
+fn next_execute(core: &Core, masks: &Masks, last: Rank) -> Option<Move>
     requires { masks.now ≡ masks_of core.now.plan core.now.state }
-    ensures { result ≡ find (is_past (rank_of last)) (execute_on core.now.plan core.now.state) }
+    ensures { result ≡ find (is_past last) (execute_on core.now.plan core.now.state) }
 {
-    match lowest(behind(last, EXECUTE, executes(core, masks))) {
+    match lowest(last.behind(EXECUTE, executes(core, masks))) {
         Some(k) => Some(Move::Execute(k + 1)),
         None => next_send(core, masks, last),
     }
@@ -50,11 +50,11 @@ fn next_execute(core: &Core, masks: &Masks, last: Move) -> Option<Move>
 
 /// The first Meet behind, or else the first of the kinds behind it.
 #[inline(always)]
-fn next_meet(core: &Core, masks: &Masks, last: Move) -> Option<Move>
+fn next_meet(core: &Core, masks: &Masks, last: Rank) -> Option<Move>
     requires { masks.now ≡ masks_of core.now.plan core.now.state }
-    ensures { result ≡ find (is_past (rank_of last)) (meet_on core.now.plan core.now.state) }
+    ensures { result ≡ find (is_past last) (meet_on core.now.plan core.now.state) }
 {
-    match lowest(behind(last, MEET, meets(core, masks))) {
+    match lowest(last.behind(MEET, meets(core, masks))) {
         Some(k) => Some(Move::Meet(k + 1)),
         None => next_execute(core, masks, last),
     }
@@ -62,11 +62,11 @@ fn next_meet(core: &Core, masks: &Masks, last: Move) -> Option<Move>
 
 /// The first Fall behind, or else the first of the kinds behind it.
 #[inline(always)]
-fn next_fall(core: &Core, masks: &Masks, last: Move) -> Option<Move>
+fn next_fall(core: &Core, masks: &Masks, last: Rank) -> Option<Move>
     requires { masks.now ≡ masks_of core.now.plan core.now.state }
-    ensures { result ≡ find (is_past (rank_of last)) (fall_on core.now.plan core.now.state) }
+    ensures { result ≡ find (is_past last) (fall_on core.now.plan core.now.state) }
 {
-    match lowest(behind(last, FALL, falls(core, masks))) {
+    match lowest(last.behind(FALL, falls(core, masks))) {
         Some(k) => Some(Move::Fall(k + 1)),
         None => next_meet(core, masks, last),
     }
@@ -74,11 +74,11 @@ fn next_fall(core: &Core, masks: &Masks, last: Move) -> Option<Move>
 
 /// The first Climb behind, or else the first of the kinds behind it.
 #[inline(always)]
-fn next_climb(core: &Core, masks: &Masks, last: Move) -> Option<Move>
+fn next_climb(core: &Core, masks: &Masks, last: Rank) -> Option<Move>
     requires { masks.now ≡ masks_of core.now.plan core.now.state }
-    ensures { result ≡ find (is_past (rank_of last)) (climb_on core.now.plan core.now.state) }
+    ensures { result ≡ find (is_past last) (climb_on core.now.plan core.now.state) }
 {
-    match lowest(behind(last, CLIMB, climbs(core, masks))) {
+    match lowest(last.behind(CLIMB, climbs(core, masks))) {
         Some(k) => Some(Move::Climb(k + 1)),
         None => next_fall(core, masks, last),
     }
@@ -86,9 +86,9 @@ fn next_climb(core: &Core, masks: &Masks, last: Move) -> Option<Move>
 
 /// The first move over the stages behind.
 #[inline(always)]
-pub(crate) fn next_passing(core: &Core, masks: &Masks, last: Move) -> Option<Move>
+pub(crate) fn next_passing(core: &Core, masks: &Masks, last: Rank) -> Option<Move>
     requires { masks.now ≡ masks_of core.now.plan core.now.state }
-    ensures { result ≡ find (is_past (rank_of last)) (filter (is_allowed core.now.plan core.now.state) (all_passing core.now.plan)) }
+    ensures { result ≡ find (is_past last) (filter (is_allowed core.now.plan core.now.state) (all_passing core.now.plan)) }
 {
     let _stages = stages(core);
     next_climb(core, masks, last)

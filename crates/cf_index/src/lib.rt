@@ -18,6 +18,7 @@ mod visiting;
 mod words;
 
 pub use candidates::Candidates;
+pub use rank::Rank;
 pub use sharing::shares;
 pub use visiting::Visitor;
 

@@ -6,22 +6,21 @@ ghost use Rattle.cf_semantics.specs.moves.Candidates.{at_stages, slides_from};
 ghost use Rattle.cf_core.specs.Masks.{masks_of};
 ghost use Rattle.cf_index.specs.Allowed.{all_leaving, is_allowed};
 ghost use Rattle.cf_index.specs.Listed.{slides_of};
-ghost use Rattle.cf_index.specs.Order.{kind_place};
-ghost use Rattle.cf_index.specs.Ranks.{is_past, rank_of};
+ghost use Rattle.cf_index.specs.Ranks.{is_past};
 
 use crate::bits::lowest;
 use crate::fill::slides;
-use crate::rank::{ACCESS, EXIT, LEAVE, RECOVER, SERVE, SLIDE, behind, is_before};
+use crate::rank::{ACCESS, EXIT, LEAVE, RECOVER, Rank, SERVE, SLIDE};
 use crate::stages::stages;
 use cf_bind::Move;
 use cf_core::{Core, Masks};
 
 /// Serve, where it is allowed behind.
 #[inline(always)]
-fn next_serve(core: &Core, last: Move) -> Option<Move>
-    ensures { result ≡ find (is_past (rank_of last)) (filter (is_allowed core.now.plan core.now.state) (mv.Serve ∷ [])) }
+fn next_serve(core: &Core, last: Rank) -> Option<Move>
+    ensures { result ≡ find (is_past last) (filter (is_allowed core.now.plan core.now.state) (mv.Serve ∷ [])) }
 {
-    if is_before(last, SERVE) && core.may_serve() {
+    if last.kind < SERVE && core.may_serve() {
         Some(Move::Serve)
     } else {
         None
@@ -30,10 +29,10 @@ fn next_serve(core: &Core, last: Move) -> Option<Move>
 
 /// Exit, where it is allowed behind, or else the first of those behind it.
 #[inline(always)]
-fn next_exit(core: &Core, last: Move) -> Option<Move>
-    ensures { result ≡ find (is_past (rank_of last)) (filter (is_allowed core.now.plan core.now.state) (mv.Exit ∷ mv.Serve ∷ [])) }
+fn next_exit(core: &Core, last: Rank) -> Option<Move>
+    ensures { result ≡ find (is_past last) (filter (is_allowed core.now.plan core.now.state) (mv.Exit ∷ mv.Serve ∷ [])) }
 {
-    if is_before(last, EXIT) && core.may_exit() {
+    if last.kind < EXIT && core.may_exit() {
         Some(Move::Exit)
     } else {
         next_serve(core, last)
@@ -42,10 +41,10 @@ fn next_exit(core: &Core, last: Move) -> Option<Move>
 
 /// Leave, where it is allowed behind, or else the first of those behind it.
 #[inline(always)]
-fn next_leave(core: &Core, last: Move) -> Option<Move>
-    ensures { result ≡ find (is_past (rank_of last)) (filter (is_allowed core.now.plan core.now.state) (mv.Leave ∷ mv.Exit ∷ mv.Serve ∷ [])) }
+fn next_leave(core: &Core, last: Rank) -> Option<Move>
+    ensures { result ≡ find (is_past last) (filter (is_allowed core.now.plan core.now.state) (mv.Leave ∷ mv.Exit ∷ mv.Serve ∷ [])) }
 {
-    if is_before(last, LEAVE) && core.may_leave() {
+    if last.kind < LEAVE && core.may_leave() {
         Some(Move::Leave)
     } else {
         next_exit(core, last)
@@ -54,12 +53,12 @@ fn next_leave(core: &Core, last: Move) -> Option<Move>
 
 /// The first Recover behind, or else the first of the kinds behind it.
 #[inline(always)]
-fn next_recover(core: &Core, masks: &Masks, last: Move) -> Option<Move>
+fn next_recover(core: &Core, masks: &Masks, last: Rank) -> Option<Move>
     requires { masks.now ≡ masks_of core.now.plan core.now.state }
-    ensures { result ≡ find (is_past (rank_of last)) (filter (is_allowed core.now.plan core.now.state) (at_stages core.now.plan mv.Recover ++ mv.Leave ∷ mv.Exit ∷ mv.Serve ∷ [])) }
+    ensures { result ≡ find (is_past last) (filter (is_allowed core.now.plan core.now.state) (at_stages core.now.plan mv.Recover ++ mv.Leave ∷ mv.Exit ∷ mv.Serve ∷ [])) }
 {
     let _stages = stages(core);
-    match lowest(behind(last, RECOVER, masks.recover)) {
+    match lowest(last.behind(RECOVER, masks.recover)) {
         Some(k) => Some(Move::Recover(k + 1)),
         None => next_leave(core, last),
     }
@@ -67,11 +66,11 @@ fn next_recover(core: &Core, masks: &Masks, last: Move) -> Option<Move>
 
 /// The first behind of the moves that leave.
 #[inline(always)]
-fn next_leaving(core: &Core, masks: &Masks, last: Move) -> Option<Move>
+fn next_leaving(core: &Core, masks: &Masks, last: Rank) -> Option<Move>
     requires { masks.now ≡ masks_of core.now.plan core.now.state }
-    ensures { result ≡ find (is_past (rank_of last)) (filter (is_allowed core.now.plan core.now.state) (all_leaving core.now.plan)) }
+    ensures { result ≡ find (is_past last) (filter (is_allowed core.now.plan core.now.state) (all_leaving core.now.plan)) }
 {
-    if is_before(last, ACCESS) && core.may_access() {
+    if last.kind < ACCESS && core.may_access() {
         Some(Move::Access)
     } else {
         next_recover(core, masks, last)
@@ -94,10 +93,10 @@ fn first_slide(slides: u64) -> Option<Move>
 
 /// The first move within the sidings behind one that is none of them.
 #[inline(always)]
-fn next_slide(core: &Core, last: Move) -> Option<Move>
-    ensures { kind_place last ≢ 8 → result ≡ find (is_past (rank_of last)) (filter (is_allowed core.now.plan core.now.state) (slides_from 0 core.now.plan.sidings)) }
+fn next_slide(core: &Core, last: Rank) -> Option<Move>
+    ensures { last.kind ≢ 8 → result ≡ find (is_past last) (filter (is_allowed core.now.plan core.now.state) (slides_from 0 core.now.plan.sidings)) }
 {
-    if is_before(last, SLIDE) {
+    if last.kind < SLIDE {
         first_slide(slides(core))
     } else {
         None
@@ -106,9 +105,9 @@ fn next_slide(core: &Core, last: Move) -> Option<Move>
 
 /// The first move within the sidings, or of those that leave, behind one that is none within them.
 #[inline(always)]
-pub(crate) fn next_outward(core: &Core, masks: &Masks, last: Move) -> Option<Move>
+pub(crate) fn next_outward(core: &Core, masks: &Masks, last: Rank) -> Option<Move>
     requires { masks.now ≡ masks_of core.now.plan core.now.state }
-    ensures { kind_place last ≢ 8 → result ≡ find (is_past (rank_of last)) (filter (is_allowed core.now.plan core.now.state) (slides_from 0 core.now.plan.sidings) ++ filter (is_allowed core.now.plan core.now.state) (all_leaving core.now.plan)) }
+    ensures { last.kind ≢ 8 → result ≡ find (is_past last) (filter (is_allowed core.now.plan core.now.state) (slides_from 0 core.now.plan.sidings) ++ filter (is_allowed core.now.plan core.now.state) (all_leaving core.now.plan)) }
 {
     match next_slide(core, last) {
         Some(next) => Some(next),

@@ -2,7 +2,7 @@
 
 ghost use Rattle.std.specs.Prelude.{◌≡◌, ℕ, ◌+◌, ◌<◌, ◌&&◌, nat_lt};
 ghost use Rattle.cf_layout.specs.Words.{has_bit};
-ghost use Rattle.cf_index.specs.Order.{below_or, kind_place, place};
+ghost use Rattle.cf_index.specs.Order.{below_or};
 ghost use Rattle.cf_index.specs.Ranks.{rank_of};
 
 use crate::words::past;
@@ -39,15 +39,15 @@ pub(crate) const SERVE: u32 = 13;
 
 /// Where a move stands in the order of all moves: the place of its kind among the kinds, and its stage, or its siding.
 #[derive(Clone, Copy)]
-pub(crate) struct Rank {
-    kind: u32,
+pub struct Rank {
+    pub(crate) kind: u32,
     place: u32,
 }
 
 impl Rank {
     /// The rank of a move.
     #[inline(always)]
-    fn of(mv: Move) -> Rank
+    pub fn of(mv: Move) -> Rank
         ensures { result ≡ rank_of mv }
     {
         match mv {
@@ -125,7 +125,7 @@ impl Rank {
     /// The stages of the word at which the move of this kind stands behind.
     #[inline(always)]
     #[tactic(auto, using(crate::proofs::Ranks::above))]
-    fn behind(self, kind: u32, word: u32) -> u32
+    pub(crate) fn behind(self, kind: u32, word: u32) -> u32
         ensures { (k : ℕ) → has_bit result k ≡ (has_bit word k && below_or self.kind kind (nat_lt self.place (k + 1))) }
     {
         if self.kind < kind {
@@ -136,21 +136,4 @@ impl Rank {
             0
         }
     }
-}
-
-/// The stages of the word at which the move of this kind stands behind the last one.
-// The rank is made anew for each kind, so that the compiler compares the kind of the move, and keeps no comparison for later.
-#[inline(always)]
-pub(crate) fn behind(last: Move, kind: u32, word: u32) -> u32
-    ensures { (k : ℕ) → has_bit result k ≡ (has_bit word k && below_or (kind_place last) kind (nat_lt (place last) (k + 1))) }
-{
-    Rank::of(last).behind(kind, word)
-}
-
-/// Whether the move is of a kind before this one.
-#[inline(always)]
-pub(crate) fn is_before(last: Move, kind: u32) -> bool
-    ensures { result ≡ nat_lt (kind_place last) kind }
-{
-    Rank::of(last).kind < kind
 }

@@ -10,14 +10,15 @@ ghost use Rattle.cf_index.specs.Ranks.{is_past, rank_of};
 use crate::ahead::next_passing;
 use crate::candidates::Candidates;
 use crate::outward::next_outward;
+use crate::rank::Rank;
 use crate::stages::goes_on;
 use cf_bind::{Guess, Move};
 use cf_core::Core;
 
 /// The first move that does not enter, behind one that is not within the sidings.
 #[inline(always)]
-fn next(core: &Core, last: Move) -> Option<Move>
-    ensures { kind_place last ≢ 8 → result ≡ find (is_past (rank_of last)) (filter (is_allowed core.now.plan core.now.state) (all_passing core.now.plan) ++ (filter (is_allowed core.now.plan core.now.state) (slides_from 0 core.now.plan.sidings) ++ filter (is_allowed core.now.plan core.now.state) (all_leaving core.now.plan))) }
+fn next(core: &Core, last: Rank) -> Option<Move>
+    ensures { last.kind ≢ 8 → result ≡ find (is_past last) (filter (is_allowed core.now.plan core.now.state) (all_passing core.now.plan) ++ (filter (is_allowed core.now.plan core.now.state) (slides_from 0 core.now.plan.sidings) ++ filter (is_allowed core.now.plan core.now.state) (all_leaving core.now.plan))) }
 {
     let masks = core.masks();
     match next_passing(core, &masks, last) {
@@ -28,11 +29,12 @@ fn next(core: &Core, last: Move) -> Option<Move>
 
 /// The first move that does not enter, behind one that is neither Issue nor within the sidings.
 #[inline(always)]
-fn onward(core: &Core, last: Move) -> Option<Move>
-    requires { 0 < kind_place last }
+fn onward(core: &Core, last: Move, rank: Rank) -> Option<Move>
+    requires other { 0 < kind_place last }
+    requires stands { rank ≡ rank_of last }
     ensures { kind_place last ≢ 8 → result ≡ find (stands_behind last) (filter (is_allowed core.now.plan core.now.state) (all_passing core.now.plan) ++ (filter (is_allowed core.now.plan core.now.state) (slides_from 0 core.now.plan.sidings) ++ filter (is_allowed core.now.plan core.now.state) (all_leaving core.now.plan))) }
 {
-    next(core, last)
+    next(core, rank)
 }
 
 /// The first move that is no Issue.
@@ -43,7 +45,7 @@ fn first_other(core: &Core) -> Option<Move>
     if core.may_emit() {
         Some(Move::Emit)
     } else {
-        next(core, Move::Emit)
+        next(core, Rank::of(Move::Emit))
     }
 }
 
@@ -80,10 +82,11 @@ fn first_unissued(core: &Core, held: bool) -> Option<Move>
 }
 
 impl Candidates {
-    /// The first candidate of a processor behind the move, or the first of all where none stands there, with Issue held back or
-    /// not. It is not told behind Slide, nor where it takes a look at all candidates: where an Issue may stand behind another.
+    /// The first candidate of a processor behind the move of this rank, or the first of all where none stands there, with Issue held
+    /// back or not. It is not told behind Slide, nor where it takes a look at all candidates: where an Issue may stand behind another.
     #[inline(always)]
-    pub fn soon(core: &Core, last: Move, held: bool) -> Option<Move>
+    pub fn soon(core: &Core, last: Move, rank: Rank, held: bool) -> Option<Move>
+        requires { rank ≡ rank_of last }
         ensures { IfSome result (λ next. Some next ≡ slice_get (withheld held (candidates core.now.plan core.now.state))
             (first_behind (Some last) (withheld held (candidates core.now.plan core.now.state)))) }
     {
@@ -93,7 +96,7 @@ impl Candidates {
         match last {
             Move::Issue(_) => first_unissued(core, held),
             Move::Slide(_, _) => None,
-            _ => match onward(core, last) {
+            _ => match onward(core, last, rank) {
                 Some(next) => Some(next),
                 None => first(core, held),
             },

@@ -1,9 +1,6 @@
 -- What a move of the processor did, in the words of a move of a run.
-use Rattle.std.proofs.Common.{◌≡◌, ℕ, List, [], Option, Some, None, Ok, Err, refl, sym, subst}
+use Rattle.std.proofs.Common.{◌≡◌, ℕ, List, Option, Some, None, Ok, Err, refl, subst}
 use Rattle.cf_asked.specs.declared.show.Show.{Show}
-use Rattle.cf_asked.specs.declared.show.Show.TheVariants as shows
-use Rattle.cf_io.specs.Puts.{Writes}
-use Rattle.cf_io.proofs.Owing.{writes-nothing}
 use Rattle.rv_machine.specs.Streams.{Streams}
 use Rattle.cf_bind.specs.declared.moves.Move.{Move}
 use Rattle.cf_layout.specs.Layout.{Plan}
@@ -39,14 +36,6 @@ unfolding MakesOrFails made
 made-shown {E = E} show mv now new e i j done free h counts put =
     let P : Plan → Type 0 = λ plan. PutsText {T = Unit {0}} {E = E} now.report new.report i j (shown show plan new.tally.moves (record { move = mv; event = e; state = new.core.state })) (Ok done) in
     record { makes = made mv now new e free h counts; report = (subst P (same_plan mv now new e h) put).all }
-
--- nothing is shown of it
-pub made-silent : (seen : Show) (mv : Move) (now new : Place) (e : Event) → seen ≡ shows.Report → bar now.core.plan now.core.state mv ≡ None → MakesOrFails now.core new.core mv now.streams new.streams (Ok e) → new.tally ≡ counted now.tally mv e
-    → new.report ≡ now.report → MakesAndShows seen mv e now new
-unfolding MakesOrFails made shown
-made-silent seen mv now new e is free h counts same =
-    let P : Option (List ℕ) → Type 0 = λ told. Writes now.report told [] in
-    subst (λ (s : Show). MakesAndShows s mv e now new) (sym is) (record { makes = made mv now new e free h counts; report = subst P (sym same) (writes-nothing now.report) })
 
 pub made-unshown : {T E : Type 0} (show : Show) (mv : Move) (now new : Place) (e : Event) (i j : ℕ) (failed : E) → bar now.core.plan now.core.state mv ≡ None → MakesOrFails now.core new.core mv now.streams new.streams (Ok e) → new.tally ≡ counted now.tally mv e
     → PutsText {T = T} now.report new.report i j (shown show new.core.plan new.tally.moves (record { move = mv; event = e; state = new.core.state })) (Err failed) → MakesUnshown show mv e now new

@@ -44,16 +44,9 @@ pub fn make<S: Source, K: Sink, R: Sink>(
     match core.make(mv, input, output) {
         Ok(event) => {
             count(tally, mv, &event);
-            match show {
-                Show::Report => Ok(event),
-                Show::Retired | Show::Moves => {
-                    // A copy, so that the event need not stand in memory where nothing is shown.
-                    let seen = event;
-                    match put_shown(core, show, tally.moves, mv, &seen, report) {
-                        Ok(()) => Ok(event),
-                        Err(_) => Err(Ran::ReportFault),
-                    }
-                }
+            match put_shown(core, show, tally.moves, mv, &event, report) {
+                Ok(()) => Ok(event),
+                Err(_) => Err(Ran::ReportFault),
             }
         }
         Err(Fault::Read) => Err(Ran::ReadFault),

@@ -22,10 +22,10 @@ fn put_retirement<R: Sink>(n: u64, event: &Event, report: &mut R) -> Result<(), 
     }
 }
 
-/// Puts what is to be shown of a move, the `n`th, that left the processor as it is.
+/// Puts the lines that are shown of a move, the `n`th, that left the processor as it is.
 // A page is large, and would slow the run down if it were a local of its loop.
 #[inline(never)]
-pub(crate) fn put_shown<R: Sink>(
+fn put_lines<R: Sink>(
     core: &Core,
     show: Show,
     n: u64,
@@ -45,6 +45,31 @@ pub(crate) fn put_shown<R: Sink>(
             put_move(n, mv, report)?;
             put_retirement(core.retired(), event, report)?;
             put_picture(core, report)
+        }
+    }
+}
+
+/// Puts what is to be shown of a move, the `n`th, that left the processor as it is. Most runs show nothing.
+// The event is copied, so that it need not stand in memory where nothing is shown.
+#[inline(always)]
+pub(crate) fn put_shown<R: Sink>(
+    core: &Core,
+    show: Show,
+    n: u64,
+    mv: Move,
+    event: &Event,
+    report: &mut R,
+) -> Result<(), Failed>
+    ensures { PutsText (R.written report.old) (R.written report.new)
+        (R.faults report.old) (R.faults report.new)
+        (shown show core.now.plan n
+        (record { move = mv; event = event.now; state = core.now.state })) result }
+{
+    match show {
+        Show::Report => Ok(()),
+        Show::Retired | Show::Moves => {
+            let event = *event;
+            put_lines(core, show, n, mv, &event, report)
         }
     }
 }

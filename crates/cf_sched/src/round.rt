@@ -8,23 +8,27 @@ use crate::pace::Pace;
 use crate::policy::Policy;
 use cf_bind::Move;
 use cf_core::Core;
-use cf_index::Candidates;
+use cf_index::{Candidates, Rank};
 use std::marker::Model;
 
 /// Picks the first candidate behind the last one that it picked in the order of all moves, or the first of all where none
-/// stands there or nothing was picked yet. It is seen as the last one that it picked.
+/// stands there or nothing was picked yet. It is seen as the last one that it picked, beside which stands its rank.
 #[derive(Drop)]
 pub struct Round {
     last: Option<Move>,
+    rank: Rank,
 }
 
 impl Model for Round {
-    ghost use Rattle.std.specs.Prelude.{Option};
+    ghost use Rattle.std.specs.Prelude.{◌≡◌, IfSome, Option};
     ghost use Rattle.cf_bind.specs.declared.moves.Move.{Move};
+    ghost use Rattle.cf_index.specs.Ranks.{rank_of};
 
     ghost Value = { Option Move };
 
     ghost view = { λ r. r.last };
+
+    ghost invariant = { λ r. IfSome r.last (λ mv. r.rank ≡ rank_of mv) };
 }
 
 impl Round {
@@ -32,7 +36,19 @@ impl Round {
     pub fn new() -> Round
         ensures { result ≡ None }
     {
-        Round { last: None }
+        Round {
+            last: None,
+            rank: Rank::of(Move::Emit),
+        }
+    }
+
+    /// Keeps the pick.
+    #[inline(always)]
+    fn keep(&mut self, mv: Move)
+        ensures { self.new ≡ Some mv }
+    {
+        self.last = Some(mv);
+        self.rank = Rank::of(mv);
     }
 
     /// Picks one of the moves that a processor offers, by a look at all of them.
@@ -58,15 +74,15 @@ impl Policy for Round {
     #[inline(always)]
     fn pick(&mut self, candidates: &Candidates) -> usize {
         let place = candidates.first_behind(self.last);
-        self.last = Some(candidates.pick(place));
+        self.keep(candidates.pick(place));
         place
     }
 
     #[inline(always)]
     fn choose(&mut self, core: &Core, candidates: &mut Candidates, pace: &Pace) -> Move {
         if let Some(last) = self.last {
-            if let Some(next) = Candidates::soon(core, last, pace.held()) {
-                self.last = Some(next);
+            if let Some(next) = Candidates::soon(core, last, self.rank, pace.held()) {
+                self.keep(next);
                 return next;
             }
         }

@@ -1,6 +1,6 @@
 use Rattle.std.proofs.Common.{◌≤◌, ◌∙◌, ap, arith}
 use Rattle.std.specs.Prelude.{find}
-use Rattle.cf_index.specs.Ranks.{is_past, rank_of}
+use Rattle.cf_index.specs.Ranks.{is_past}
 use Rattle.cf_index.proofs.AllowedWords.{climb-on}
 use Rattle.cf_index.proofs.ahead.next_passing.Goals as goal
 
@@ -8,4 +8,4 @@ pub returns : goal.returns
 returns c =
     let plan = c.args.core.now.plan in
     let few : plan.stages ≤ 32 = omega (arith, c.stages-stages.ensures.few, c.stages-stages.ensures.stages) in
-    c.next_climb.ensures ∙ ap (find (is_past (rank_of c.args.last))) (climb-on plan c.args.core.now.state few)
+    c.next_climb.ensures ∙ ap (find (is_past c.args.last)) (climb-on plan c.args.core.now.state few)

@@ -5,7 +5,7 @@ use Rattle.cf_bind.specs.declared.moves.Move.{Move}
 use Rattle.cf_bind.specs.declared.moves.Move.TheVariants.{Recover, Leave, Exit, Serve}
 use Rattle.cf_semantics.specs.moves.Candidates.{at_stages}
 use Rattle.cf_index.specs.Allowed.{is_allowed}
-use Rattle.cf_index.specs.Ranks.{is_past, rank_of}
+use Rattle.cf_index.specs.Ranks.{is_past}
 use Rattle.cf_index.proofs.Filled.{stages_chosen}
 use Rattle.cf_index.proofs.Ranks.{word_gone, word_here}
 use Rattle.cf_index.proofs.Rows.{recover-stages}
@@ -19,8 +19,8 @@ returns-in-Some c =
     let ends = Leave ∷ Exit ∷ Serve ∷ [] in
     let few : plan.stages ≤ 32 = omega (arith, c.stages-stages.ensures.few, c.stages-stages.ensures.stages) in
     let chosen = stages_chosen plan s Recover c.args.masks.now.recover few (recover-stages plan s c.args.masks.now c.requires) in
-    word_here (rank_of c.args.last) Recover c.args.masks.now.recover c.behind.result c.in-Some.k (filter q ends) c.behind.ensures (sym c.in-Some.is ∙ c.lowest.ensures.number)
-    ∙ ap (λ (l : List Move). find (is_past (rank_of c.args.last)) (l ++ filter q ends)) chosen ∙ ap (find (is_past (rank_of c.args.last))) (sym (filter-append q (at_stages plan Recover) ends))
+    word_here c.args.last Recover c.args.masks.now.recover c.behind.result c.in-Some.k (filter q ends) c.behind.ensures (sym c.in-Some.is ∙ c.lowest.ensures.number)
+    ∙ ap (λ (l : List Move). find (is_past c.args.last) (l ++ filter q ends)) chosen ∙ ap (find (is_past c.args.last)) (sym (filter-append q (at_stages plan Recover) ends))
 
 pub returns-in-None : goal.returns-in-None
 returns-in-None c =
@@ -30,5 +30,5 @@ returns-in-None c =
     let ends = Leave ∷ Exit ∷ Serve ∷ [] in
     let few : plan.stages ≤ 32 = omega (arith, c.stages-stages.ensures.few, c.stages-stages.ensures.stages) in
     let chosen = stages_chosen plan s Recover c.args.masks.now.recover few (recover-stages plan s c.args.masks.now c.requires) in
-    c.next_leave.ensures ∙ word_gone (rank_of c.args.last) Recover c.args.masks.now.recover c.behind.result (filter q ends) c.behind.ensures (sym c.in-None.is ∙ c.lowest.ensures.number)
-    ∙ ap (λ (l : List Move). find (is_past (rank_of c.args.last)) (l ++ filter q ends)) chosen ∙ ap (find (is_past (rank_of c.args.last))) (sym (filter-append q (at_stages plan Recover) ends))
+    c.next_leave.ensures ∙ word_gone c.args.last Recover c.args.masks.now.recover c.behind.result (filter q ends) c.behind.ensures (sym c.in-None.is ∙ c.lowest.ensures.number)
+    ∙ ap (λ (l : List Move). find (is_past c.args.last) (l ++ filter q ends)) chosen ∙ ap (find (is_past c.args.last)) (sym (filter-append q (at_stages plan Recover) ends))

@@ -1,7 +1,6 @@
-use Rattle.std.proofs.Common.{◌∙◌, sym, arith}
-use Rattle.cf_bind.specs.declared.moves.Move.TheVariants.{Emit}
+use Rattle.std.proofs.Common.{◌≡◌, ◌∙◌, ℕ, ap, sym, arith}
+use Rattle.cf_index.specs.declared.rank.Rank.{Rank}
 use Rattle.cf_index.specs.Allowed.{is_allowed}
-use Rattle.cf_index.specs.Ranks.{rank_of}
 use Rattle.cf_index.proofs.Firsts.{emit_barred, emit_first}
 use Rattle.cf_index.proofs.Ranks.{all_others}
 use Rattle.cf_index.proofs.soon.first_other.Goals as goal
@@ -13,4 +12,5 @@ pub returns-else-may_emit : goal.returns-else-may_emit
 returns-else-may_emit c =
     let plan = c.args.core.now.plan in
     let s = c.args.core.now.state in
-    emit_barred plan s c.next.result (sym c.may_emit.ensures ∙ c.if-may_emit.false) (c.next.ensures (λ eight. absurd (omega (arith, eight))) ∙ all_others (rank_of Emit) (is_allowed plan s) plan (omega arith))
+    let one : c.of.result.kind ≡ 1 = ap (λ (r : Rank). r.kind) c.of.ensures in
+    emit_barred plan s c.next.result (sym c.may_emit.ensures ∙ c.if-may_emit.false) (c.next.ensures (λ eight. absurd (omega (arith, one, eight))) ∙ all_others c.of.result (is_allowed plan s) plan (omega (arith, one)))

@@ -1,11 +1,6 @@
-use Rattle.std.proofs.Common.{refl}
 use Rattle.cf_run.specs.Moving.{Does}
-use Rattle.cf_run.proofs.Moves.{made-shown, made-silent, made-unshown, does-read_fault, does-write_fault}
+use Rattle.cf_run.proofs.Moves.{made-shown, made-unshown, does-read_fault, does-write_fault}
 use Rattle.cf_run.proofs.moving.make.Goals as goal
-
-pub returns-in-Report-clause-does : goal.returns-in-Report-clause-does
-unfolding Does
-returns-in-Report-clause-does g c = made-silent _ _ _ _ _ c.in-Report.is c.requires.allowed c.in-Ok.ensures.makes c.count.ensures refl
 
 pub returns-in-Ok-put_shown-clause-does : goal.returns-in-Ok-put_shown-clause-does
 unfolding Does

@@ -20,4 +20,4 @@ returns-in-Some-soon-clause-onward c =
     let s = c.args.core.now.state in
     let moves = offers c.args.pace.now plan s in
     let same : Some c.in-Some.last ≡ c.args.self.now = sym c.in-Some.is ∙ c.self.view_is in
-    next_offered c.args.pace.now plan s c.held.result c.in-Some.last c.in-Some-soon.next c.held.ensures.value c.in-Some-soon.ensures ∙ ap (λ (o : Option Move). slice_get moves (round_pick o moves)) same
+    c.keep.ensures ∙ next_offered c.args.pace.now plan s c.held.result c.in-Some.last c.in-Some-soon.next c.held.ensures.value c.in-Some-soon.ensures ∙ ap (λ (o : Option Move). slice_get moves (round_pick o moves)) same

@@ -1,7 +1,7 @@
 -- The move's line, the retirement's and the picture stand behind one another.
 use Rattle.cf_report.proofs.Puttings.{put-nothing, has-more, has-last, has-failed, failed-more}
 use Rattle.cf_run.specs.Made.{shown}
-use Rattle.cf_run.proofs.showing.put_shown.Goals as goal
+use Rattle.cf_run.proofs.showing.put_lines.Goals as goal
 
 pub returns-in_err-put_retirement-in-Moves : goal.returns-in_err-put_retirement-in-Moves
 unfolding shown
