@@ -20,7 +20,7 @@ use Rattle.cf_semantics.specs.claims.Weight.{is_issue}
 use Rattle.cf_index.specs.Allowed.{all_entering, all_leaving, all_passing, is_allowed}
 use Rattle.cf_index.specs.declared.passing.Passing.{Passing}
 use Rattle.cf_index.specs.Listed.{at_word, passing_moves}
-use Rattle.cf_index.specs.Order.{below_or, first_behind, kind_place, stands_behind}
+use Rattle.cf_index.specs.Order.{below_or, first_behind, kind_place, slide_place, stands_behind}
 use Rattle.cf_index.specs.Places.{places}
 use Rattle.cf_index.proofs.Filled.{all_chosen}
 use Rattle.cf_index.proofs.Parts.{in_word, of_word}
@@ -118,7 +118,7 @@ pub no_issue_first : (last : Move) → ((g : Guess) → last ≡ Issue g → ⊥
 no_issue_first (Issue g) other = absurd (other g refl)
 no_issue_first last other = omega arith
 
-pub no_slide : (last : Move) → ((k c : ℕ) → last ≡ Slide k c → ⊥) → kind_place last ≢ 8
+pub no_slide : (last : Move) → ((k c : ℕ) → last ≡ Slide k c → ⊥) → kind_place last ≢ slide_place
 no_slide (Slide k c) other e = other k c refl
 no_slide (Issue g) other e = absurd (omega arith)
 no_slide Emit other e = absurd (omega arith)

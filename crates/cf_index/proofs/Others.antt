@@ -12,6 +12,7 @@ use Rattle.cf_semantics.specs.moves.Candidates.{candidates, held_back, slides_fr
 use Rattle.cf_semantics.specs.state.State.{State}
 use Rattle.cf_index.specs.Allowed.{all_entering, all_leaving, all_passing, allowed_issues, allowed_others, is_allowed, unheld_issues, withheld}
 use Rattle.cf_index.specs.Listed.{flagged}
+use Rattle.cf_index.specs.Most.{most_leaving, most_of_kind, most_others, most_passing}
 use Rattle.cf_index.proofs.Filled.{all_chosen}
 use Rattle.cf_index.proofs.Firsts.{others_are}
 
@@ -44,8 +45,8 @@ few_emit true = omega arith
 few_emit false = omega arith
 
 pub few_parts : (plan : Plan) (s : State) →
-    length (filter (is_allowed plan s) (all_passing plan)) ≤ 384 → length (filter (is_allowed plan s) (slides_from 0 plan.sidings)) ≤ 64 → length (filter (is_allowed plan s) (all_leaving plan)) ≤ 68 →
-    length (allowed_others plan s) ≤ 517
+    length (filter (is_allowed plan s) (all_passing plan)) ≤ most_passing → length (filter (is_allowed plan s) (slides_from 0 plan.sidings)) ≤ most_of_kind → length (filter (is_allowed plan s) (all_leaving plan)) ≤ most_leaving →
+    length (allowed_others plan s) ≤ most_others
 few_parts plan s passing slides leaving =
     let q = is_allowed plan s in
     let one = few_emit (q Emit) in

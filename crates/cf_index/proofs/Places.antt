@@ -13,6 +13,7 @@ use Rattle.std.proofs.lemmas.List.Elements.{filter-append}
 use Rattle.std.proofs.lemmas.List.Filters.{length-filter_both}
 use Rattle.cf_layout.specs.Words.{has_bit}
 use Rattle.cf_semantics.specs.moves.Candidates.{counted_from}
+use Rattle.cf_index.specs.Most.{most_of_kind}
 use Rattle.cf_index.specs.Places.{places}
 use Rattle.cf_index.proofs.Counted.{counted_split, filter_same, filter_none, filter_first, filter_shifted, filter_below, filter_above}
 
@@ -174,11 +175,11 @@ most_kept : (p : ℕ → Bool) (k n : ℕ) → length (filter p (counted_from k 
 most_kept p k zero = omega arith
 most_kept p k (suc n) = let r = most_kept p (suc k) n in most_choice (p k) k n (filter p (counted_from (suc k) n)) r
 
-pub most_places : (w : ℕ) → length (places 64 w) ≤ 64
+pub most_places : (w : ℕ) → length (places 64 w) ≤ most_of_kind
 unfolding places
 most_places w = most_kept (has_bit w) 0 64
 
-pub most_below : (w k : ℕ) → length (filter (λ j. nat_lt j k) (places 64 w)) ≤ 64
+pub most_below : (w k : ℕ) → length (filter (λ j. nat_lt j k) (places 64 w)) ≤ most_of_kind
 most_below w k = omega (arith, length-filter_both (λ j. nat_lt j k) (λ j. not (nat_lt j k)) (λ j. refl) (places 64 w), most_places w)
 
 -- the next number is below the width

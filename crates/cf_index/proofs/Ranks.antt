@@ -17,7 +17,7 @@ use Rattle.cf_semantics.specs.state.State.{State}
 use Rattle.cf_index.specs.declared.rank.Rank.{Rank}
 use Rattle.cf_index.specs.Allowed.{all_leaving, all_passing, is_allowed}
 use Rattle.cf_index.specs.Listed.{at_word, slides_of}
-use Rattle.cf_index.specs.Order.{below_or, kind_place, stands_behind}
+use Rattle.cf_index.specs.Order.{below_or, kind_place, slide_place, stands_behind}
 use Rattle.cf_index.specs.Places.{places}
 use Rattle.cf_index.specs.Ranks.{is_past, rank_of}
 use Rattle.cf_index.proofs.Behinds.{found_first, found_second}
@@ -97,7 +97,7 @@ all_both p (x ∷ xs) ys e f = both_step p x xs ys (p x) refl e
 all_parts : (p q : Move → Bool) (xs ys : List Move) → find p (filter q xs) ≡ slice_get (filter q xs) 0 → find p (filter q ys) ≡ slice_get (filter q ys) 0 → find p (filter q (xs ++ ys)) ≡ slice_get (filter q (xs ++ ys)) 0
 all_parts p q xs ys e f = rw (filter-append q xs ys) (all_both p (filter q xs) (filter q ys) e f)
 
-all_slides : (r : Rank) (q : Move → Bool) (k : ℕ) (sidings : List SidingPlan) → r.kind < 8 → find (is_past r) (filter q (slides_from k sidings)) ≡ slice_get (filter q (slides_from k sidings)) 0
+all_slides : (r : Rank) (q : Move → Bool) (k : ℕ) (sidings : List SidingPlan) → r.kind < slide_place → find (is_past r) (filter q (slides_from k sidings)) ≡ slice_get (filter q (slides_from k sidings)) 0
 all_slides r q k [] early = refl
 all_slides r q k (siding ∷ sidings) early =
     all_parts (is_past r) q (map (Slide k) (counted_from 0 (siding.cells - 1))) (slides_from (suc k) sidings) (all_map (is_past r) q (Slide k) (counted_from 0 (siding.cells - 1)) (λ c. later r (Slide k c) (omega arith))) (all_slides r q (suc k) sidings early)
@@ -136,22 +136,22 @@ slides_none w none = rw (none, slides_of-zero) refl
 pub ruleset first_sliding = (slides_here, slides_none)
 
 -- all stand behind an earlier kind, and none behind a later one
-pub early_slides : (plan : Plan) (s : State) (r : Rank) (w : ℕ) → r.kind < 8 → slides_of w ≡ filter (is_allowed plan s) (slides_from 0 plan.sidings) → slice_get (slides_of w) 0 ≡ find (is_past r) (filter (is_allowed plan s) (slides_from 0 plan.sidings))
+pub early_slides : (plan : Plan) (s : State) (r : Rank) (w : ℕ) → r.kind < slide_place → slides_of w ≡ filter (is_allowed plan s) (slides_from 0 plan.sidings) → slice_get (slides_of w) 0 ≡ find (is_past r) (filter (is_allowed plan s) (slides_from 0 plan.sidings))
 early_slides plan s r w early e = rw e (sym (all_slides r (is_allowed plan s) 0 plan.sidings early))
 
 none_step : (p q : Move → Bool) (b : Bool) (x : Move) (xs : List Move) → p x ≡ false → find p (filter q xs) ≡ None → find p (cond b (x ∷ filter q xs) (filter q xs)) ≡ None
 none_step p q true x xs off rest = rw off rest
 none_step p q false x xs off rest = rest
 
-none_slides : (r : Rank) (q : Move → Bool) (k : ℕ) (ks : List ℕ) (ys : List Move) → 8 < r.kind → find (is_past r) (filter q ys) ≡ None → find (is_past r) (filter q (map (Slide k) ks ++ ys)) ≡ None
+none_slides : (r : Rank) (q : Move → Bool) (k : ℕ) (ks : List ℕ) (ys : List Move) → slide_place < r.kind → find (is_past r) (filter q ys) ≡ None → find (is_past r) (filter q (map (Slide k) ks ++ ys)) ≡ None
 none_slides r q k [] ys late rest = rest
 none_slides r q k (c ∷ ks) ys late rest = none_step (is_past r) q (q (Slide k c)) (Slide k c) (map (Slide k) ks ++ ys) (sooner r (Slide k c) (omega arith)) (none_slides r q k ks ys late rest)
 
-none_sliding : (r : Rank) (q : Move → Bool) (k : ℕ) (sidings : List SidingPlan) → 8 < r.kind → find (is_past r) (filter q (slides_from k sidings)) ≡ None
+none_sliding : (r : Rank) (q : Move → Bool) (k : ℕ) (sidings : List SidingPlan) → slide_place < r.kind → find (is_past r) (filter q (slides_from k sidings)) ≡ None
 none_sliding r q k [] late = refl
 none_sliding r q k (siding ∷ sidings) late = none_slides r q k (counted_from 0 (siding.cells - 1)) (slides_from (suc k) sidings) late (none_sliding r q (suc k) sidings late)
 
-pub late_slides : (plan : Plan) (s : State) (r : Rank) → 8 < r.kind → None ≡ find (is_past r) (filter (is_allowed plan s) (slides_from 0 plan.sidings))
+pub late_slides : (plan : Plan) (s : State) (r : Rank) → slide_place < r.kind → None ≡ find (is_past r) (filter (is_allowed plan s) (slides_from 0 plan.sidings))
 late_slides plan s r late = sym (none_sliding r (is_allowed plan s) 0 plan.sidings late)
 
 -- Moves of which there is one --
@@ -172,14 +172,14 @@ flag_late r q mv xs late = late_step (is_past r) (q mv) mv (filter q xs) late
 -- The rank of a move --
 
 -- what stands behind it stands behind the move, where this is none within the sidings and no Issue
-same_past : (last mv : Move) → 0 < kind_place last → kind_place last ≢ 8 → is_past (rank_of last) mv ≡ stands_behind last mv
+same_past : (last mv : Move) → 0 < kind_place last → kind_place last ≢ slide_place → is_past (rank_of last) mv ≡ stands_behind last mv
 same_past last mv some other = grind (arith, nat_tests)
 
 same_find : (p q : Move → Bool) (xs : List Move) → ((mv : Move) → p mv ≡ q mv) → find p xs ≡ find q xs
 same_find p q [] same = refl
 same_find p q (x ∷ xs) same = rw (same x, same_find p q xs same) refl
 
-pub found_past : (last : Move) (xs : List Move) → 0 < kind_place last → kind_place last ≢ 8 → find (is_past (rank_of last)) xs ≡ find (stands_behind last) xs
+pub found_past : (last : Move) (xs : List Move) → 0 < kind_place last → kind_place last ≢ slide_place → find (is_past (rank_of last)) xs ≡ find (stands_behind last) xs
 found_past last xs some other = same_find (is_past (rank_of last)) (stands_behind last) xs (λ mv. same_past last mv some other)
 
 -- what is found in the first part, or else in the second

@@ -1,8 +1,10 @@
 -- Which cells of sidings a move uses.
-use Rattle.std.proofs.Common.{◌≡◌, ◌∙◌, refl, ap, ℕ, zero, suc, ◌+◌, ◌-◌, List, ◌∷◌, map, Bool, true, false, cond, length, nat_eq, nat_lt, arith}
+use Rattle.std.proofs.Common.{◌≡◌, ◌∙◌, sym, refl, ap, ℕ, zero, suc, ◌+◌, ◌-◌, ◌/◌, ◌%◌, List, ◌∷◌, map, Bool, true, false, cond, length, nat_eq, nat_lt, arith}
 use Rattle.std.specs.Prelude.{◌&&◌, ◌||◌, ◌==◌, filter, nat_le}
 use Rattle.std.proofs.lemmas.Bool.Decides.{nat_tests}
 use Rattle.cf_layout.specs.Layout.{Plan, cells_of, launch_stage, recover_stage}
+use Rattle.cf_layout.specs.Words.{has_bit}
+use Rattle.cf_layout.proofs.Words.{no_bits}
 use Rattle.cf_bind.specs.declared.moves.Move.{Move}
 use Rattle.cf_bind.specs.declared.moves.Move.TheVariants.{Issue, Emit, Climb, Fall, Meet, Execute, Send, Launch, Slide, Access, Recover, Leave, Exit, Serve}
 use Rattle.cf_semantics.specs.moves.Candidates.{counted_from}
@@ -85,3 +87,23 @@ cell_used plan (Recover i) a b = refl
 cell_used plan Leave a b = refl
 cell_used plan Exit a b = refl
 cell_used plan Serve a b = refl
+
+-- the moves that use none
+pub no_cell_used : (plan : Plan) (mv : Move) → ((i : ℕ) → mv ≡ Launch i → ⊥) → ((k c : ℕ) → mv ≡ Slide k c → ⊥) → (mv ≡ Access → ⊥) → ((i : ℕ) → mv ≡ Recover i → ⊥) → (j : ℕ) → has_bit 0 j ≡ uses_place plan mv (SidingCell (j / 8) (j % 8))
+no_cell_used plan mv launch slide access recover j = no_bits j ∙ sym (cell_used plan mv (j / 8) (j % 8) ∙ none mv launch slide access recover)
+  where
+    none : (m : Move) → ((i : ℕ) → m ≡ Launch i → ⊥) → ((k c : ℕ) → m ≡ Slide k c → ⊥) → (m ≡ Access → ⊥) → ((i : ℕ) → m ≡ Recover i → ⊥) → at_cell plan m (j / 8) (j % 8) ≡ false
+    none (Launch i) launch slide access recover = absurd (launch i refl)
+    none (Slide k c) launch slide access recover = absurd (slide k c refl)
+    none Access launch slide access recover = absurd (access refl)
+    none (Recover i) launch slide access recover = absurd (recover i refl)
+    none (Issue g) launch slide access recover = refl
+    none Emit launch slide access recover = refl
+    none (Climb i) launch slide access recover = refl
+    none (Fall i) launch slide access recover = refl
+    none (Meet i) launch slide access recover = refl
+    none (Execute i) launch slide access recover = refl
+    none (Send i) launch slide access recover = refl
+    none Leave launch slide access recover = refl
+    none Exit launch slide access recover = refl
+    none Serve launch slide access recover = refl

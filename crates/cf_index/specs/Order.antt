@@ -7,6 +7,10 @@ use Rattle.cf_bind.specs.declared.moves.Move.{Move}
 use Rattle.cf_bind.specs.declared.moves.Move.TheVariants.{Issue, Emit, Climb, Fall, Meet, Execute, Send, Launch, Slide, Access, Recover, Leave, Exit, Serve}
 use Rattle.cf_semantics.specs.state.Options.{on}
 
+-- the place of Slide among the kinds
+abbrev pub slide_place : ℕ
+slide_place = 8
+
 -- the place of its kind among the kinds
 abbrev pub kind_place : Move → ℕ
 kind_place (Issue g) = 0
@@ -17,7 +21,7 @@ kind_place (Meet i) = 4
 kind_place (Execute i) = 5
 kind_place (Send i) = 6
 kind_place (Launch i) = 7
-kind_place (Slide k c) = 8
+kind_place (Slide k c) = slide_place
 kind_place Access = 9
 kind_place (Recover i) = 10
 kind_place Leave = 11

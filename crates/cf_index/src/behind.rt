@@ -2,6 +2,7 @@
 
 ghost use Rattle.std.specs.Prelude.{◌≡◌, ◌<◌, ◌≤◌, length};
 ghost use Rattle.cf_index.specs.Listed.{slides_of};
+ghost use Rattle.cf_index.specs.Most.{most_of_kind};
 ghost use Rattle.cf_index.specs.Order.{first_behind, passed};
 
 use crate::bits::{count, count_below};
@@ -13,7 +14,7 @@ use cf_bind::Move;
 #[tactic(auto, using(crate::proofs::PassedEnds::passed_slides))]
 fn passed_slides(slides: u64, k: u32, c: u32) -> usize
     ensures count { result ≡ passed (Move.Slide k c) (slides_of slides) }
-    ensures most { result ≤ 64 }
+    ensures most { result ≤ most_of_kind }
 {
     let cells = if c < 7 { c as usize + 1 } else { 8 };
     count_below(slides, 8 * k as usize + cells)

@@ -2,6 +2,7 @@
 
 ghost use Rattle.std.specs.Prelude.{◌≡◌, ℕ, ◌<◌, ◌≤◌, ◌&&◌, ◌||◌, nat_eq, IfSome, Some, filter, length, nat_lt, slice_get};
 ghost use Rattle.cf_layout.specs.Words.{has_bit};
+ghost use Rattle.cf_index.specs.Most.{most_of_kind};
 ghost use Rattle.cf_index.specs.Places.{places};
 
 /// How many numbers the word has.
@@ -9,7 +10,7 @@ ghost use Rattle.cf_index.specs.Places.{places};
 #[tactic(auto, using(crate::proofs::Places::count_places, crate::proofs::Places::most_places))]
 pub(crate) fn count(word: u64) -> usize
     ensures numbers { result ≡ length (places 64 word) }
-    ensures most { result ≤ 64 }
+    ensures most { result ≤ most_of_kind }
 {
     word.count_ones() as usize
 }
@@ -19,7 +20,7 @@ pub(crate) fn count(word: u64) -> usize
 #[tactic(auto, using(crate::proofs::Places::mask_some, crate::proofs::Places::counts_below, crate::proofs::Places::counts_all_below, crate::proofs::Places::most_below))]
 pub(crate) fn count_below(word: u64, k: usize) -> usize
     ensures numbers { result ≡ length (filter (λ j. nat_lt j k) (places 64 word)) }
-    ensures most { result ≤ 64 }
+    ensures most { result ≤ most_of_kind }
 {
     if k < 64 {
         (word & ((1 << k) - 1)).count_ones() as usize

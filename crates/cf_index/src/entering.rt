@@ -3,6 +3,7 @@
 ghost use Rattle.std.specs.Prelude.{◌≡◌, ◌<◌, ◌≤◌, Some, length, slice_get};
 ghost use Rattle.cf_semantics.specs.moves.Candidates.{other_moves};
 ghost use Rattle.cf_index.specs.Listed.{entering_moves};
+ghost use Rattle.cf_index.specs.Most.{most_entering};
 ghost use Rattle.cf_index.specs.Order.{passed};
 
 use cf_bind::{Guess, Move};
@@ -22,7 +23,7 @@ impl Entering {
     #[tactic(auto, unfolding(crate::specs::Listed::entering_moves))]
     pub(crate) fn len(&self) -> usize
         ensures count { result ≡ length (entering_moves self.now) }
-        ensures most { result ≤ 4 }
+        ensures most { result ≤ most_entering }
     {
         self.next as usize + self.taken as usize + self.wait as usize + self.emit as usize
     }
@@ -67,27 +68,17 @@ impl Entering {
     #[tactic(auto, unfolding(crate::specs::Listed::entering_moves, crate::specs::Order::passed))]
     pub(crate) fn passed(&self, last: Move) -> usize
         ensures count { result ≡ passed last (entering_moves self.now) }
-        ensures most { result ≤ 4 }
+        ensures most { result ≤ most_entering }
     {
         match last {
-            Move::Issue(Guess::Next) => self.next as usize,
-            Move::Issue(Guess::Taken) => self.next as usize + self.taken as usize,
-            Move::Issue(Guess::Wait) | Move::Issue(Guess::To(_)) => {
-                self.next as usize + self.taken as usize + self.wait as usize
-            }
-            Move::Emit
-            | Move::Climb(_)
-            | Move::Fall(_)
-            | Move::Meet(_)
-            | Move::Execute(_)
-            | Move::Send(_)
-            | Move::Launch(_)
-            | Move::Slide(_, _)
-            | Move::Access
-            | Move::Recover(_)
-            | Move::Leave
-            | Move::Exit
-            | Move::Serve => self.len(),
+            Move::Issue(guess) => match guess {
+                Guess::Next => self.next as usize,
+                Guess::Taken => self.next as usize + self.taken as usize,
+                Guess::Wait | Guess::To(_) => {
+                    self.next as usize + self.taken as usize + self.wait as usize
+                }
+            },
+            _ => self.len(),
         }
     }
 }

@@ -2,6 +2,7 @@
 
 ghost use Rattle.std.specs.Prelude.{◌≡◌, ◌<◌, ◌≤◌, Some, length, slice_get};
 ghost use Rattle.cf_index.specs.Listed.{leaving_moves};
+ghost use Rattle.cf_index.specs.Most.{most_leaving};
 ghost use Rattle.cf_index.specs.Order.{passed};
 
 use crate::bits::{count, count_below, nth};
@@ -23,7 +24,7 @@ impl Leaving {
     #[tactic(auto, using(crate::proofs::Parts::lengths), unfolding(crate::specs::Listed::leaving_moves))]
     pub(crate) fn len(&self) -> usize
         ensures count { result ≡ length (leaving_moves self.now) }
-        ensures most { result ≤ 68 }
+        ensures most { result ≤ most_leaving }
     {
         self.access as usize
             + count(self.recover as u64)
@@ -65,7 +66,7 @@ impl Leaving {
     #[tactic(auto, using(crate::proofs::PassedEnds::leaving))]
     pub(crate) fn passed(&self, last: Move) -> usize
         ensures count { result ≡ passed last (leaving_moves self.now) }
-        ensures most { result ≤ 68 }
+        ensures most { result ≤ most_leaving }
     {
         let accesses = self.access as usize;
         let recovers = accesses + count(self.recover as u64);

@@ -6,6 +6,7 @@ ghost use Rattle.cf_semantics.specs.moves.Candidates.{at_stages, slides_from};
 ghost use Rattle.cf_core.specs.Masks.{masks_of};
 ghost use Rattle.cf_index.specs.Allowed.{all_leaving, is_allowed};
 ghost use Rattle.cf_index.specs.Listed.{slides_of};
+ghost use Rattle.cf_index.specs.Order.{slide_place};
 ghost use Rattle.cf_index.specs.Ranks.{is_past};
 
 use crate::bits::lowest;
@@ -94,7 +95,7 @@ fn first_slide(slides: u64) -> Option<Move>
 /// The first move within the sidings behind one that is none of them.
 #[inline(always)]
 fn next_slide(core: &Core, last: Rank) -> Option<Move>
-    ensures { last.kind ≢ 8 → result ≡ find (is_past last) (filter (is_allowed core.now.plan core.now.state) (slides_from 0 core.now.plan.sidings)) }
+    ensures { last.kind ≢ slide_place → result ≡ find (is_past last) (filter (is_allowed core.now.plan core.now.state) (slides_from 0 core.now.plan.sidings)) }
 {
     if last.kind < SLIDE {
         first_slide(slides(core))
@@ -107,7 +108,7 @@ fn next_slide(core: &Core, last: Rank) -> Option<Move>
 #[inline(always)]
 pub(crate) fn next_outward(core: &Core, masks: &Masks, last: Rank) -> Option<Move>
     requires { masks.now ≡ masks_of core.now.plan core.now.state }
-    ensures { last.kind ≢ 8 → result ≡ find (is_past last) (filter (is_allowed core.now.plan core.now.state) (slides_from 0 core.now.plan.sidings) ++ filter (is_allowed core.now.plan core.now.state) (all_leaving core.now.plan)) }
+    ensures { last.kind ≢ slide_place → result ≡ find (is_past last) (filter (is_allowed core.now.plan core.now.state) (slides_from 0 core.now.plan.sidings) ++ filter (is_allowed core.now.plan core.now.state) (all_leaving core.now.plan)) }
 {
     match next_slide(core, last) {
         Some(next) => Some(next),

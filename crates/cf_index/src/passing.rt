@@ -2,6 +2,7 @@
 
 ghost use Rattle.std.specs.Prelude.{◌≡◌, ◌<◌, ◌≤◌, Some, length, slice_get};
 ghost use Rattle.cf_index.specs.Listed.{passing_moves};
+ghost use Rattle.cf_index.specs.Most.{most_passing};
 ghost use Rattle.cf_index.specs.Order.{passed};
 
 use crate::bits::{count, count_below, nth};
@@ -24,7 +25,7 @@ impl Passing {
     #[tactic(auto, using(crate::proofs::Parts::lengths), unfolding(crate::specs::Listed::passing_moves))]
     pub(crate) fn len(&self) -> usize
         ensures count { result ≡ length (passing_moves self.now) }
-        ensures most { result ≤ 384 }
+        ensures most { result ≤ most_passing }
     {
         count(self.climb as u64)
             + count(self.fall as u64)
@@ -73,7 +74,7 @@ impl Passing {
     #[tactic(auto, using(crate::proofs::PassedStages::passing))]
     pub(crate) fn passed(&self, last: Move) -> usize
         ensures count { result ≡ passed last (passing_moves self.now) }
-        ensures most { result ≤ 384 }
+        ensures most { result ≤ most_passing }
     {
         let climbs = count(self.climb as u64);
         let falls = climbs + count(self.fall as u64);

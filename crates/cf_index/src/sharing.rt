@@ -142,16 +142,7 @@ fn cells_used(layout: &Layout, mv: Move) -> u64
         }
         Move::Access => port(layout),
         Move::Recover(i) => exits(layout, i),
-        Move::Issue(_)
-        | Move::Emit
-        | Move::Climb(_)
-        | Move::Fall(_)
-        | Move::Meet(_)
-        | Move::Execute(_)
-        | Move::Send(_)
-        | Move::Leave
-        | Move::Exit
-        | Move::Serve => 0,
+        _ => 0,
     }
 }
 

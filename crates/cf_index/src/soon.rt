@@ -4,7 +4,7 @@ ghost use Rattle.std.specs.Prelude.{◌≡◌, ◌≢◌, ◌<◌, ◌++◌, fal
 ghost use Rattle.cf_semantics.specs.moves.Candidates.{candidates, slides_from};
 ghost use Rattle.cf_semantics.specs.claims.Weight.{is_issue};
 ghost use Rattle.cf_index.specs.Allowed.{all_leaving, all_passing, allowed_others, is_allowed, withheld};
-ghost use Rattle.cf_index.specs.Order.{first_behind, kind_place, stands_behind};
+ghost use Rattle.cf_index.specs.Order.{first_behind, kind_place, slide_place, stands_behind};
 ghost use Rattle.cf_index.specs.Ranks.{is_past, rank_of};
 
 use crate::ahead::next_passing;
@@ -18,7 +18,7 @@ use cf_core::Core;
 /// The first move that does not enter, behind one that is not within the sidings.
 #[inline(always)]
 fn next(core: &Core, last: Rank) -> Option<Move>
-    ensures { last.kind ≢ 8 → result ≡ find (is_past last) (filter (is_allowed core.now.plan core.now.state) (all_passing core.now.plan) ++ (filter (is_allowed core.now.plan core.now.state) (slides_from 0 core.now.plan.sidings) ++ filter (is_allowed core.now.plan core.now.state) (all_leaving core.now.plan))) }
+    ensures { last.kind ≢ slide_place → result ≡ find (is_past last) (filter (is_allowed core.now.plan core.now.state) (all_passing core.now.plan) ++ (filter (is_allowed core.now.plan core.now.state) (slides_from 0 core.now.plan.sidings) ++ filter (is_allowed core.now.plan core.now.state) (all_leaving core.now.plan))) }
 {
     let masks = core.masks();
     match next_passing(core, &masks, last) {
@@ -32,7 +32,7 @@ fn next(core: &Core, last: Rank) -> Option<Move>
 fn onward(core: &Core, last: Move, rank: Rank) -> Option<Move>
     requires other { 0 < kind_place last }
     requires stands { rank ≡ rank_of last }
-    ensures { kind_place last ≢ 8 → result ≡ find (stands_behind last) (filter (is_allowed core.now.plan core.now.state) (all_passing core.now.plan) ++ (filter (is_allowed core.now.plan core.now.state) (slides_from 0 core.now.plan.sidings) ++ filter (is_allowed core.now.plan core.now.state) (all_leaving core.now.plan))) }
+    ensures { kind_place last ≢ slide_place → result ≡ find (stands_behind last) (filter (is_allowed core.now.plan core.now.state) (all_passing core.now.plan) ++ (filter (is_allowed core.now.plan core.now.state) (slides_from 0 core.now.plan.sidings) ++ filter (is_allowed core.now.plan core.now.state) (all_leaving core.now.plan))) }
 {
     next(core, rank)
 }

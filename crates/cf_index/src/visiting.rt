@@ -7,6 +7,7 @@ ghost use Rattle.cf_core.specs.Masks.{masks_of};
 ghost use Rattle.cf_semantics.specs.moves.Candidates.{slides_from};
 ghost use Rattle.cf_index.specs.Allowed.{all_leaving, all_passing, allowed_issues, allowed_others, is_allowed};
 ghost use Rattle.cf_index.specs.Listed.{entering_moves, flagged, leaving_moves, passing_moves, slides_of};
+ghost use Rattle.cf_index.specs.Most.{most_leaving, most_of_kind, most_others, most_passing};
 ghost use Rattle.cf_index.specs.Places.{places};
 ghost use Rattle.cf_index.specs.Spread.{numbered};
 
@@ -158,7 +159,7 @@ fn visit_emit<V: Visitor>(core: &Core, visitor: &mut V)
 fn visit_passing<V: Visitor>(core: &Core, masks: &Masks, visitor: &mut V)
     requires { masks.now ≡ masks_of core.now.plan core.now.state }
     ensures shown { visitor.new ≡ fold V.behind visitor.old (filter (is_allowed core.now.plan core.now.state) (all_passing core.now.plan)) }
-    ensures few { length (filter (is_allowed core.now.plan core.now.state) (all_passing core.now.plan)) ≤ 384 }
+    ensures few { length (filter (is_allowed core.now.plan core.now.state) (all_passing core.now.plan)) ≤ most_passing }
 {
     let passing = passing(core, masks);
     let _count = passing.len();
@@ -170,7 +171,7 @@ fn visit_passing<V: Visitor>(core: &Core, masks: &Masks, visitor: &mut V)
 #[tactic(auto, using(crate::proofs::Parts::lengths), unfolding(crate::specs::Listed::slides_of))]
 fn visit_slides<V: Visitor>(core: &Core, visitor: &mut V)
     ensures shown { visitor.new ≡ fold V.behind visitor.old (filter (is_allowed core.now.plan core.now.state) (slides_from 0 core.now.plan.sidings)) }
-    ensures few { length (filter (is_allowed core.now.plan core.now.state) (slides_from 0 core.now.plan.sidings)) ≤ 64 }
+    ensures few { length (filter (is_allowed core.now.plan core.now.state) (slides_from 0 core.now.plan.sidings)) ≤ most_of_kind }
 {
     let slides = slides(core);
     let _count = count(slides);
@@ -182,7 +183,7 @@ fn visit_slides<V: Visitor>(core: &Core, visitor: &mut V)
 fn visit_leaving<V: Visitor>(core: &Core, masks: &Masks, visitor: &mut V)
     requires { masks.now ≡ masks_of core.now.plan core.now.state }
     ensures shown { visitor.new ≡ fold V.behind visitor.old (filter (is_allowed core.now.plan core.now.state) (all_leaving core.now.plan)) }
-    ensures few { length (filter (is_allowed core.now.plan core.now.state) (all_leaving core.now.plan)) ≤ 68 }
+    ensures few { length (filter (is_allowed core.now.plan core.now.state) (all_leaving core.now.plan)) ≤ most_leaving }
 {
     let leaving = leaving(core, masks);
     let _count = leaving.len();
@@ -195,7 +196,7 @@ impl Candidates {
     #[tactic(auto, using(crate::proofs::Shown::shown_parts, crate::proofs::Others::few_parts))]
     pub fn visit_others<V: Visitor>(core: &Core, visitor: &mut V)
         ensures shown { visitor.new ≡ fold V.behind visitor.old (allowed_others core.now.plan core.now.state) }
-        ensures few { length (allowed_others core.now.plan core.now.state) ≤ 517 }
+        ensures few { length (allowed_others core.now.plan core.now.state) ≤ most_others }
     {
         let masks = core.masks();
         visit_emit(core, visitor);

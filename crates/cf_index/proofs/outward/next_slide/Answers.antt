@@ -1,4 +1,5 @@
 use Rattle.std.proofs.Common.{◌<◌, ◌∙◌, arith}
+use Rattle.cf_index.specs.Order.{slide_place}
 use Rattle.cf_index.proofs.Ranks.{early_slides, late_slides}
 use Rattle.cf_index.proofs.outward.next_slide.Goals as goal
 
@@ -8,5 +9,5 @@ returns-then-last-lt-SLIDE c = λ other.
 
 pub returns-else-last-lt-SLIDE : goal.returns-else-last-lt-SLIDE
 returns-else-last-lt-SLIDE c = λ other.
-    let late : 8 < c.args.last.kind = grind (arith, other) in
+    let late : slide_place < c.args.last.kind = grind (arith, other) in
     late_slides c.args.core.now.plan c.args.core.now.state c.args.last late
