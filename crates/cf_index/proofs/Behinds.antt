@@ -1,30 +1,25 @@
 -- The first move of a list that stands behind another.
-use Rattle.std.proofs.Common.{◌≡◌, ◌≢◌, ◌∙◌, sym, refl, ap, ℕ, zero, suc, ◌+◌, ◌^◌, ◌<◌, ◌≤◌, List, [], ◌∷◌, ◌++◌, length, map, Bool, true, false, cond, nat_lt, Option, Some, None, arith}
-use Rattle.std.specs.Prelude.{◌&&◌, filter, find, not, slice_get}
+use Rattle.std.proofs.Common.{◌≡◌, ◌≢◌, ◌∙◌, sym, refl, ap, ℕ, ◌^◌, ◌<◌, ◌≤◌, List, [], ◌∷◌, ◌++◌, length, Bool, true, false, cond, nat_lt, Option, Some, None, arith}
+use Rattle.std.specs.Prelude.{filter, find, not, slice_get}
 use Rattle.std.specs.List.{position_or_len}
 use Rattle.std.specs.Int.{trailing_zeros}
 use Rattle.std.proofs.lemmas.Bool.Decides.{nat_tests}
-use Rattle.std.proofs.lemmas.List.{append-nil}
 use Rattle.std.proofs.lemmas.List.Folds.{find_at}
 use Rattle.std.proofs.lemmas.Option.{slice_get_within}
 use mir.Syntax.{w64}
 use Rattle.cf_layout.specs.Layout.{Plan}
-use Rattle.cf_layout.specs.Words.{has_bit}
 use Rattle.cf_bind.specs.declared.moves.Move.{Move}
 use Rattle.cf_bind.specs.declared.moves.Move.TheVariants.{Issue, Emit, Climb, Fall, Meet, Execute, Send, Launch, Slide, Access, Recover, Leave, Exit, Serve}
 use Rattle.cf_bind.specs.declared.passenger.Guess.{Guess}
 use Rattle.cf_bind.specs.declared.passenger.Guess.TheVariants.{Next, Taken, Wait}
-use Rattle.cf_semantics.specs.moves.Candidates.{candidates, counted_from, held_back, other_moves, slides_from}
+use Rattle.cf_semantics.specs.moves.Candidates.{candidates, held_back, other_moves, slides_from}
 use Rattle.cf_semantics.specs.state.State.{State}
 use Rattle.cf_semantics.specs.claims.Weight.{is_issue}
 use Rattle.cf_index.specs.Allowed.{all_entering, all_leaving, all_passing, is_allowed}
-use Rattle.cf_index.specs.declared.passing.Passing.{Passing}
-use Rattle.cf_index.specs.Listed.{at_word, passing_moves}
-use Rattle.cf_index.specs.Order.{below_or, first_behind, kind_place, slide_place, stands_behind}
+use Rattle.cf_index.specs.Order.{first_behind, kind_place, slide_place, stands_behind}
 use Rattle.cf_index.specs.Places.{places}
 use Rattle.cf_index.proofs.Filled.{all_chosen}
-use Rattle.cf_index.proofs.Parts.{in_word, of_word}
-use Rattle.cf_index.proofs.Passed.{earlier, later}
+use Rattle.cf_index.proofs.Passed.{earlier}
 use Rattle.cf_index.proofs.Places.{lowest, places_zero}
 
 -- the lowest number of a word

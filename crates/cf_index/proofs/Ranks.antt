@@ -1,5 +1,5 @@
 -- The first move of a list that stands behind a rank.
-use Rattle.std.proofs.Common.{◌≡◌, ◌≢◌, ◌∙◌, sym, refl, ap, ℕ, zero, suc, ◌+◌, ◌-◌, ◌/◌, ◌%◌, ◌^◌, ◌<◌, ◌≤◌, List, [], ◌∷◌, ◌++◌, map, Bool, true, false, cond, nat_lt, Option, Some, None, arith}
+use Rattle.std.proofs.Common.{◌≡◌, ◌≢◌, ◌∙◌, sym, refl, ℕ, zero, suc, ◌+◌, ◌-◌, ◌/◌, ◌%◌, ◌^◌, ◌<◌, List, [], ◌∷◌, ◌++◌, map, Bool, true, false, cond, nat_lt, Option, Some, None, arith}
 use Rattle.std.specs.Prelude.{◌&&◌, filter, find, not, slice_get}
 use Rattle.std.specs.Int.{trailing_zeros}
 use Rattle.std.proofs.lemmas.Bool.Decides.{nat_tests}
@@ -11,13 +11,13 @@ use Rattle.cf_layout.specs.Words.{has_bit}
 use Rattle.cf_layout.proofs.Words.{no_bits}
 use Rattle.cf_bind.specs.declared.moves.Move.{Move}
 use Rattle.cf_bind.specs.declared.moves.Move.TheVariants.{Climb, Fall, Meet, Execute, Send, Launch, Slide, Access, Recover, Leave, Exit, Serve}
-use Rattle.cf_semantics.specs.moves.Candidates.{at_stages, counted_from, slides_from}
+use Rattle.cf_semantics.specs.moves.Candidates.{counted_from, slides_from}
 use Rattle.cf_semantics.specs.state.Options.{on}
 use Rattle.cf_semantics.specs.state.State.{State}
 use Rattle.cf_index.specs.declared.rank.Rank.{Rank}
 use Rattle.cf_index.specs.Allowed.{all_leaving, all_passing, is_allowed}
 use Rattle.cf_index.specs.Listed.{at_word, slides_of}
-use Rattle.cf_index.specs.Order.{below_or, kind_place, slide_place, stands_behind}
+use Rattle.cf_index.specs.Order.{kind_place, slide_place, stands_behind}
 use Rattle.cf_index.specs.Places.{places}
 use Rattle.cf_index.specs.Ranks.{is_past, rank_of}
 use Rattle.cf_index.proofs.Behinds.{found_first, found_second}

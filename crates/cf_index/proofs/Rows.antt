@@ -21,7 +21,7 @@ use Rattle.cf_core.specs.Masks.{masks_of, stops_there}
 use Rattle.cf_core.specs.declared.masks.Masks.{Masks}
 use Rattle.cf_core.proofs.Masked.{allowed-as}
 use Rattle.cf_layout.proofs.Words.{no_bits}
-use Rattle.cf_index.specs.Allowed.{HasStages, is_allowed, passing_of, word_allowed}
+use Rattle.cf_index.specs.Allowed.{HasStages, is_allowed, word_allowed}
 use Rattle.cf_index.specs.Words.{climb_bit, fall_bit, full_bit, goes_on, send_bit}
 
 -- the bits of a word of tests

@@ -1,5 +1,5 @@
 -- The moves of a word, shown one after another from the lowest number on.
-use Rattle.std.proofs.Common.{◌≡◌, refl, ℕ, ◌-◌, ◌^◌, ◌<◌, ◌≤◌, List, [], ◌∷◌, drop, map, fold, Some, arith}
+use Rattle.std.proofs.Common.{◌≡◌, refl, ℕ, ◌-◌, ◌^◌, ◌<◌, List, [], ◌∷◌, drop, map, fold, Some, arith}
 use Rattle.std.specs.Prelude.{slice_get}
 use Rattle.std.specs.Int.{trailing_zeros}
 use Rattle.std.specs.Int.RustNames.{bit_and}

@@ -4,10 +4,10 @@ use Rattle.std.specs.Prelude.{◌&&◌, not}
 use Rattle.std.specs.Int.{bit_at, bit_not, w32}
 use Rattle.std.specs.Int.RustNames.{bit_and}
 use Rattle.std.proofs.lemmas.Bool.Decides.{nat_tests}
-use Rattle.std.proofs.lemmas.Nat.{one_shl}
+use Rattle.std.proofs.Math.Nat.{pow-le-pow_right}
+use Rattle.std.proofs.lemmas.Nat.{one_shl, pow_pos}
 use Rattle.std.proofs.lemmas.Nat.Bits.{bit_at-lt, bit_at-suc, bit_at_above, bit_at_and, bit_at_cat_low, bit_at_lowest, bit_at_not, bit_at_ones, bit_at_ones_above}
 use Rattle.cf_layout.specs.Words.{has_bit}
-use Rattle.cf_layout.proofs.Words.{no_bits}
 
 -- the bits of both
 and_bit : (a b : ℕ) → a < 2 → b < 2 → nat_eq (min a b) 1 ≡ (nat_eq a 1 && nat_eq b 1)
@@ -72,8 +72,18 @@ unfolding has_bit
 low_case n k true e = let below : k < n = grind (arith, nat_tests) in ap (λ (b : ℕ). nat_eq b 1) (bit_at_ones n k below)
 low_case n k false e = let high : n ≤ k = grind (arith, nat_tests) in ap (λ (b : ℕ). nat_eq b 1) (bit_at_ones_above n k high)
 
-pub of_low : (n k : ℕ) → n < 32 → has_bit (1 * 2 ^ n % 2 ^ 32 - 1) k ≡ nat_lt k n
-of_low n k small = rw (one_shl n 32 small) (low_case n k (nat_lt k n) refl)
+pub of_low : (n k : ℕ) → n ≤ 32 → has_bit (1 * 2 ^ n % 2 ^ 64 - 1) k ≡ nat_lt k n
+of_low n k small = rw (one_shl n 64 (omega arith)) (low_case n k (nat_lt k n) refl)
+
+pub low_some : (n : ℕ) → n ≤ 32 → 1 ≤ 1 * 2 ^ n % 2 ^ 64
+low_some n small = rw (one_shl n 64 (omega arith)) (omega (arith, pow_pos n))
+
+pub low_small : (n : ℕ) → n ≤ 32 → 1 * 2 ^ n % 2 ^ 64 - 1 < 2 ^ 32
+low_small n small =
+    let few : 2 ^ n ≤ 2 ^ 32 = pow-le-pow_right (omega arith) small in
+    rw (one_shl n 64 (omega arith)) (omega (arith, few))
+
+pub ruleset of_lowest = (of_low, low_some, low_small)
 
 -- no bit stands beyond 32
 pub no_high : (w k : ℕ) → w < 2 ^ 32 → nat_lt k 32 ≡ false → has_bit w k ≡ false
@@ -102,10 +112,9 @@ fall_tests k p f b high = by_height (nat_lt k 32) refl
     by_height false e = rw (high e) (nothing p (not f) (nat_lt 0 k && not b) (high e))
 
 -- no bit stands from 32 on
-none_beyond : (b low : Bool) → (low ≡ false → b ≡ false) → false ≡ (b && not low)
-none_beyond true true h = refl
-none_beyond false low h = refl
-none_beyond true false h = absurd (cc (h refl))
-
-pub beyond_word : (w i k : ℕ) → w < 2 ^ 32 → 32 ≤ i → has_bit 0 k ≡ (has_bit w k && not (nat_lt k i))
-beyond_word w i k small wide = no_bits k ∙ none_beyond (has_bit w k) (nat_lt k i) (λ off. let high : 32 ≤ k = grind (arith, nat_tests) in high_bit w k small high)
+pub beyond_word : (w i k : ℕ) → w < 2 ^ 32 → (has_bit w k && not (nat_lt k (min i 32))) ≡ (has_bit w k && not (nat_lt k i))
+beyond_word w i k small = by (nat_lt k 32) refl
+  where
+    by : (low : Bool) → nat_lt k 32 ≡ low → (has_bit w k && not (nat_lt k (min i 32))) ≡ (has_bit w k && not (nat_lt k i))
+    by true e = let same : nat_lt k (min i 32) ≡ nat_lt k i = grind (arith, nat_tests) in rw same refl
+    by false e = rw (no_high w k small e) refl

@@ -37,14 +37,15 @@ fn next_send(core: &Core, masks: &Masks, last: Rank) -> Option<Move>
 }
 
 /// The first Execute behind, or else the first of the kinds behind it.
+// Few searches come here, so that the words that only these kinds need are read here.
 #[inline(always)]
-fn next_execute(core: &Core, masks: &Masks, last: Rank) -> Option<Move>
-    requires { masks.now ≡ masks_of core.now.plan core.now.state }
+fn next_execute(core: &Core, last: Rank) -> Option<Move>
     ensures { result ≡ find (is_past last) (execute_on core.now.plan core.now.state) }
 {
-    match lowest(last.behind(EXECUTE, executes(core, masks))) {
+    let masks = core.masks();
+    match lowest(last.behind(EXECUTE, executes(core, &masks))) {
         Some(k) => Some(Move::Execute(k + 1)),
-        None => next_send(core, masks, last),
+        None => next_send(core, &masks, last),
     }
 }
 
@@ -56,7 +57,7 @@ fn next_meet(core: &Core, masks: &Masks, last: Rank) -> Option<Move>
 {
     match lowest(last.behind(MEET, meets(core, masks))) {
         Some(k) => Some(Move::Meet(k + 1)),
-        None => next_execute(core, masks, last),
+        None => next_execute(core, last),
     }
 }
 

@@ -67,14 +67,14 @@ fn next_recover(core: &Core, masks: &Masks, last: Rank) -> Option<Move>
 
 /// The first behind of the moves that leave.
 #[inline(always)]
-fn next_leaving(core: &Core, masks: &Masks, last: Rank) -> Option<Move>
-    requires { masks.now ≡ masks_of core.now.plan core.now.state }
+fn next_leaving(core: &Core, last: Rank) -> Option<Move>
     ensures { result ≡ find (is_past last) (filter (is_allowed core.now.plan core.now.state) (all_leaving core.now.plan)) }
 {
     if last.kind < ACCESS && core.may_access() {
         Some(Move::Access)
     } else {
-        next_recover(core, masks, last)
+        let masks = core.masks();
+        next_recover(core, &masks, last)
     }
 }
 
@@ -106,12 +106,11 @@ fn next_slide(core: &Core, last: Rank) -> Option<Move>
 
 /// The first move within the sidings, or of those that leave, behind one that is none within them.
 #[inline(always)]
-pub(crate) fn next_outward(core: &Core, masks: &Masks, last: Rank) -> Option<Move>
-    requires { masks.now ≡ masks_of core.now.plan core.now.state }
+pub(crate) fn next_outward(core: &Core, last: Rank) -> Option<Move>
     ensures { last.kind ≢ slide_place → result ≡ find (is_past last) (filter (is_allowed core.now.plan core.now.state) (slides_from 0 core.now.plan.sidings) ++ filter (is_allowed core.now.plan core.now.state) (all_leaving core.now.plan)) }
 {
     match next_slide(core, last) {
         Some(next) => Some(next),
-        None => next_leaving(core, masks, last),
+        None => next_leaving(core, last),
     }
 }

@@ -23,7 +23,7 @@ fn next(core: &Core, last: Rank) -> Option<Move>
     let masks = core.masks();
     match next_passing(core, &masks, last) {
         Some(next) => Some(next),
-        None => next_outward(core, &masks, last),
+        None => next_outward(core, last),
     }
 }
 
@@ -53,7 +53,7 @@ fn first_other(core: &Core) -> Option<Move>
 // The search begins anew in few moves, and is a call, so that the search behind a move is part of the loop of a run.
 #[inline(never)]
 #[tactic(auto, using(crate::proofs::Firsts::firsts))]
-fn first(core: &Core, held: bool) -> Option<Move>
+fn look_for_first(core: &Core, held: bool) -> Option<Move>
     ensures { IfSome result (λ next. Some next ≡ slice_get (withheld held (candidates core.now.plan core.now.state)) 0) }
 {
     if held {
@@ -67,6 +67,15 @@ fn first(core: &Core, held: bool) -> Option<Move>
     } else {
         first_other(core)
     }
+}
+
+/// The first candidate, as it is found by a call.
+// The answer of the call has a place in memory here, which is written only where the call is made.
+#[inline(always)]
+fn first(core: &Core, held: bool) -> Option<Move>
+    ensures { IfSome result (λ next. Some next ≡ slice_get (withheld held (candidates core.now.plan core.now.state)) 0) }
+{
+    look_for_first(core, held)
 }
 
 /// The first candidate, where it is no Issue.

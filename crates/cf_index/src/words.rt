@@ -44,12 +44,12 @@ fn below(word: u32) -> u32
 
 /// The lowest stages, this many.
 #[inline(always)]
-#[tactic(auto, using(crate::proofs::WordBits::of_low))]
+#[tactic(auto, using(crate::proofs::WordBits::of_lowest))]
 fn lowest(count: u32) -> u32
-    requires { count < 32 }
+    requires { count ≤ 32 }
     ensures { (k : ℕ) → has_bit result k ≡ nat_lt k count }
 {
-    (1 << count) - 1
+    ((1_u64 << count) - 1) as u32
 }
 
 /// The stages where an instruction and a result are and have not met.
@@ -92,10 +92,11 @@ pub(crate) fn sending(masks: &Masks) -> u32
 }
 
 /// The stages of the word above the one of this number.
+// Without a branch of its own, which the compiler would join with that of the search for each kind of move.
 #[inline(always)]
 #[tactic(auto, using(crate::proofs::WordBits::beyond_word))]
 pub(crate) fn past(word: u32, i: u32) -> u32
     ensures { (k : ℕ) → has_bit result k ≡ (has_bit word k && not (nat_lt k i)) }
 {
-    if i < 32 { without(word, lowest(i)) } else { 0 }
+    without(word, lowest(i.min(32)))
 }

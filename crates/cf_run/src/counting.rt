@@ -17,9 +17,10 @@ pub(crate) fn count(tally: &mut Tally, mv: Move, event: &Event)
     if matches!(mv, Move::Meet(_)) {
         tally.meets += 1;
     }
-    match event {
-        Event::Killed => tally.kills += 1,
-        Event::Died => tally.dead += 1,
-        Event::Plain | Event::Retired(_) | Event::Ended(_) => {}
+    if matches!(event, Event::Killed) {
+        tally.kills += 1;
+    }
+    if matches!(event, Event::Died) {
+        tally.dead += 1;
     }
 }

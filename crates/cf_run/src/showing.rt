@@ -50,7 +50,7 @@ fn put_lines<R: Sink>(
 }
 
 /// Puts what is to be shown of a move, the `n`th, that left the processor as it is. Most runs show nothing.
-// The event is copied, so that it need not stand in memory where nothing is shown.
+// The move and the event are copied, so that they need not stand in memory where nothing is shown.
 #[inline(always)]
 pub(crate) fn put_shown<R: Sink>(
     core: &Core,
@@ -68,7 +68,7 @@ pub(crate) fn put_shown<R: Sink>(
     match show {
         Show::Report => Ok(()),
         Show::Retired | Show::Moves => {
-            let event = *event;
+            let (mv, event) = (mv, *event);
             put_lines(core, show, n, mv, &event, report)
         }
     }

@@ -71,8 +71,8 @@ impl Pace {
     {
         if is_retirement(event) || drained {
             self.count = 0;
-        } else if is_issue(mv) && self.count < 2 * self.stages as u64 {
-            self.count += 1;
+        } else if is_issue(mv) {
+            self.count = (self.count + 1).min(2 * self.stages as u64);
         }
     }
 }

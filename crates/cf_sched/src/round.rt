@@ -43,27 +43,42 @@ impl Round {
     }
 
     /// Keeps the pick.
+    // The rank comes first, so that the compiler knows it where it knows what was picked.
     #[inline(always)]
     fn keep(&mut self, mv: Move)
         ensures { self.new ≡ Some mv }
     {
+        let rank = Rank::of(mv);
         self.last = Some(mv);
-        self.rank = Rank::of(mv);
+        self.rank = rank;
     }
 
     /// Picks one of the moves that a processor offers, by a look at all of them.
-    // That is rare, and a call, so that the search behind the last move is part of the loop of a run.
-    #[inline(never)]
+    #[inline(always)]
     fn choose_of_all(&mut self, core: &Core, candidates: &mut Candidates, pace: &Pace) -> Move
         requires { 0 < length (offers pace.now core.now.plan core.now.state) }
         ensures choice { Some result ≡ slice_get (offers pace.now core.now.plan core.now.state)
             (round_pick self.old (offers pace.now core.now.plan core.now.state)) }
         ensures onward { self.new ≡ round_on self.old (offers pace.now core.now.plan core.now.state) }
     {
-        pace.offer(core, candidates);
-        let place = self.pick(candidates);
-        candidates.pick(place)
+        let next = first_of_all(self.last, core, candidates, pace);
+        self.keep(next);
+        next
     }
+}
+
+/// The first of the moves that a processor offers behind the last one, by a look at all of them.
+// That is rare, and a call, so that the search behind the last move is part of the loop of a run. The policy is not lent to it, so that
+// it need not stand in memory.
+#[inline(never)]
+fn first_of_all(last: Option<Move>, core: &Core, candidates: &mut Candidates, pace: &Pace) -> Move
+    requires { 0 < length (offers pace.now core.now.plan core.now.state) }
+    ensures { Some result ≡ slice_get (offers pace.now core.now.plan core.now.state)
+        (round_pick last (offers pace.now core.now.plan core.now.state)) }
+{
+    pace.offer(core, candidates);
+    let place = candidates.first_behind(last);
+    candidates.pick(place)
 }
 
 impl Policy for Round {

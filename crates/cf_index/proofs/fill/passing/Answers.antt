@@ -1,8 +1,6 @@
 -- The words are those of what is allowed.
 use Rattle.std.proofs.Common.{◌≤◌, ◌∙◌, ap, arith}
-use Rattle.cf_index.specs.Allowed.{passing_of}
 use Rattle.cf_index.specs.Listed.{passing_moves}
-use Rattle.cf_index.specs.declared.passing.Passing.{Passing}
 use Rattle.cf_index.proofs.AllowedWords.{passing-moves}
 use Rattle.cf_index.proofs.fill.passing.Goals as goal
 

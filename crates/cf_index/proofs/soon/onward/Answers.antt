@@ -1,4 +1,4 @@
-use Rattle.std.proofs.Common.{◌≡◌, ◌≢◌, ◌∙◌, ◌++◌, ap, subst, sym}
+use Rattle.std.proofs.Common.{◌≢◌, ◌∙◌, ◌++◌, ap, subst, sym}
 use Rattle.std.specs.Prelude.{filter, find}
 use Rattle.cf_semantics.specs.moves.Candidates.{slides_from}
 use Rattle.cf_index.specs.declared.rank.Rank.{Rank}
