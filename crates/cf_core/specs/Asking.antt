@@ -1,5 +1,6 @@
 -- What a move asks of the input and of the output: only the call of an ECALL asks anything ("Counterflow Pipeline Processor Architecture", 1994).
-use Rattle.std.specs.Prelude.{◌≡◌, IsTrue, None}
+use Rattle.std.specs.Prelude.{◌≡◌, ℕ, IsTrue, None, Result}
+use Rattle.cf_io.specs.Causes.{HasCause}
 use Rattle.rv_machine.specs.Call.{asks_input, asks_output}
 use Rattle.cf_bind.specs.declared.moves.Move.{Move}
 use Rattle.cf_bind.specs.declared.moves.Move.TheVariants.{Serve}
@@ -28,3 +29,7 @@ pub record AsksOutput (p : Processor) (mv : Move) : Type 0 where
   pub serves : mv ≡ Serve
   pub allowed : bar p.plan p.state mv ≡ None
   pub call : CallsOutput p
+
+-- what a call that may ask a stream leaves of it: its count of faults rose just where the stream failed the call, and where the call asks nothing it is as it was
+abbrev pub LeavesStream : {A : Type 0} → (A → ℕ) → Type 0 → A → A → Result (Unit {0}) (Unit {0}) → Type 0
+LeavesStream faults asks old new failed = HasCause (faults old) (faults new) failed × ((asks → ⊥) → new ≡ old)

@@ -1,11 +1,22 @@
 -- What is told of an instruction in a stage ("Counterflow Pipeline Processor Architecture", 1994).
-use Rattle.std.specs.Prelude.{ℕ, Bool, false, ◌&&◌, ◌==◌, not, Option, Some, None}
+use Rattle.std.specs.Prelude.{◌≡◌, ℕ, ◌<◌, ◌≤◌, Bool, false, ◌&&◌, ◌==◌, not, Option, Some, None, length}
+use Rattle.rv_inst.specs.declared.classes.Class.{Class}
+use Rattle.cf_layout.specs.Layout.{Plan, siding_of}
 use Rattle.cf_bind.specs.declared.binding.Binding.{Binding}
 use Rattle.cf_bind.specs.declared.packet.Packet.{Packet}
 use Rattle.cf_bind.specs.declared.packet.Packet.TheVariants.{Value, Turn, Halt}
 use Rattle.cf_bind.specs.declared.passenger.Passenger.{Passenger}
 use Rattle.cf_semantics.specs.state.Options.{is_some}
+use Rattle.cf_semantics.specs.state.Passengers.{kind}
+use Rattle.cf_semantics.specs.state.State.{State}
+use Rattle.cf_stages.specs.Changes.{passenger_at}
 use Rattle.cf_passengers.specs.Waiting.{first_unknown}
+
+-- the instruction, of this class, stands in the stage of this number; the siding of its class is this one
+abbrev pub StandsBeside : Plan → State → Passenger → Class → ℕ → ℕ → Type 0
+StandsBeside plan s p class k i =
+    (0 < i) × (i ≤ plan.stages) × (passenger_at s.cells i ≡ Some p)
+    × (class ≡ kind p) × (siding_of plan (kind p) ≡ Some k) × (k < length plan.sidings)
 
 -- it is live and was not executed
 abbrev pub is_undone : Passenger → Bool

@@ -200,11 +200,9 @@ impl Processor {
         requires { IsProcessor self.now.plan self.now.state }
         ensures { result ≡ row_bar self.now.plan self.now.state (mv.Recover i) }
     {
-        if i == 0 || self.stages.count() < i {
-            return Some(Bar::NoSuchSite);
-        }
-        let Some(passenger) = self.stages.cell(i).passenger else {
-            return Some(Bar::NoPassenger);
+        let passenger = match self.rider(i) {
+            Ok(passenger) => passenger,
+            Err(bar) => return Some(bar),
         };
         let bar = first_of(&[
             (!recovers(&self.layout, kind(&passenger), i), Bar::NoUnit),

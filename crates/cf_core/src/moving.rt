@@ -1,12 +1,11 @@
 //! The table of moves: which row bars a move, and what each move does.
 
 ghost use Rattle.std.specs.Prelude.{◌≡◌, ◌≢◌, ◌+◌, ◌<◌, ◌^◌, None};
-ghost use Rattle.cf_io.specs.Causes.{HasCause};
 ghost use Rattle.rv_machine.specs.Streams.{streams_of};
 ghost use Rattle.cf_bind.specs.declared.moves.Move.TheVariants as mv;
 ghost use Rattle.cf_semantics.specs.moves.Bars.{bar as first_bar, row_bar as bar_of_row};
 ghost use Rattle.cf_semantics.specs.moves.Events.{IsEvent};
-ghost use Rattle.cf_core.specs.Asking.{AsksInput, AsksOutput};
+ghost use Rattle.cf_core.specs.Asking.{AsksInput, AsksOutput, LeavesStream};
 ghost use Rattle.cf_core.specs.Processors.{after_move, IsProcessor};
 ghost use Rattle.cf_core.specs.Stepping.{MakesOrFails, input_made, output_made};
 
@@ -102,10 +101,8 @@ impl Processor {
         ensures makes { MakesOrFails self.old self.new m
             (streams_of (S.left input.old) (K.written output.old))
             (streams_of (S.left input.new) (K.written output.new)) result }
-        ensures input { HasCause (S.faults input.old) (S.faults input.new) (input_made result) }
-        ensures output { HasCause (K.faults output.old) (K.faults output.new) (output_made result) }
-        ensures input_asked { (AsksInput self.old m → ⊥) → input.new ≡ input.old }
-        ensures output_asked { (AsksOutput self.old m → ⊥) → output.new ≡ output.old }
+        ensures input { LeavesStream S.faults (AsksInput self.old m) input.old input.new (input_made result) }
+        ensures output { LeavesStream K.faults (AsksOutput self.old m) output.old output.new (output_made result) }
     {
         match m {
             Move::Serve => match self.serve(input, output) {

@@ -11,7 +11,7 @@ ghost use Rattle.cf_stages.specs.Changes.{is_full_at, passenger_at};
 ghost use Rattle.cf_core.specs.Marks.{is_free, mark_at};
 ghost use Rattle.cf_core.specs.Masks.{stops_there};
 ghost use Rattle.cf_core.specs.Processors.{IsProcessor};
-ghost use Rattle.cf_core.specs.Riders.{awaits as waits_for, has_sources as knows_sources, is_idle as idles, is_out as is_beside, is_passed_by as passed_by, is_spent as has_done_all, is_undone as is_not_done};
+ghost use Rattle.cf_core.specs.Riders.{StandsBeside, awaits as waits_for, has_sources as knows_sources, is_idle as idles, is_out as is_beside, is_passed_by as passed_by, is_spent as has_done_all, is_undone as is_not_done};
 
 use crate::beside::is_memory;
 use crate::marks::Mark;
@@ -166,13 +166,8 @@ impl Processor {
     #[inline(always)]
     #[tactic(auto, using(crate::proofs::Rides::launch_free))]
     fn launches(&self, passenger: &Passenger, class: Class, k: u32, i: u32) -> bool
-        requires above { 0 < i }
-        requires within { i ≤ self.now.plan.stages }
         requires facts { IsProcessor self.now.plan self.now.state }
-        requires here { passenger_at self.now.state.cells i ≡ Some passenger.now }
-        requires class { class ≡ kind_of_passenger passenger.now }
-        requires siding { siding_of self.now.plan (kind_of_passenger passenger.now) ≡ Some k }
-        requires inside { k < length self.now.plan.sidings }
+        requires stands { StandsBeside self.now.plan self.now.state passenger.now class k i }
         ensures { result ≡ is_free self.now.plan self.now.state (mv.Launch i) }
     {
         self.is_to_launch(passenger, k, i)
@@ -216,13 +211,8 @@ impl Processor {
     #[inline(always)]
     #[tactic(auto, using(crate::proofs::Rides::owed), unfolding(crate::specs::Marks::mark_at))]
     fn mark_at_siding(&self, passenger: &Passenger, class: Class, k: u32, i: u32) -> Mark
-        requires above { 0 < i }
-        requires within { i ≤ self.now.plan.stages }
         requires facts { IsProcessor self.now.plan self.now.state }
-        requires here { passenger_at self.now.state.cells i ≡ Some passenger.now }
-        requires class { class ≡ kind_of_passenger passenger.now }
-        requires siding { siding_of self.now.plan (kind_of_passenger passenger.now) ≡ Some k }
-        requires inside { k < length self.now.plan.sidings }
+        requires stands { StandsBeside self.now.plan self.now.state passenger.now class k i }
         ensures { result ≡ mark_at self.now.plan self.now.state i }
     {
         Mark {

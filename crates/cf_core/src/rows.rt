@@ -1,10 +1,13 @@
 //! A row of the table of moves: tests, each with its bar, of which the first that holds bars the move.
 
-ghost use Rattle.std.specs.Prelude.{◌≡◌, None, find};
+ghost use Rattle.std.specs.Prelude.{◌≡◌, ◌<◌, ◌≤◌, IfErr, IfOk, None, OnOk, Some, find};
 ghost use Rattle.std.specs.Option.{option_copied};
-ghost use Rattle.cf_semantics.specs.moves.Bars.{first_of as first_bar_of};
+ghost use Rattle.cf_semantics.specs.moves.Bars.{at, first_of as first_bar_of, of_passenger};
+ghost use Rattle.cf_stages.specs.Changes.{passenger_at};
+ghost use Rattle.cf_core.specs.Processors.{IsProcessor};
 
-use cf_bind::Bar;
+use crate::processor::Processor;
+use cf_bind::{Bar, Passenger};
 
 /// The first test that holds, with its bar.
 #[inline(always)]
@@ -23,5 +26,25 @@ pub(crate) fn first_of(rows: &[(bool, Bar)]) -> Option<Bar>
     match first_row(rows) {
         Some(row) => Some(row.1),
         None => None,
+    }
+}
+
+impl Processor {
+    /// The instruction of the stage; or the bar with which each row of its moves begins: there is no such stage, or no
+    /// instruction stands there.
+    #[inline(always)]
+    pub(crate) fn rider(&self, i: u32) -> Result<Passenger, Bar>
+        requires { IsProcessor self.now.plan self.now.state }
+        ensures stage { OnOk result ((0 < i) × (i ≤ self.now.plan.stages)) }
+        ensures rider { IfOk result (λ p. passenger_at self.now.state.cells i ≡ Some p) }
+        ensures bar { IfErr result (λ b. at self.now.state.cells i (λ c. of_passenger c (λ p. None)) ≡ Some b) }
+    {
+        if i == 0 || self.stages.count() < i {
+            return Err(Bar::NoSuchSite);
+        }
+        match self.stages.cell(i).passenger {
+            Some(passenger) => Ok(passenger),
+            None => Err(Bar::NoPassenger),
+        }
     }
 }

@@ -1,14 +1,12 @@
 //! Serve: the instruction in the highest stage asks the environment.
 
 ghost use Rattle.std.specs.Prelude.{◌≡◌, Some, None};
-ghost use Rattle.cf_io.specs.Causes.{HasCause};
 ghost use Rattle.rv_machine.specs.Streams.{streams_of};
 ghost use Rattle.cf_bind.specs.declared.moves.Move.TheVariants as mv;
 ghost use Rattle.cf_semantics.specs.moves.Instructions.{is_serial as needs_machine};
-ghost use Rattle.cf_semantics.specs.state.Passengers.{instruction as instruction_of};
 ghost use Rattle.cf_semantics.specs.moves.Bars.{row_bar};
 ghost use Rattle.cf_stages.specs.Changes.{passenger_at};
-ghost use Rattle.cf_core.specs.Asking.{CallsInput, CallsOutput};
+ghost use Rattle.cf_core.specs.Asking.{CallsInput, CallsOutput, LeavesStream};
 ghost use Rattle.cf_core.specs.Processors.{in_state, IsProcessor};
 ghost use Rattle.cf_core.specs.Stepping.{ServesOrFails, input_served, output_served, synchronized, taken, told_of};
 
@@ -61,10 +59,8 @@ impl Processor {
         ensures serves { ServesOrFails self.old self.new
             (streams_of (S.left input.old) (K.written output.old))
             (streams_of (S.left input.new) (K.written output.new)) result }
-        ensures input { HasCause (S.faults input.old) (S.faults input.new) (input_served result) }
-        ensures output { HasCause (K.faults output.old) (K.faults output.new) (output_served result) }
-        ensures input_asked { (CallsInput self.old → ⊥) → input.new ≡ input.old }
-        ensures output_asked { (CallsOutput self.old → ⊥) → output.new ≡ output.old }
+        ensures input { LeavesStream S.faults (CallsInput self.old) input.old input.new (input_served result) }
+        ensures output { LeavesStream K.faults (CallsOutput self.old) output.old output.new (output_served result) }
     {
         let stage = self.stages.count();
         let Some(passenger) = self.stages.cell(stage).passenger else {
@@ -75,7 +71,10 @@ impl Processor {
                 self.synchronize(stage, passenger);
                 Ok(())
             }
-            _ => self.call(stage, passenger, input, output),
+            _ => {
+                let served = serve(self.ends.regs(), &mut self.memory, input, output);
+                self.take(stage, passenger, served)
+            }
         }
     }
 
@@ -88,30 +87,6 @@ impl Processor {
     {
         self.memory.sync_code();
         self.stages.set_passenger(stage, answered(passenger, 0));
-    }
-
-    /// The environment answers the call of the instruction in the highest stage.
-    #[inline(always)]
-    fn call<S: Source, K: Sink>(
-        &mut self,
-        stage: u32,
-        passenger: Passenger,
-        input: &mut S,
-        output: &mut K,
-    ) -> Result<(), Fault>
-        requires stage { stage ≡ self.old.plan.stages }
-        requires here { passenger_at self.old.state.cells self.old.plan.stages ≡ Some passenger }
-        requires call { instruction_of passenger ≡ Instr.Ecall }
-        ensures serves { ServesOrFails self.old self.new
-            (streams_of (S.left input.old) (K.written output.old))
-            (streams_of (S.left input.new) (K.written output.new)) result }
-        ensures input { HasCause (S.faults input.old) (S.faults input.new) (input_served result) }
-        ensures output { HasCause (K.faults output.old) (K.faults output.new) (output_served result) }
-        ensures input_asked { (CallsInput self.old → ⊥) → input.new ≡ input.old }
-        ensures output_asked { (CallsOutput self.old → ⊥) → output.new ≡ output.old }
-    {
-        let served = serve(self.ends.regs(), &mut self.memory, input, output);
-        self.take(stage, passenger, served)
     }
 
     /// The instruction in the highest stage takes what the environment answered.

@@ -25,11 +25,9 @@ impl Processor {
         requires { IsProcessor self.now.plan self.now.state }
         ensures { result ≡ row_bar self.now.plan self.now.state (mv.Execute i) }
     {
-        if i == 0 || self.stages.count() < i {
-            return Some(Bar::NoSuchSite);
-        }
-        let Some(passenger) = self.stages.cell(i).passenger else {
-            return Some(Bar::NoPassenger);
+        let passenger = match self.rider(i) {
+            Ok(passenger) => passenger,
+            Err(bar) => return Some(bar),
         };
         let bar = first_of(&[
             (passenger.dead, Bar::Dead),
@@ -61,16 +59,13 @@ impl Processor {
         requires { IsProcessor self.now.plan self.now.state }
         ensures { result ≡ row_bar self.now.plan self.now.state (mv.Send i) }
     {
-        if i == 0 || self.stages.count() < i {
-            return Some(Bar::NoSuchSite);
-        }
-        let cell = self.stages.cell(i);
-        let Some(passenger) = cell.passenger else {
-            return Some(Bar::NoPassenger);
+        let passenger = match self.rider(i) {
+            Ok(passenger) => passenger,
+            Err(bar) => return Some(bar),
         };
         first_of(&[
             (passenger.owes.is_none(), Bar::OwesNothing),
-            (cell.packet.is_some(), Bar::Occupied),
+            (self.stages.packet(i).is_some(), Bar::Occupied),
         ])
     }
 

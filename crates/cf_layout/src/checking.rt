@@ -10,21 +10,13 @@ ghost use Rattle.cf_layout.specs.Refusal.{refusal, told, unless, outside, limits
 use crate::asked::{
     first_outside, is_asked, is_sided, is_unit, is_within, listed, names, natural, siding_for,
 };
-use crate::classes::is_same;
+use crate::classes::{CLASSES, is_same};
 use crate::stage_set::StageSet;
 use crate::{Layout, LayoutErr, Listed, Parts, Siding};
 use rv_inst::Class;
 
-/// The classes that every processor computes, in class order.
-const NEEDED: [Class; 7] = [
-    Class::Add,
-    Class::Logic,
-    Class::Shift,
-    Class::Compare,
-    Class::Branch,
-    Class::Jump,
-    Class::Memory,
-];
+/// How many classes every processor computes: those in front of class order, all but multiplication and division.
+const NEEDED: usize = 7;
 
 /// The refusal, unless the test holds.
 fn require(holds: bool, error: LayoutErr) -> Result<(), LayoutErr>
@@ -217,7 +209,9 @@ fn check_sidings(
 fn first_missing(parts: &Parts) -> Option<&Class>
     ensures { option_copied result ≡ find (λ c. not (is_asked parts.now c)) needed_classes }
 {
-    NEEDED.iter().find(|class| !is_asked(parts, **class))
+    CLASSES[..NEEDED]
+        .iter()
+        .find(|class| !is_asked(parts, **class))
 }
 
 /// Tests that each class that every processor computes is there, and of multiplication and division both or neither.

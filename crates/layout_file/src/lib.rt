@@ -5,13 +5,12 @@ mod classes;
 mod fault;
 mod form;
 pub mod laws;
-mod name;
 mod reading;
 mod tables;
 mod writing;
 
 pub use classes::class_name;
 pub use fault::FileErr;
-pub use name::Name;
+pub use names::Name;
 pub use reading::{MOST_LAYOUT, read_layout};
 pub use writing::write_layout;

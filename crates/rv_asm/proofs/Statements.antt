@@ -18,7 +18,8 @@ use Rattle.rv_text.specs.declared.text_err.TextErr.{TextErr}
 use Rattle.rv_text.specs.declared.text_err.TextErr.TheVariants.{BadRegister, BadNumber, OutOfRange, WrongCount}
 use Rattle.rv_text.specs.Pieces.{operand_at, operand_count, trimmed}
 use Rattle.rv_text.specs.Numbers.{number_of, numeral}
-use Rattle.rv_text.specs.Registers.{register_of, register_only, register_numbered, register_padded, usual_names, look_up}
+use Rattle.rv_text.specs.Registers.{register_of, register_only, register_numbered, register_padded, usual_names}
+use Rattle.rv_text.specs.Tables.{look_up}
 use Rattle.rv_text.specs.Fields.{and_then, required, within, register_in, number_in, immediate_in, field_below, immediate_of, offset_in, base_in, enclosed, is_open}
 use Rattle.rv_text.specs.Reading.{Reading, WholeOf, AimedAt, whole, upper_form, address_form, immediate_form, register_form, set_form, fence_form, jump_form, branch_form, operands_read, takes, wanted, counted, statement_by}
 use Rattle.rv_text.proofs.Spellings.{FindsRegister, usual_names-find}

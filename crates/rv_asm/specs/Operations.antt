@@ -1,17 +1,12 @@
 -- The names of the directives and of the pseudo-instructions (RISC-V Assembly Programmer's Manual, "Pseudo Ops" and "Assembler Pseudoinstructions").
-use Rattle.std.specs.Prelude.{ℕ, Option, Some, None, List, [], ◌∷◌, codes, if◌then◌else◌}
-use Rattle.std.specs.Str.{bytes_eq}
+use Rattle.std.specs.Prelude.{ℕ, Option, List, [], ◌∷◌, codes}
 use Rattle.rv_inst.specs.declared.instruction.Cond.TheVariants as cond
+use Rattle.rv_text.specs.Tables.{look_up}
 use Rattle.rv_asm.specs.declared.operations.Directive.{Directive}
 use Rattle.rv_asm.specs.declared.operations.Directive.TheVariants as directive
 use Rattle.rv_asm.specs.declared.operations.Width.TheVariants as width
 use Rattle.rv_asm.specs.declared.operations.Pseudo.{Pseudo}
 use Rattle.rv_asm.specs.declared.operations.Pseudo.TheVariants as pseudo
-
--- what stands beside a word in a table
-abbrev pub beside : {A : Type 0} → List (List ℕ × A) → List ℕ → Option A
-beside [] word = None
-beside (entry ∷ entries) word = if bytes_eq entry.0 word then Some entry.1 else beside entries word
 
 -- the directives
 abbrev pub directives : List (List ℕ × Directive)
@@ -49,8 +44,8 @@ pseudos =
 
 -- the directive of a name
 unfoldable pub directive_named : List ℕ → Option Directive
-directive_named name = beside directives name
+directive_named name = look_up directives name
 
 -- the pseudo-instruction of a name
 unfoldable pub pseudo_named : List ℕ → Option Pseudo
-pseudo_named name = beside pseudos name
+pseudo_named name = look_up pseudos name

@@ -1,43 +1,14 @@
 //! The labels of a source.
 #![tactic(auto)]
 
-ghost use Rattle.std.specs.Prelude.{◌≡◌, map, IfOk, string_bytes};
+ghost use Rattle.std.specs.Prelude.{◌≡◌, map, IfOk};
 ghost use Rattle.std.specs.Str.{IsUtf8};
 ghost use Rattle.rv_asm.specs.Labels.{named};
 
+use names::Name;
 use std::alloc::{AllocError, Global};
 use std::marker::Model;
 use std::str;
-
-/// The name of a label.
-#[derive(Drop)]
-pub struct Name {
-    text: String,
-}
-
-impl Model for Name {
-    ghost use Rattle.std.specs.Prelude.{ℕ, List, string_bytes};
-
-    ghost Value = { List ℕ };
-
-    ghost view = { λ name. string_bytes name.text };
-}
-
-impl Name {
-    /// The name that a text is.
-    pub fn new(text: String) -> Name
-        ensures { result ≡ string_bytes text }
-    {
-        Name { text }
-    }
-
-    /// The text.
-    pub fn as_str(&self) -> &str
-        ensures { result.now ≡ self.now }
-    {
-        self.text.as_str()
-    }
-}
 
 /// The name that bytes are.
 pub(crate) fn name_of(alloc: Global, bytes: &[u8]) -> Result<Name, AllocError>

@@ -20,6 +20,7 @@ mod sections;
 mod strings;
 
 pub use assembling::assemble;
-pub use label::{Label, Labels, Name};
+pub use label::{Label, Labels};
+pub use names::Name;
 pub use object::{Bytes, Object};
 pub use refusal::{AsmErr, AsmKind};

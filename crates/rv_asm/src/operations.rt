@@ -1,10 +1,11 @@
 //! The names of directives and pseudo-instructions.
 
-ghost use Rattle.std.specs.Prelude.{◌≡◌, map};
-ghost use Rattle.rv_asm.specs.Operations.{beside, directives, pseudos, directive_named, pseudo_named};
+ghost use Rattle.std.specs.Prelude.{◌≡◌};
+ghost use Rattle.rv_asm.specs.Operations.{directive_named, pseudo_named};
 ghost use Rattle.rv_asm.specs.Operands.{bytes_of_width};
 
 use rv_inst::Cond;
+use rv_text::look_up;
 
 /// How many bytes a number takes: 1, 2 or 4.
 #[derive(Clone, Copy)]
@@ -73,18 +74,6 @@ const PSEUDOS: [(&[u8], Pseudo); 14] = [
     (b"bgez", Pseudo::BranchZero(Cond::Ge)),
 ];
 
-fn beside<T: Copy>(mut table: &[(&[u8], T)], word: &[u8]) -> Option<T>
-    ensures { result ≡ beside (map (λ entry. (entry.0.now, entry.1)) table.entry.now) word.now }
-{
-    while let [entry, rest @ ..] = table {
-        if entry.0 == word {
-            return Some(entry.1);
-        }
-        table = rest;
-    }
-    None
-}
-
 impl Width {
     /// How many bytes a number takes.
     pub fn bytes(self) -> usize
@@ -104,7 +93,7 @@ impl Directive {
     pub fn named(name: &[u8]) -> Option<Directive>
         ensures { result ≡ directive_named name.now }
     {
-        beside(&DIRECTIVES, name)
+        look_up(&DIRECTIVES, name)
     }
 }
 
@@ -114,6 +103,6 @@ impl Pseudo {
     pub fn named(name: &[u8]) -> Option<Pseudo>
         ensures { result ≡ pseudo_named name.now }
     {
-        beside(&PSEUDOS, name)
+        look_up(&PSEUDOS, name)
     }
 }

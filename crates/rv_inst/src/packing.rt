@@ -19,6 +19,20 @@ fn pack(opcode: u32, rd: u32, funct3: u32, rs1: u32, rs2: u32, funct7: u32) -> u
     opcode | rd << 7 | funct3 << 12 | rs1 << 15 | rs2 << 20 | funct7 << 25
 }
 
+/// A word of its six plain fields, where a destination and a source are told as registers.
+#[tactic(auto)]
+fn pack_rd_rs1(opcode: u32, funct3: u32, rd: u8, rs1: u8, rs2: u32, funct7: u32) -> u32
+    requires opcode { opcode < 2 ^ 7 }
+    requires funct3 { funct3 < 2 ^ 3 }
+    requires rd { IsRegister rd }
+    requires rs1 { IsRegister rs1 }
+    requires rs2 { rs2 < 2 ^ 5 }
+    requires funct7 { funct7 < 2 ^ 7 }
+    ensures { HasFields result opcode rd funct3 rs1 rs2 funct7 }
+{
+    pack(opcode, u32::from(rd), funct3, u32::from(rs1), rs2, funct7)
+}
+
 /// An R-type word.
 pub fn pack_r(opcode: u32, funct3: u32, funct7: u32, rd: u8, rs1: u8, rs2: u8) -> u32
     requires opcode { opcode < 2 ^ 7 }
@@ -29,14 +43,7 @@ pub fn pack_r(opcode: u32, funct3: u32, funct7: u32, rd: u8, rs1: u8, rs2: u8) -
     requires rs2 { IsRegister rs2 }
     ensures { IsRType result opcode funct3 funct7 rd rs1 rs2 }
 {
-    pack(
-        opcode,
-        u32::from(rd),
-        funct3,
-        u32::from(rs1),
-        u32::from(rs2),
-        funct7,
-    )
+    pack_rd_rs1(opcode, funct3, rd, rs1, u32::from(rs2), funct7)
 }
 
 /// An I-type word.
@@ -49,14 +56,7 @@ pub fn pack_i(opcode: u32, funct3: u32, rd: u8, rs1: u8, imm: i32) -> u32
     ensures { IsIType result opcode funct3 rd rs1 imm }
 {
     let bits = imm.cast_unsigned();
-    pack(
-        opcode,
-        u32::from(rd),
-        funct3,
-        u32::from(rs1),
-        bits & 0x1f,
-        bits >> 5 & 0x7f,
-    )
+    pack_rd_rs1(opcode, funct3, rd, rs1, bits & 0x1f, bits >> 5 & 0x7f)
 }
 
 /// The I-type word of a shift by a constant.
@@ -69,14 +69,7 @@ pub fn pack_shift(opcode: u32, funct3: u32, funct7: u32, rd: u8, rs1: u8, amount
     requires amount { IsAmount amount }
     ensures { IsShiftType result opcode funct3 funct7 rd rs1 amount }
 {
-    pack(
-        opcode,
-        u32::from(rd),
-        funct3,
-        u32::from(rs1),
-        amount as u32,
-        funct7,
-    )
+    pack_rd_rs1(opcode, funct3, rd, rs1, amount as u32, funct7)
 }
 
 /// The I-type word of a fence, whose `imm` is the upper twelve bits as they stand.
@@ -88,14 +81,7 @@ pub fn pack_fence(opcode: u32, funct3: u32, rd: u8, rs1: u8, imm: u32) -> u32
     requires imm { imm < 2 ^ 12 }
     ensures { IsFenceType result opcode funct3 rd rs1 imm }
 {
-    pack(
-        opcode,
-        u32::from(rd),
-        funct3,
-        u32::from(rs1),
-        imm & 0x1f,
-        imm >> 5,
-    )
+    pack_rd_rs1(opcode, funct3, rd, rs1, imm & 0x1f, imm >> 5)
 }
 
 /// An S-type word.

@@ -2,7 +2,8 @@
 use Rattle.std.proofs.Common.{ℕ, ◌<◌, Bool, true, false, List, [], ◌∷◌, Some, rules}
 use Rattle.std.specs.Prelude.{IfSome, Option, if◌then◌else◌}
 use Rattle.std.specs.Str.{bytes_eq}
-use Rattle.rv_text.specs.Registers.{look_up, usual_names}
+use Rattle.rv_text.specs.Registers.{usual_names}
+use Rattle.rv_text.specs.Tables.{look_up}
 
 -- what is found is a register
 abbrev pub FindsRegister : Option ℕ → Type 0

@@ -2,6 +2,7 @@ pub mod Lines
 pub mod Pieces
 pub mod Numbers
 pub mod Names
+pub mod Tables
 pub mod Registers
 pub mod Writing
 pub mod Fields

@@ -1,8 +1,8 @@
 -- How a register is spelled: by its number, or by its name in the calling convention (RISC-V Assembly Programmer's Manual, "Register Names").
 use Rattle.std.specs.Prelude.{ℕ, ◌&&◌, Option, Some, None, List, [], ◌∷◌, length, drop, codes, nat_eq, nat_lt, if◌then◌else◌}
 use Rattle.std.specs.List.{starts_with}
-use Rattle.std.specs.Str.{bytes_eq}
 use Rattle.rv_text.specs.Numbers.{numeral}
+use Rattle.rv_text.specs.Tables.{look_up}
 
 -- each register's name in the calling convention, and its number; x8 has two names
 abbrev pub usual_names : List (List ℕ × ℕ)
@@ -15,11 +15,6 @@ usual_names =
     ∷ (codes "s2", 18) ∷ (codes "s3", 19) ∷ (codes "s4", 20) ∷ (codes "s5", 21) ∷ (codes "s6", 22)
     ∷ (codes "s7", 23) ∷ (codes "s8", 24) ∷ (codes "s9", 25) ∷ (codes "s10", 26) ∷ (codes "s11", 27)
     ∷ (codes "t3", 28) ∷ (codes "t4", 29) ∷ (codes "t5", 30) ∷ (codes "t6", 31) ∷ []
-
--- the number beside a name
-abbrev pub look_up : List (List ℕ × ℕ) → List ℕ → Option ℕ
-look_up [] word = None
-look_up (entry ∷ entries) word = if bytes_eq entry.0 word then Some entry.1 else look_up entries word
 
 -- a number that is a register's
 abbrev pub register_only : Option ℕ → Option ℕ

@@ -1,11 +1,13 @@
 //! How a register is spelled.
 #![tactic(auto, unfolding(crate::specs::Registers::register_numbered, crate::specs::Registers::register_padded, crate::specs::Registers::register_of))]
 
-ghost use Rattle.std.specs.Prelude.{◌≡◌, ◌<◌, IfSome, ◌&&◌, map, length, codes, nat_eq, nat_lt};
+ghost use Rattle.std.specs.Prelude.{◌≡◌, ◌<◌, IfSome, ◌&&◌, length, codes, nat_eq, nat_lt};
 ghost use Rattle.std.specs.List.{starts_with};
-ghost use Rattle.rv_text.specs.Registers.{look_up, usual_names, register_numbered, register_padded, register_of};
+ghost use Rattle.rv_text.specs.Registers.{usual_names, register_numbered, register_padded, register_of};
+ghost use Rattle.rv_text.specs.Tables.{look_up};
 
 use crate::numbers::numeral;
+use crate::tables::look_up;
 
 /// The registers' names in the calling convention.
 const USUAL_NAMES: [(&[u8], u8); 33] = [
@@ -43,18 +45,6 @@ const USUAL_NAMES: [(&[u8], u8); 33] = [
     (b"t5", 30),
     (b"t6", 31),
 ];
-
-fn look_up(mut table: &[(&[u8], u8)], word: &[u8]) -> Option<u8>
-    ensures { result ≡ look_up (map (λ entry. (entry.0.now, entry.1)) table.entry.now) word.now }
-{
-    while let [entry, rest @ ..] = table {
-        if entry.0 == word {
-            return Some(entry.1);
-        }
-        table = rest;
-    }
-    None
-}
 
 #[tactic(auto, using(crate::proofs::Spellings::registers))]
 fn usual_register(word: &[u8]) -> Option<u8>

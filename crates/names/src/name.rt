@@ -1,10 +1,10 @@
-//! A word of a layout file.
+//! A name.
 
 ghost use Rattle.std.specs.Prelude.{◌≡◌, string_bytes};
 
 use std::marker::Model;
 
-/// A word of a layout file that is told in an error: made from a `String`, and lending it.
+/// A name, as that of a label or of a key: made from a `String`, and lending it.
 #[derive(Drop)]
 pub struct Name {
     text: String,
@@ -15,11 +15,11 @@ impl Model for Name {
 
     ghost Value = { List ℕ };
 
-    ghost view = { λ n. string_bytes n.text };
+    ghost view = { λ name. string_bytes name.text };
 }
 
 impl Name {
-    /// The word of this text.
+    /// The name that a text is.
     pub fn new(text: String) -> Name
         ensures { result ≡ string_bytes text }
     {

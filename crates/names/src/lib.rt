@@ -1,0 +1,6 @@
+//! Names: texts that are seen as their bytes.
+#![tactic(auto)]
+
+mod name;
+
+pub use name::Name;

@@ -1,0 +1,17 @@
+//! Tables of words.
+
+ghost use Rattle.std.specs.Prelude.{◌≡◌, map};
+ghost use Rattle.rv_text.specs.Tables.{look_up};
+
+/// What stands beside the word in the table: the first, where the word stands there more than once.
+pub fn look_up<T: Copy>(mut table: &[(&[u8], T)], word: &[u8]) -> Option<T>
+    ensures { result ≡ look_up (map (λ entry. (entry.0.now, entry.1)) table.entry.now) word.now }
+{
+    while let [entry, rest @ ..] = table {
+        if entry.0 == word {
+            return Some(entry.1);
+        }
+        table = rest;
+    }
+    None
+}
