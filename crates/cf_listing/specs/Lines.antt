@@ -1,11 +1,12 @@
 -- The lines of a listing: the words of a program with their addresses, their instructions and the labels in front of them (a format of this project, with the instructions as in the RISC-V Assembly Programmer's Manual).
-use Rattle.std.specs.Prelude.{◌≡◌, ◌≤◌, ℕ, ◌+◌, ◌-◌, ◌%◌, ◌^◌, ◌==◌, ◌&&◌, not, nat_le, List, [], ◌∷◌, ◌++◌, codes, length, take, drop, Option, Some, None, if◌then◌else◌, Bool}
+use Rattle.std.specs.Prelude.{◌≡◌, ◌≤◌, ℕ, ◌+◌, ◌-◌, ◌%◌, ◌^◌, ◌==◌, ◌&&◌, not, nat_le, List, [], ◌∷◌, ◌++◌, codes, length, take, drop, Option, Some, None, if◌then◌else◌, Bool, map}
 use Rattle.std.specs.List.{flat_map}
 use Rattle.std.specs.Int.{w32, from_le_bytes}
 use Rattle.rv_inst.specs.declared.instruction.Instr.{Instr}
 use Rattle.rv_inst.specs.Decoding.{decoded_m}
 use Rattle.rv_text.specs.Writing.{text_of}
-use Rattle.elf_view.specs.Symbols.{NamedSymbol}
+use Rattle.elf_view.specs.Symbols.{NamedSymbol, shown_lazy}
+use Rattle.elf_view.specs.declared.symbols.LazySymbol.{LazySymbol}
 use Rattle.digits.specs.Hexadecimal.{hex8}
 use Rattle.cf_texts.specs.Texts.{newline, line}
 
@@ -42,6 +43,10 @@ abbrev pub lines_from : List NamedSymbol → ℕ → List ℕ → List ℕ
 lines_from symbols pc [] = []
 lines_from symbols pc (byte ∷ bytes) =
     lines_at symbols pc (byte ∷ bytes) ++ lines_from symbols ((pc + 1) % 2 ^ 32) bytes
+
+-- the same with the labels of symbols whose names are looked for as they are put
+abbrev pub labelled_lines : List LazySymbol → ℕ → List ℕ → List ℕ
+labelled_lines symbols pc bytes = lines_from (map shown_lazy symbols) pc bytes
 
 -- how many bytes stand before the next address that 4 divides
 abbrev pub skipped : ℕ → ℕ

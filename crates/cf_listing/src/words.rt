@@ -7,7 +7,7 @@ ghost use Rattle.cf_io.specs.Puts.{Writes, WritesFront};
 ghost use Rattle.digits.specs.Hexadecimal.{hex8};
 ghost use Rattle.elf_view.specs.Symbols.{shown_lazy};
 ghost use Rattle.cf_listing.specs.Labels.{Ascend};
-ghost use Rattle.cf_listing.specs.Lines.{word_line, label_lines, lines_from, skipped, IsFirstWord};
+ghost use Rattle.cf_listing.specs.Lines.{word_line, label_lines, labelled_lines, skipped, IsFirstWord};
 
 use crate::labels::put_labels;
 use crate::texts::put_three;
@@ -104,10 +104,8 @@ fn put_aligned<K: Sink>(
 ) -> Result<(), Failed>
     requires aligned { start % 4 ≡ 0 }
     requires ascend { Ascend symbols.now }
-    ensures ok { OnOk result (Writes (K.written out.old) (K.written out.new)
-        (lines_from (map shown_lazy symbols.now) start bytes.now)) }
-    ensures err { OnErr result (WritesFront (K.written out.old) (K.written out.new)
-        (lines_from (map shown_lazy symbols.now) start bytes.now)) }
+    ensures ok { OnOk result (Writes (K.written out.old) (K.written out.new) (labelled_lines symbols.now start bytes.now)) }
+    ensures err { OnErr result (WritesFront (K.written out.old) (K.written out.new) (labelled_lines symbols.now start bytes.now)) }
     ensures cause { HasCause (K.faults out.old) (K.faults out.new) result }
 {
     let mut pc = start;
@@ -129,10 +127,8 @@ pub fn put_words<K: Sink>(
     out: &mut K,
 ) -> Result<(), Failed>
     requires { Ascend symbols.now }
-    ensures ok { OnOk result (Writes (K.written out.old) (K.written out.new)
-        (lines_from (map shown_lazy symbols.now) start bytes.now)) }
-    ensures err { OnErr result (WritesFront (K.written out.old) (K.written out.new)
-        (lines_from (map shown_lazy symbols.now) start bytes.now)) }
+    ensures ok { OnOk result (Writes (K.written out.old) (K.written out.new) (labelled_lines symbols.now start bytes.now)) }
+    ensures err { OnErr result (WritesFront (K.written out.old) (K.written out.new) (labelled_lines symbols.now start bytes.now)) }
     ensures cause { HasCause (K.faults out.old) (K.faults out.new) result }
 {
     let (pc, rest) = aligned(start, bytes);
