@@ -17,7 +17,7 @@ use crate::first_line::recorded_move;
 use cf_core::Core;
 use cf_io::{Nowhere, Source};
 use cf_report::Tally;
-use cf_run::{Ran, Show, known, make};
+use cf_run::{Ran, Show, known, make_and_show};
 use cf_scripts::MOST_SCRIPT;
 
 /// The greatest length of a trace, in bytes: that of a script.
@@ -108,7 +108,7 @@ fn advance<S: Source>(
     if let Some(bar) = core.allowed(mv) {
         return Some(wrong(trace, report.agreed(), TraceKind::Barred(bar)));
     }
-    match make(core, mv, Show::Moves, input, &mut Nowhere, report, tally) {
+    match make_and_show(core, mv, Show::Moves, input, &mut Nowhere, report, tally) {
         Ok(_) => compared(trace, report),
         Err(Ran::ReportFault) => compared(trace, report),
         Err(Ran::ReadFault) => Some(Audit::ReadFault),

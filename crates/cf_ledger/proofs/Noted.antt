@@ -2,6 +2,7 @@
 use Rattle.std.proofs.Common.{◌≡◌, ◌≢◌, ◌∙◌, refl, sym, ap, subst, ℕ, suc, ◌≤◌, List, [], ◌∷◌, ◌++◌, length, Some, None, arith, append-nil}
 use Rattle.std.specs.Prelude.{slice_get}
 use Rattle.std.specs.List.{AllByRecursion}
+use Rattle.cf_asked.specs.Limits.{most_limit}
 use Rattle.cf_asked.specs.declared.show.Show.TheVariants as show
 use Rattle.rv_machine.specs.Streams.{Streams}
 use Rattle.cf_layout.specs.Layout.{Plan}
@@ -120,7 +121,7 @@ moves-are plan delays limit begin new later answer none r =
     r.runs.made ∙ ap (λ (l : List Move). moves_of r.runs.reaches.trace ++ l) (none-last watched_pick behind_watched limit r.runs.at r.runs.now new later answer r.runs.stops none) ∙ append-nil (moves_of r.runs.reaches.trace)
 
 -- so the ledger tells what their time is made of
-run-told : (delays : List ℕ) (limit : ℕ) (begin new : Place) (later : Watched) (answer : Answer) → IsAccepted begin.core.plan → length begin.core.state.regs ≡ 32 → IsOpened begin.core → AreDelays delays → limit ≤ 1000000000 → begin.core.state.retired ≤ limit → answer ≢ ran.ReportFault
+run-told : (delays : List ℕ) (limit : ℕ) (begin new : Place) (later : Watched) (answer : Answer) → IsAccepted begin.core.plan → length begin.core.state.regs ≡ 32 → IsOpened begin.core → AreDelays delays → limit ≤ most_limit → begin.core.state.retired ≤ limit → answer ≢ ran.ReportFault
     → (r : RunsRight watched_pick behind_watched limit show.Report begin new (first_watched begin.core.plan delays) later answer) → told_by (ledger_behind later answer) ≡ breakdown begin.core.plan delays r.moves
 run-told delays limit begin new later answer acc wide o few small within none r =
     let plan : Plan = begin.core.plan in
@@ -152,7 +153,7 @@ right-timed plan delays limit begin new later answer none r =
           ∙ sym (ap (λ (l : List Move). moves_of r.runs.reaches.trace ++ l) (none-last pending_pick behind_pick limit (timing r.runs.at) r.runs.now new later.pending answer stops none) ∙ append-nil (moves_of r.runs.reaches.trace));
     }
 
-pub runs-noted : (delays : List ℕ) (limit : ℕ) (core new : Processor) (before after : Streams) (tally : Tally) (first later : Watched) (answer : Answer) (timed : Timed) (clock : SiteTimes) (ledger : Ledger) → IsAccepted core.plan → length core.state.regs ≡ 32 → IsOpened core → AreDelays delays → limit ≤ 1000000000 → core.state.retired ≤ limit → answer ≢ ran.ReportFault
+pub runs-noted : (delays : List ℕ) (limit : ℕ) (core new : Processor) (before after : Streams) (tally : Tally) (first later : Watched) (answer : Answer) (timed : Timed) (clock : SiteTimes) (ledger : Ledger) → IsAccepted core.plan → length core.state.regs ≡ 32 → IsOpened core → AreDelays delays → limit ≤ most_limit → core.state.retired ≤ limit → answer ≢ ran.ReportFault
     → first ≡ first_watched core.plan delays → RunsRight watched_pick behind_watched limit show.Report (begins core before) (place_of new after None tally) first later answer → EndsSequentially limit (begins core before) (place_of new after None tally) (Ran answer)
     → answer_of timed ≡ answer → clock ≡ clock_behind later.pending answer → ledger ≡ ledger_behind later answer → RunsNoted delays limit (begins core before) new after clock ledger tally.moves timed
 runs-noted delays limit core new before after tally first later answer timed clock ledger acc wide o few small within none fresh_is right ends e clock_is ledger_is =

@@ -1,12 +1,9 @@
 //! The timed run of which a ledger is kept.
 
-ghost use Rattle.std.specs.Prelude.{◌≡◌, ◌-◌, ◌≤◌, Some};
-ghost use Rattle.cf_asked.specs.Limits.{most_limit};
-ghost use Rattle.cf_io.specs.Causes.{HasCause};
+ghost use Rattle.std.specs.Prelude.{◌≡◌, ◌-◌, ◌≤◌};
 ghost use Rattle.rv_machine.specs.Streams.{streams_of};
-ghost use Rattle.cf_run.specs.Policies.{IsOpened, input_stopped, most_moves, output_stopped};
-ghost use Rattle.cf_timed.specs.Clocks.{started};
-ghost use Rattle.cf_timed.specs.TimedRuns.{answer_of, begins};
+ghost use Rattle.cf_run.specs.Policies.{most_moves};
+ghost use Rattle.cf_timed.specs.TimedRuns.{CanBegin, HasCauses, answer_of, begins};
 ghost use Rattle.cf_ledger.specs.Ledgers.{opened};
 ghost use Rattle.cf_ledger.specs.NotedRuns.{RunsNoted};
 
@@ -30,18 +27,13 @@ pub fn run_noted<S: Source, K: Sink>(
     output: &mut K,
     moves: &mut u64,
 ) -> Timed
-    requires limit { limit ≤ most_limit }
-    requires retired { core.old.state.retired ≤ limit }
-    requires opened { IsOpened core.old }
-    requires clock { clock.old ≡ started core.old.plan clock.old.delays }
     requires ledger { ledger.old ≡ opened core.old.plan clock.old.delays }
-    requires moves { moves.old ≡ 0 }
+    requires begins { CanBegin limit core.old clock.old moves.old }
     ensures run { RunsNoted clock.old.delays limit
         (begins core.old (streams_of (S.left input.old) (K.written output.old)))
         core.new (streams_of (S.left input.new) (K.written output.new)) clock.new ledger.new moves.new result }
     ensures bounded { moves.new ≤ most_moves core.old.plan (core.new.state.retired - core.old.state.retired) }
-    ensures input { HasCause (S.faults input.old) (S.faults input.new) (input_stopped (Some (answer_of result))) }
-    ensures output { HasCause (K.faults output.old) (K.faults output.new) (output_stopped (Some (answer_of result))) }
+    ensures causes { HasCauses (S.faults input.old) (S.faults input.new) (K.faults output.old) (K.faults output.new) (answer_of result) }
 {
     known(core);
     clock.known();

@@ -13,7 +13,7 @@ use crate::round_set::RoundSet;
 use cf_core::{Core, Event};
 use cf_io::{Nowhere, Sink, Source};
 use cf_report::Tally;
-use cf_run::{Ran, Show, make};
+use cf_run::{Ran, Show, make_and_show};
 use cf_sched::Pace;
 
 /// What is seen of a round with one event more.
@@ -58,7 +58,7 @@ pub fn fire<S: Source, K: Sink>(
     let mut fired = Fired::Plain;
     for place in 0..set.len() {
         let mv = set.get(place);
-        match make(core, mv, Show::Report, input, output, &mut Nowhere, tally) {
+        match make_and_show(core, mv, Show::Report, input, output, &mut Nowhere, tally) {
             Ok(event) => {
                 pace.saw(mv, &event, core.drained());
                 fired = with_event(fired, &event);

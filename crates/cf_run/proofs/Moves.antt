@@ -11,13 +11,13 @@ use Rattle.cf_core.specs.Stepping.{MakesOrFails}
 use Rattle.cf_core.specs.declared.fault.Fault.TheVariants as fault
 use Rattle.cf_report.specs.declared.tally.Tally.{Tally}
 use Rattle.cf_report.specs.Putting.{PutsText}
+use Rattle.cf_run.specs.declared.answer.Ran.{Ran as Answer}
 use Rattle.cf_run.specs.declared.answer.Ran.TheVariants as ran
-use Rattle.cf_run.specs.declared.answer.Scripted.{Scripted}
-use Rattle.cf_run.specs.declared.answer.Scripted.TheVariants.{Ran, ScriptEnd, BadScript, BarredAt}
+use Rattle.cf_run.specs.declared.answer.Scripted.TheVariants.{Ran}
 use Rattle.cf_run.specs.Made.{counted, shown}
 use Rattle.cf_run.specs.Moving.{Place, place_of, MakesOne, MakesAndShows, MakesUnshown, Does}
 use Rattle.cf_run.specs.Reaching.{GoesOn}
-use Rattle.cf_run.specs.Scripts.{Stand, DoesLine, Stops, Turns}
+use Rattle.cf_run.specs.Scripts.{Stand, DoesLine, Stops, Tries}
 use Rattle.cf_scripts.specs.Scripts.{next_of, behind_next}
 
 -- the move was made and counted
@@ -53,16 +53,17 @@ pub does-write_fault : (show : Show) (mv : Move) (old new : Processor) (before a
 unfolding MakesOrFails Does
 does-write_fault show mv old new before after report tally free h = (record { allowed = free; serves = h.0; report = refl; tally = refl }, h.1)
 
--- a turn whose move does this
-pub turned : (limit : ℕ) (show : Show) (now new : Stand) (line : ℕ) (mv : Move) (answer : Option Scripted) → GoesOn limit now.place.core.state → next_of now.script ≡ Ok (Some (line, mv)) → new.script ≡ behind_next now.script → DoesLine show line mv now.place new.place answer → Turns limit show now new answer
+-- a turn whose move is made
+pub turned-made : (limit : ℕ) (show : Show) (now new : Stand) (line : ℕ) (mv : Move) (event : Event) → GoesOn limit now.place.core.state → next_of now.script ≡ Ok (Some (line, mv)) → new.script ≡ behind_next now.script → Does show mv now.place new.place (Ok event) → Tries limit show now new None
+unfolding DoesLine
+turned-made limit show now new line mv event goes next left does = record { goes = goes; line = line; move = mv; next = next; script = left; does = (event, does) }
+
+-- and one whose move stops the run
+pub turned-stopped : (limit : ℕ) (show : Show) (now new : Stand) (line : ℕ) (mv : Move) (answer : Answer) → GoesOn limit now.place.core.state → next_of now.script ≡ Ok (Some (line, mv)) → new.script ≡ behind_next now.script → Does show mv now.place new.place (Err answer) → Stops limit show now new (Ran answer)
 unfolding Stops DoesLine Does
-turned limit show now new line mv None goes next left does = record { goes = goes; line = line; move = mv; next = next; script = left; does = does }
-turned limit show now new line mv (Some (BarredAt at bar)) goes next left does = record { goes = goes; line = line; move = mv; next = next; script = left; does = does }
-turned limit show now new line mv (Some (Ran ran.ReadFault)) goes next left does = record { goes = goes; line = line; move = mv; next = next; script = left; does = does }
-turned limit show now new line mv (Some (Ran ran.WriteFault)) goes next left does = record { goes = goes; line = line; move = mv; next = next; script = left; does = does }
-turned limit show now new line mv (Some (Ran ran.ReportFault)) goes next left does = record { goes = goes; line = line; move = mv; next = next; script = left; does = does }
-turned limit show now new line mv (Some (Ran (ran.Exit status))) goes next left does = absurd does
-turned limit show now new line mv (Some (Ran (ran.Trap cause pc detail))) goes next left does = absurd does
-turned limit show now new line mv (Some (Ran ran.Limit)) goes next left does = absurd does
-turned limit show now new line mv (Some ScriptEnd) goes next left does = absurd does
-turned limit show now new line mv (Some (BadScript refusal)) goes next left does = absurd does
+turned-stopped limit show now new line mv ran.ReadFault goes next left does = record { goes = goes; line = line; move = mv; next = next; script = left; does = does }
+turned-stopped limit show now new line mv ran.WriteFault goes next left does = record { goes = goes; line = line; move = mv; next = next; script = left; does = does }
+turned-stopped limit show now new line mv ran.ReportFault goes next left does = record { goes = goes; line = line; move = mv; next = next; script = left; does = does }
+turned-stopped limit show now new line mv (ran.Exit status) goes next left does = absurd does
+turned-stopped limit show now new line mv (ran.Trap cause pc detail) goes next left does = absurd does
+turned-stopped limit show now new line mv ran.Limit goes next left does = absurd does

@@ -8,6 +8,7 @@ use Rattle.cf_bind.specs.declared.moves.Move.TheVariants.{Meet}
 use Rattle.cf_semantics.specs.declared.event.Event.{Event}
 use Rattle.cf_semantics.specs.declared.event.Event.TheVariants as event
 use Rattle.cf_semantics.specs.state.State.{State}
+use Rattle.cf_core.specs.Processors.{Processor}
 use Rattle.cf_report.specs.declared.tally.Tally.{Tally}
 use Rattle.cf_report.specs.Lines.{retired_line, numbered_move}
 use Rattle.cf_report.specs.Picture.{picture}
@@ -80,6 +81,10 @@ shown show.Report plan n made = []
 shown show.Retired plan n made = retirement made.state.retired made.event
 shown show.Moves plan n made =
     numbered_move n made.move ++ retirement made.state.retired made.event ++ picture plan made.state
+
+-- what is shown of the move of this number, with its event, that left the processor so
+abbrev pub shown_behind : Show → Processor → ℕ → Move → Event → List ℕ
+shown_behind show core n mv event = shown show core.plan n (record { move = mv; event = event; state = core.state })
 
 -- what is shown of some moves, the first of which has this number
 unfoldable pub all_shown : Show → Plan → ℕ → List Made → List ℕ

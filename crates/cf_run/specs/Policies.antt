@@ -1,5 +1,6 @@
 -- What the run of a policy does: the moves that it picks from what it is offered, why it stops behind them, and what it leaves ("Counterflow Pipeline Processor Architecture", 1994: any schedule of local actions is a run).
-use Rattle.std.specs.Prelude.{◌≡◌, ◌⊎◌, ℕ, ◌+◌, ◌*◌, List, [], ◌∷◌, ◌++◌, slice_get, drop, Option, Some, None, Result, Ok, Err}
+use Rattle.std.specs.Prelude.{◌≡◌, ◌≤◌, ◌⊎◌, ℕ, ◌+◌, ◌*◌, List, [], ◌∷◌, ◌++◌, slice_get, drop, Option, Some, None, Result, Ok, Err}
+use Rattle.cf_asked.specs.Limits.{most_limit}
 use Rattle.cf_asked.specs.declared.show.Show.{Show}
 use Rattle.rv_machine.specs.Hart.{Hart}
 use Rattle.cf_layout.specs.Layout.{Plan}
@@ -25,6 +26,12 @@ use Rattle.cf_run.specs.Reaching.{Reaches, GoesOn, IsOver}
 pub record IsOpened (core : Processor) : Type 0 where
   pub hart : Hart
   pub is : core ≡ opened core.plan hart
+
+-- a run under a policy may begin: its limit may be asked and is not passed, and the processor was opened and has made no move since
+pub record CanRun (limit : ℕ) (core : Processor) : Type 0 where
+  pub limit_allowed : limit ≤ most_limit
+  pub within : core.state.retired ≤ limit
+  pub is_opened : IsOpened core
 
 -- a policy in a run: what it is, and how many Issue moves the hold rule has counted
 pub record Chooser (P : Type 0) : Type 0 where

@@ -6,7 +6,7 @@ mod counting;
 mod facts;
 mod finished;
 pub mod laws;
-mod moving;
+mod making;
 mod policy;
 mod script;
 mod showing;
@@ -15,7 +15,7 @@ pub use answer::{Ran, Scripted};
 pub use cf_asked::Show;
 pub use facts::known;
 pub use finished::over;
-pub use moving::make;
+pub use making::make_and_show;
 pub use policy::run_policy;
 pub use script::run_script;
 

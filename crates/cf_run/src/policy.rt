@@ -2,7 +2,6 @@
 #![tactic(auto)]
 
 ghost use Rattle.std.specs.Prelude.{◌≡◌, ◌+◌, ◌-◌, ◌<◌, ◌≤◌, ◌^◌, None, Some, false, length, slice_get};
-ghost use Rattle.cf_asked.specs.Limits.{most_limit};
 ghost use Rattle.cf_io.specs.Causes.{HasCause};
 ghost use Rattle.cf_semantics.specs.moves.Holding.{offered};
 ghost use Rattle.cf_core.specs.Asking.{AsksInput, AsksOutput};
@@ -10,13 +9,13 @@ ghost use Rattle.cf_run.specs.declared.answer.Scripted.TheVariants as scripted;
 ghost use Rattle.cf_run.specs.Ending.{EndsSequentially};
 ghost use Rattle.cf_run.specs.Made.{CanCount};
 ghost use Rattle.cf_run.specs.Moving.{place_by};
-ghost use Rattle.cf_run.specs.Policies.{chooser, input_stopped, output_stopped, report_stopped, IsOpened, ChoiceAsks, PolicyTurns, PolicyUnasked, RunsRight, most_moves};
+ghost use Rattle.cf_run.specs.Policies.{chooser, input_stopped, output_stopped, report_stopped, CanRun, ChoiceAsks, PolicyTurns, PolicyUnasked, RunsRight, most_moves};
 ghost use Rattle.cf_run.specs.Reaching.{no_tally};
 
 use crate::answer::Ran;
 use crate::facts::known;
 use crate::finished::over;
-use crate::moving::make;
+use crate::making::make_and_show;
 use cf_asked::Show;
 use cf_bind::Move;
 use cf_core::Core;
@@ -74,7 +73,7 @@ fn advance<P: Policy, S: Source, K: Sink, R: Sink>(
         return Some(ran);
     }
     let mv = choose(core, candidates, policy, pace);
-    match make(core, mv, show, input, output, report, tally) {
+    match make_and_show(core, mv, show, input, output, report, tally) {
         Ok(event) => {
             pace.saw(mv, &event, core.drained());
             None
@@ -104,9 +103,7 @@ pub fn run_policy<P: Policy, S: Source, K: Sink, R: Sink>(
     report: &mut R,
     tally: &mut Tally,
 ) -> Ran
-    requires limit { limit ≤ most_limit }
-    requires retired { core.old.state.retired ≤ limit }
-    requires opened { IsOpened core.old }
+    requires begins { CanRun limit core.old }
     requires tally { tally.old ≡ no_tally }
     ensures run { RunsRight P.picked P.onward limit show
         (place_by S.left K.written R.written core.old input.old output.old report.old tally.old)

@@ -11,53 +11,19 @@ ghost use Rattle.cf_run.specs.Moving.{place_by};
 ghost use Rattle.cf_run.specs.Ending.{EndsSequentially};
 ghost use Rattle.cf_run.specs.Headline.{RunsSequentially};
 ghost use Rattle.cf_run.specs.Reaching.{no_tally};
-ghost use Rattle.cf_run.specs.Scripts.{stand_of, first_moves, DoesLine, RunsScript, Turns, input_scripted, output_scripted, report_scripted};
+ghost use Rattle.cf_run.specs.Scripts.{stand_of, first_moves, RunsScript, Turns, input_scripted, output_scripted, report_scripted};
 
 use crate::answer::Scripted;
 use crate::facts::known;
 use crate::finished::over;
-use crate::moving::make;
+use crate::making::make_and_show;
 use cf_asked::Show;
-use cf_bind::Move;
 use cf_core::Core;
 use cf_io::{Sink, Source};
 use cf_report::Tally;
 use cf_scripts::Script;
 
-/// Makes the move of a line, counts it and shows it; or says why the run stops there.
-#[inline(always)]
-fn make_line<S: Source, K: Sink, R: Sink>(
-    core: &mut Core,
-    line: u32,
-    mv: Move,
-    show: Show,
-    input: &mut S,
-    output: &mut K,
-    report: &mut R,
-    tally: &mut Tally,
-) -> Option<Scripted>
-    requires retired { core.old.state.retired + 1 < 2 ^ 64 }
-    requires counts { CanCount tally.old }
-    ensures does { DoesLine show line mv
-        (place_by S.left K.written R.written core.old input.old output.old report.old tally.old)
-        (place_by S.left K.written R.written core.new input.new output.new report.new tally.new)
-        result }
-    ensures input { HasCause (S.faults input.old) (S.faults input.new) (input_scripted result) }
-    ensures output { HasCause (K.faults output.old) (K.faults output.new) (output_scripted result) }
-    ensures report { HasCause (R.faults report.old) (R.faults report.new) (report_scripted result) }
-    ensures input_asked { (AsksInput core.old mv → ⊥) → input.new ≡ input.old }
-    ensures output_asked { (AsksOutput core.old mv → ⊥) → output.new ≡ output.old }
-{
-    if let Some(bar) = core.allowed(mv) {
-        return Some(Scripted::BarredAt { line, bar });
-    }
-    match make(core, mv, show, input, output, report, tally) {
-        Ok(_) => None,
-        Err(ran) => Some(Scripted::Ran(ran)),
-    }
-}
-
-/// Makes the next move of the script, or says why the run stops.
+/// Makes the next move of the script, counts it and shows it; or says why the run stops.
 #[inline(always)]
 fn advance<S: Source, K: Sink, R: Sink>(
     core: &mut Core,
@@ -88,10 +54,17 @@ fn advance<S: Source, K: Sink, R: Sink>(
     if let Some(ran) = over(core, limit) {
         return Some(Scripted::Ran(ran));
     }
-    match script.next() {
-        Ok(Some((line, mv))) => make_line(core, line, mv, show, input, output, report, tally),
-        Ok(None) => Some(Scripted::ScriptEnd),
-        Err(refusal) => Some(Scripted::BadScript(refusal)),
+    let (line, mv) = match script.next() {
+        Ok(Some(next)) => next,
+        Ok(None) => return Some(Scripted::ScriptEnd),
+        Err(refusal) => return Some(Scripted::BadScript(refusal)),
+    };
+    if let Some(bar) = core.allowed(mv) {
+        return Some(Scripted::BarredAt { line, bar });
+    }
+    match make_and_show(core, mv, show, input, output, report, tally) {
+        Ok(_) => None,
+        Err(ran) => Some(Scripted::Ran(ran)),
     }
 }
 

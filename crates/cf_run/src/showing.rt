@@ -3,13 +3,21 @@
 
 ghost use Rattle.std.specs.Prelude.{◌≡◌};
 ghost use Rattle.cf_report.specs.Putting.{PutsText};
-ghost use Rattle.cf_run.specs.Made.{Made, retirement, shown};
+ghost use Rattle.cf_run.specs.Made.{retirement, shown_behind};
 
 use cf_asked::Show;
 use cf_bind::Move;
 use cf_core::{Core, Event};
 use cf_io::{Failed, Sink};
 use cf_report::{put_move, put_picture, put_retired};
+
+/// A move that was made: how many were made with it, and what is seen of it.
+#[derive(Clone, Copy)]
+struct NumberedMove {
+    number: u64,
+    mv: Move,
+    event: Event,
+}
 
 /// Puts the line of an instruction that retired, the one of this number, if one did.
 fn put_retirement<R: Sink>(n: u64, event: &Event, report: &mut R) -> Result<(), Failed>
@@ -22,28 +30,25 @@ fn put_retirement<R: Sink>(n: u64, event: &Event, report: &mut R) -> Result<(), 
     }
 }
 
-/// Puts the lines that are shown of a move, the `n`th, that left the processor as it is.
+/// Puts the lines that are shown of a move that left the processor as it is.
 // A page is large, and would slow the run down if it were a local of its loop.
 #[inline(never)]
 fn put_lines<R: Sink>(
     core: &Core,
     show: Show,
-    n: u64,
-    mv: Move,
-    event: &Event,
+    made: &NumberedMove,
     report: &mut R,
 ) -> Result<(), Failed>
     ensures { PutsText (R.written report.old) (R.written report.new)
         (R.faults report.old) (R.faults report.new)
-        (shown show core.now.plan n
-        (record { move = mv; event = event.now; state = core.now.state })) result }
+        (shown_behind show core.now made.now.number made.now.mv made.now.event) result }
 {
     match show {
         Show::Report => Ok(()),
-        Show::Retired => put_retirement(core.retired(), event, report),
+        Show::Retired => put_retirement(core.retired(), &made.event, report),
         Show::Moves => {
-            put_move(n, mv, report)?;
-            put_retirement(core.retired(), event, report)?;
+            put_move(made.number, made.mv, report)?;
+            put_retirement(core.retired(), &made.event, report)?;
             put_picture(core, report)
         }
     }
@@ -62,14 +67,17 @@ pub(crate) fn put_shown<R: Sink>(
 ) -> Result<(), Failed>
     ensures { PutsText (R.written report.old) (R.written report.new)
         (R.faults report.old) (R.faults report.new)
-        (shown show core.now.plan n
-        (record { move = mv; event = event.now; state = core.now.state })) result }
+        (shown_behind show core.now n mv event.now) result }
 {
     match show {
         Show::Report => Ok(()),
         Show::Retired | Show::Moves => {
-            let event = *event;
-            put_lines(core, show, n, mv, &event, report)
+            let made = NumberedMove {
+                number: n,
+                mv,
+                event: *event,
+            };
+            put_lines(core, show, &made, report)
         }
     }
 }

@@ -1,6 +1,7 @@
 -- A run by the clock is one of the policy by times, and the clock was told its moves.
 use Rattle.std.proofs.Common.{◌≡◌, ◌≢◌, ◌∙◌, refl, sym, ap, subst, ℕ, ◌+◌, ◌-◌, ◌*◌, ◌^◌, ◌<◌, ◌≤◌, List, [], ◌∷◌, ◌++◌, length, Option, Some, None, arith, append-nil}
 use Rattle.std.specs.Prelude.{slice_get}
+use Rattle.cf_asked.specs.Limits.{most_limit}
 use Rattle.cf_asked.specs.declared.show.Show.TheVariants as show
 use Rattle.cf_layout.specs.Layout.{Plan}
 use Rattle.cf_layout.specs.Accepted.{IsAccepted}
@@ -49,7 +50,7 @@ reached-within limit begin now h within =
     subst (λ (p : Processor). p.state.retired ≤ limit) (sym h.core) l
 
 -- so few moves are made that no time is beyond 64 bits
-pub moves-few : (limit : ℕ) (begin now : Place) (first : Pending) (at : Chooser Pending) → IsAccepted begin.core.plan → length begin.core.state.regs ≡ 32 → IsOpened begin.core → limit ≤ 1000000000 → begin.core.state.retired ≤ limit → (h : Reaches limit show.Report begin now) → Picks pending_pick behind_pick begin.core.plan (fresh first) begin.core.state h.trace at → 1000 * (length h.trace + 1) < 2 ^ 64
+pub moves-few : (limit : ℕ) (begin now : Place) (first : Pending) (at : Chooser Pending) → IsAccepted begin.core.plan → length begin.core.state.regs ≡ 32 → IsOpened begin.core → limit ≤ most_limit → begin.core.state.retired ≤ limit → (h : Reaches limit show.Report begin now) → Picks pending_pick behind_pick begin.core.plan (fresh first) begin.core.state h.trace at → 1000 * (length h.trace + 1) < 2 ^ 64
 unfolding tally_of
 moves-few limit begin now first at acc wide o few within h picks =
     let b = reached-bounded pending_pick behind_pick limit show.Report begin now first at acc wide o h picks in
@@ -115,7 +116,7 @@ pub record IsTimed (Holds : List Move → Type 0) (delays : List ℕ) (limit : �
   pub told_is : Tells begin.core.plan delays (times begin.core.plan delays right.moves) clock
   pub holds : Holds right.moves
 
-pub is-timed : (Holds : List Move → Type 0) (delays : List ℕ) (limit : ℕ) (begin new : Place) (later : Pending) (answer : Answer) → IsAccepted begin.core.plan → length begin.core.state.regs ≡ 32 → IsOpened begin.core → AreDelays delays → limit ≤ 1000000000 → begin.core.state.retired ≤ limit → answer ≢ ran.ReportFault → (r : RunsRight pending_pick behind_pick limit show.Report begin new (record { clock = started begin.core.plan delays; last = None }) later answer) → Holds r.moves → IsTimed Holds delays limit begin new answer (clock_behind later answer)
+pub is-timed : (Holds : List Move → Type 0) (delays : List ℕ) (limit : ℕ) (begin new : Place) (later : Pending) (answer : Answer) → IsAccepted begin.core.plan → length begin.core.state.regs ≡ 32 → IsOpened begin.core → AreDelays delays → limit ≤ most_limit → begin.core.state.retired ≤ limit → answer ≢ ran.ReportFault → (r : RunsRight pending_pick behind_pick limit show.Report begin new (record { clock = started begin.core.plan delays; last = None }) later answer) → Holds r.moves → IsTimed Holds delays limit begin new answer (clock_behind later answer)
 unfolding times
 is-timed Holds delays limit begin new later answer acc wide o few small within none r holds =
     let plan : Plan = begin.core.plan in
@@ -152,7 +153,7 @@ pub record RunsTimedSo (Holds : List Move → Type 0) (delays : List ℕ) (limit
   pub timed : RunsTimed delays limit begin core streams clock moves answer
   pub holds : Holds timed.right.moves
 
-pub runs-timed-so : (Holds : List Move → Type 0) (delays : List ℕ) (limit : ℕ) (core new : Processor) (before after : Streams) (tally : Tally) (later : Pending) (answer : Answer) (timed : Timed) (clock : SiteTimes) → IsAccepted core.plan → length core.state.regs ≡ 32 → IsOpened core → AreDelays delays → limit ≤ 1000000000 → core.state.retired ≤ limit → answer ≢ ran.ReportFault
+pub runs-timed-so : (Holds : List Move → Type 0) (delays : List ℕ) (limit : ℕ) (core new : Processor) (before after : Streams) (tally : Tally) (later : Pending) (answer : Answer) (timed : Timed) (clock : SiteTimes) → IsAccepted core.plan → length core.state.regs ≡ 32 → IsOpened core → AreDelays delays → limit ≤ most_limit → core.state.retired ≤ limit → answer ≢ ran.ReportFault
     → (right : RunsRight pending_pick behind_pick limit show.Report (begins core before) (place_of new after None tally) (record { clock = started core.plan delays; last = None }) later answer) → Holds right.moves → EndsSequentially limit (begins core before) (place_of new after None tally) (Ran answer)
     → answer_of timed ≡ answer → clock ≡ clock_behind later answer → RunsTimedSo Holds delays limit (begins core before) new after clock tally.moves timed
 runs-timed-so Holds delays limit core new before after tally later answer timed clock acc wide o few small within none right holds ends e clock_is =
@@ -171,7 +172,7 @@ runs-timed-so Holds delays limit core new before after tally later answer timed 
         let f : EndsSequentially limit begin there (Ran (answer_of timed)) = subst (λ (a : Answer). EndsSequentially limit begin there (Ran a)) e ends in
         record { timed = record { tally = tally; counted = refl; picked = u.picked; right = u.right; told = u.told_is; ends = f }; holds = u.holds }
 
-pub runs-timed : (delays : List ℕ) (limit : ℕ) (core new : Processor) (before after : Streams) (tally : Tally) (first later : Pending) (answer : Answer) (timed : Timed) (clock : SiteTimes) → IsAccepted core.plan → length core.state.regs ≡ 32 → IsOpened core → AreDelays delays → limit ≤ 1000000000 → core.state.retired ≤ limit → answer ≢ ran.ReportFault → first ≡ record { clock = started core.plan delays; last = None }
+pub runs-timed : (delays : List ℕ) (limit : ℕ) (core new : Processor) (before after : Streams) (tally : Tally) (first later : Pending) (answer : Answer) (timed : Timed) (clock : SiteTimes) → IsAccepted core.plan → length core.state.regs ≡ 32 → IsOpened core → AreDelays delays → limit ≤ most_limit → core.state.retired ≤ limit → answer ≢ ran.ReportFault → first ≡ record { clock = started core.plan delays; last = None }
     → RunsRight pending_pick behind_pick limit show.Report (begins core before) (place_of new after None tally) first later answer → EndsSequentially limit (begins core before) (place_of new after None tally) (Ran answer)
     → answer_of timed ≡ answer → clock ≡ clock_behind later answer → RunsTimed delays limit (begins core before) new after clock tally.moves timed
 runs-timed delays limit core new before after tally first later answer timed clock acc wide o few small within none fresh_is right ends e clock_is =

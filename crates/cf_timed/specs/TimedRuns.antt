@@ -1,6 +1,7 @@
 -- A timed run: the moves that are done first, one after another, and what the clock tells of them.
-use Rattle.std.specs.Prelude.{◌≡◌, ◌≢◌, ℕ, List, [], None}
+use Rattle.std.specs.Prelude.{◌≡◌, ◌≢◌, ℕ, List, [], Some, None}
 use Rattle.cf_asked.specs.declared.show.Show.TheVariants as show
+use Rattle.cf_io.specs.Causes.{HasCause}
 use Rattle.rv_machine.specs.Streams.{Streams}
 use Rattle.cf_bind.specs.declared.moves.Move.{Move}
 use Rattle.cf_core.specs.Processors.{Processor}
@@ -10,11 +11,11 @@ use Rattle.cf_run.specs.declared.answer.Ran.TheVariants as ran
 use Rattle.cf_run.specs.declared.answer.Scripted.TheVariants.{Ran}
 use Rattle.cf_run.specs.Ending.{EndsSequentially}
 use Rattle.cf_run.specs.Moving.{Place, place_of}
-use Rattle.cf_run.specs.Policies.{RunsRight}
+use Rattle.cf_run.specs.Policies.{CanRun, RunsRight, input_stopped, output_stopped}
 use Rattle.cf_run.specs.Reaching.{no_tally}
 use Rattle.cf_timed.specs.declared.answer.Timed.{Timed}
 use Rattle.cf_timed.specs.declared.answer.Timed.TheVariants.{Exit, Trap, Limit, ReadFault, WriteFault}
-use Rattle.cf_timed.specs.Clocks.{SiteTimes, Tells}
+use Rattle.cf_timed.specs.Clocks.{SiteTimes, Tells, started}
 use Rattle.cf_timed.specs.Earliest.{behind_earliest, earliest}
 use Rattle.cf_timed.specs.Times.{Done, times}
 
@@ -25,6 +26,17 @@ answer_of (Trap cause pc detail) = ran.Trap cause pc detail
 answer_of Limit = ran.Limit
 answer_of ReadFault = ran.ReadFault
 answer_of WriteFault = ran.WriteFault
+
+-- a timed run may begin: a run may, and no move was told to the clock or counted
+pub record CanBegin (limit : ℕ) (core : Processor) (clock : SiteTimes) (moves : ℕ) : Type 0 where
+  pub can_run : CanRun limit core
+  pub clock_is : clock ≡ started core.plan clock.delays
+  pub none_made : moves ≡ 0
+
+-- the counts of the faults of the input and of the output, before and after: that of the one that failed the run rose
+pub record HasCauses (input input_after output output_after : ℕ) (answer : Answer) : Type 0 where
+  pub of_input : HasCause input input_after (input_stopped (Some answer))
+  pub of_output : HasCause output output_after (output_stopped (Some answer))
 
 -- where a timed run begins, which reports nothing
 abbrev pub begins : Processor → Streams → Place

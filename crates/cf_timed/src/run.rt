@@ -1,15 +1,12 @@
 //! The timed run.
 
-ghost use Rattle.std.specs.Prelude.{◌≡◌, ◌≢◌, ◌+◌, ◌-◌, ◌<◌, ◌≤◌, ◌^◌, Some, length};
-ghost use Rattle.cf_asked.specs.Limits.{most_limit};
-ghost use Rattle.cf_io.specs.Causes.{HasCause};
+ghost use Rattle.std.specs.Prelude.{◌≡◌, ◌≢◌, ◌+◌, ◌-◌, ◌<◌, ◌≤◌, ◌^◌, length};
 ghost use Rattle.rv_machine.specs.Streams.{streams_of};
 ghost use Rattle.cf_layout.specs.Accepted.{IsAccepted};
 ghost use Rattle.cf_run.specs.declared.answer.Ran.TheVariants as answers;
-ghost use Rattle.cf_run.specs.Policies.{IsOpened, input_stopped, most_moves, output_stopped};
-ghost use Rattle.cf_timed.specs.Clocks.{started};
+ghost use Rattle.cf_run.specs.Policies.{CanRun, most_moves};
 ghost use Rattle.cf_timed.specs.Delays.{AreDelays};
-ghost use Rattle.cf_timed.specs.TimedRuns.{RunsTimed, RunsUnreported, answer_of, begins};
+ghost use Rattle.cf_timed.specs.TimedRuns.{CanBegin, HasCauses, RunsTimed, RunsUnreported, answer_of, begins};
 ghost use Rattle.cf_timed.specs.Timings.{clock_behind};
 
 use crate::answer::Timed;
@@ -34,15 +31,12 @@ pub fn run_unreported<P: Policy, S: Source, K: Sink>(
     output: &mut K,
     moves: &mut u64,
 ) -> Ran
-    requires limit { limit ≤ 1000000000 }
-    requires retired { core.old.state.retired ≤ limit }
-    requires opened { IsOpened core.old }
+    requires begins { CanRun limit core.old }
     ensures run { RunsUnreported P.picked P.onward limit
         (begins core.old (streams_of (S.left input.old) (K.written output.old)))
         core.new (streams_of (S.left input.new) (K.written output.new)) policy.old policy.new moves.new result }
     ensures bounded { moves.new ≤ most_moves core.old.plan (core.new.state.retired - core.old.state.retired) }
-    ensures input { HasCause (S.faults input.old) (S.faults input.new) (input_stopped (Some result)) }
-    ensures output { HasCause (K.faults output.old) (K.faults output.new) (output_stopped (Some result)) }
+    ensures causes { HasCauses (S.faults input.old) (S.faults input.new) (K.faults output.old) (K.faults output.new) result }
 {
     let mut nowhere = Nowhere;
     let mut tally = Tally {
@@ -82,17 +76,12 @@ pub fn run_timed<S: Source, K: Sink>(
     output: &mut K,
     moves: &mut u64,
 ) -> Timed
-    requires limit { limit ≤ most_limit }
-    requires retired { core.old.state.retired ≤ limit }
-    requires opened { IsOpened core.old }
-    requires clock { clock.old ≡ started core.old.plan clock.old.delays }
-    requires moves { moves.old ≡ 0 }
+    requires begins { CanBegin limit core.old clock.old moves.old }
     ensures run { RunsTimed clock.old.delays limit
         (begins core.old (streams_of (S.left input.old) (K.written output.old)))
         core.new (streams_of (S.left input.new) (K.written output.new)) clock.new moves.new result }
     ensures bounded { moves.new ≤ most_moves core.old.plan (core.new.state.retired - core.old.state.retired) }
-    ensures input { HasCause (S.faults input.old) (S.faults input.new) (input_stopped (Some (answer_of result))) }
-    ensures output { HasCause (K.faults output.old) (K.faults output.new) (output_stopped (Some (answer_of result))) }
+    ensures causes { HasCauses (S.faults input.old) (S.faults input.new) (K.faults output.old) (K.faults output.new) (answer_of result) }
 {
     known(core);
     clock.known();

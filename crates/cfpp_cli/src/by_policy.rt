@@ -1,8 +1,7 @@
 //! A run of the processor by a policy.
 
-ghost use Rattle.std.specs.Prelude.{◌≡◌, ◌≤◌, Ok};
-ghost use Rattle.cf_asked.specs.Limits.{most_limit};
-ghost use Rattle.cf_run.specs.Policies.{IsOpened};
+ghost use Rattle.std.specs.Prelude.{◌≡◌, Ok};
+ghost use Rattle.cf_run.specs.Policies.{CanRun};
 ghost use Rattle.cli_files.specs.Causes.{input_answered, output_answered};
 ghost use Rattle.cfpp_cli.specs.Reporting.{ComesOver, Tells, files_reported};
 ghost use Rattle.cfpp_cli.specs.Run.{ByPolicy, RunsCore, BreaksCore};
@@ -27,9 +26,7 @@ pub fn run_by_policy<P: Policy, S: Source, K: Sink, R: Sink>(
     output: &mut K,
     report: &mut R,
 ) -> Result<Reported, Failed>
-    requires limit { limit ≤ most_limit }
-    requires retired { core.old.state.retired ≤ limit }
-    requires opened { IsOpened core.old }
+    requires begins { CanRun limit core.old }
     ensures runs { ComesOver (RunsCore limit show core.old core.new (ByPolicy P.picked P.onward limit show policy.old))
         (BreaksCore limit show core.old (ByPolicy P.picked P.onward limit show policy.old))
         (passage S.left K.written R.written R.faults input.old output.old report.old input.new output.new report.new) result }

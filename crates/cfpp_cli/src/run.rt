@@ -5,7 +5,7 @@ ghost use Rattle.cf_asked.specs.Limits.{most_limit};
 ghost use Rattle.cf_io.specs.Causes.{HasCause};
 ghost use Rattle.cf_words.specs.Views.{layout_of, schedule_view as asked_schedule};
 ghost use Rattle.cf_core.specs.Processors.{opened};
-ghost use Rattle.cf_run.specs.Policies.{IsOpened};
+ghost use Rattle.cf_run.specs.Policies.{CanRun};
 ghost use Rattle.cli_files.specs.Causes.{input_answered, output_answered};
 ghost use Rattle.cli_files.specs.RunFiles.{run_asked};
 ghost use Rattle.cfpp_cli.specs.Reporting.{CarriesOut, ComesOver, Tells, files_reported};
@@ -39,9 +39,7 @@ fn run_scheduled<S: Source, K: Sink, R: Sink>(
     output: &mut K,
     report: &mut R,
 ) -> Result<Reported, Failed>
-    requires limit { limit ≤ most_limit }
-    requires retired { core.old.state.retired ≤ limit }
-    requires opened { IsOpened core.old }
+    requires begins { CanRun limit core.old }
     requires fits { FitsScript (schedule_view schedule.now) }
     ensures runs { ComesOver (RunsCore limit show core.old core.new (chosen_by limit show (schedule_view schedule.now)))
         (BreaksCore limit show core.old (chosen_by limit show (schedule_view schedule.now)))

@@ -1,24 +1,24 @@
 -- What a timed run measures.
-use Rattle.std.proofs.Common.{◌≡◌, ◌∙◌, ◌≤◌, ◌+◌, sym, ap, subst, refl, ℕ, List, [], Some, None, Result, Ok, Err, Bool, true, min, arith}
+use Rattle.std.proofs.Common.{◌≡◌, ◌∙◌, ◌≤◌, sym, ap, subst, refl, ℕ, List, Some, None, Result, Ok, Err, Bool, true, arith}
+use Rattle.cf_asked.specs.Limits.{most_limit}
 use Rattle.cf_io.specs.Causes.{HasCause}
 use Rattle.rv_machine.specs.Hart.{Hart}
-use Rattle.rv_machine.specs.Streams.{Streams}
 use Rattle.cf_layout.specs.Layout.{Plan}
 use Rattle.cf_core.specs.Processors.{Processor, opened}
 use Rattle.cf_run.specs.Ending.{EndsAlike, EndsAsMachine, EndsSequentially}
 use Rattle.cf_run.specs.Moving.{Place, place_of}
-use Rattle.cf_run.specs.Policies.{input_stopped, output_stopped}
 use Rattle.cf_run.specs.declared.answer.Scripted.TheVariants.{Ran}
 use Rattle.cf_timed.specs.declared.answer.Timed.{Timed}
 use Rattle.cf_timed.specs.declared.answer.Timed.TheVariants as timed
 use Rattle.cf_timed.specs.Clocks.{SiteTimes, started}
-use Rattle.cf_timed.specs.TimedRuns.{RunsTimed, answer_of, begins}
+use Rattle.cf_timed.specs.TimedRuns.{CanBegin, HasCauses, RunsTimed, answer_of, begins}
 use Rattle.cf_timed.proofs.Chaining.{longest}
 use Rattle.cf_ledger.specs.Ledgers.{opened as opened_ledger, told_by}
 use Rattle.cf_ledger.specs.NotedRuns.{RunsNoted}
 use Rattle.cf_ledger.specs.declared.breakdown.Breakdown.{Breakdown}
 use Rattle.cf_ledger.specs.declared.ledger.Ledger.{Ledger}
 use Rattle.cf_words.specs.declared.command.TimeOptions.{TimeOptions}
+use Rattle.cli_files.proofs.Opened.{can-run}
 use Rattle.cli_time.specs.Measures.{Measures, Takes, made_of, quiet}
 use Rattle.cli_time.specs.declared.measuring.Measured.{Measured}
 
@@ -29,13 +29,13 @@ never-rises u (Err v) e h = let rose = h.rose in absurd (omega (arith, rose))
 
 -- a run whose input and output cannot fail ends as the sequential machine does
 as-machine : (limit : ℕ) (hart : Hart) (begin new : Place) (answer : Timed) →
-    HasCause 0 0 (input_stopped (Some (answer_of answer))) → HasCause 0 0 (output_stopped (Some (answer_of answer))) →
+    HasCauses 0 0 0 0 (answer_of answer) →
     EndsAlike limit hart begin new (Ran (answer_of answer)) → EndsAsMachine limit hart begin new (answer_of answer)
-as-machine limit hart begin new (timed.Exit status) input output h = h
-as-machine limit hart begin new (timed.Trap cause pc detail) input output h = h
-as-machine limit hart begin new timed.Limit input output h = h
-as-machine limit hart begin new timed.ReadFault input output h = absurd (never-rises tt (Err tt) refl input)
-as-machine limit hart begin new timed.WriteFault input output h = absurd (never-rises tt (Err tt) refl output)
+as-machine limit hart begin new (timed.Exit status) causes h = h
+as-machine limit hart begin new (timed.Trap cause pc detail) causes h = h
+as-machine limit hart begin new timed.Limit causes h = h
+as-machine limit hart begin new timed.ReadFault causes h = absurd (never-rises tt (Err tt) refl causes.of_input)
+as-machine limit hart begin new timed.WriteFault causes h = absurd (never-rises tt (Err tt) refl causes.of_output)
 
 -- so this was taken of an opened processor
 pub takes : (delays : List ℕ) (options : TimeOptions) (core last : Processor) (clock : SiteTimes) (measured : Measured)
@@ -63,14 +63,14 @@ takes-sites delays limit core last clock ledger measured made noted time retired
 -- and so it was measured
 of-opened : (delays : List ℕ) (options : TimeOptions) (plan : Plan) (hart : Hart) (measured : Measured) →
     Takes delays options plan (opened plan hart) measured →
-    HasCause 0 0 (input_stopped (Some (answer_of measured.answer))) → HasCause 0 0 (output_stopped (Some (answer_of measured.answer))) →
+    HasCauses 0 0 0 0 (answer_of measured.answer) →
     Measures delays options plan hart measured
 unfolding EndsSequentially opened
-of-opened delays options plan hart measured taken input output = record {
+of-opened delays options plan hart measured taken causes = record {
   takes = taken;
   longest = rw taken.time_is (longest plan delays taken.runs.right.moves);
   machine = as-machine options.limit hart (begins (opened plan hart) quiet) (place_of taken.last quiet None taken.runs.tally) measured.answer
-      input output (taken.runs.ends plan hart refl);
+      causes (taken.runs.ends plan hart refl);
 }
 
 opened-plan : (core : Processor) (plan : Plan) (hart : Hart) → core ≡ opened plan hart → core.plan ≡ plan
@@ -80,19 +80,19 @@ opened-plan core plan hart is = ap (λ (p : Processor). p.plan) is
 pub measures : (used delays : List ℕ) (options : TimeOptions) (sites : Bool) (core : Processor) (plan : Plan) (hart start : Hart) (measured : Measured) →
     used ≡ delays → options.sites ≡ sites → core ≡ opened plan hart → hart ≡ start →
     Takes used (record { limit = options.limit; sites = sites }) core.plan core measured →
-    HasCause 0 0 (input_stopped (Some (answer_of measured.answer))) → HasCause 0 0 (output_stopped (Some (answer_of measured.answer))) →
+    HasCauses 0 0 0 0 (answer_of measured.answer) →
     Measures delays options plan start measured
-measures used delays options sites core plan hart start measured same shown is begins_on taken input output =
+measures used delays options sites core plan hart start measured same shown is begins_on taken causes =
     subst (λ (h : Hart). Measures delays options plan h measured) begins_on
     (of-opened delays options plan hart measured
     (subst (λ (ds : List ℕ). Takes ds options plan (opened plan hart) measured) same
     (subst (λ (p : Processor). Takes used options plan p measured) is
     (subst (λ (l : Plan). Takes used options l core measured) (opened-plan core plan hart is)
     (subst (λ (b : Bool). Takes used (record { limit = options.limit; sites = b }) core.plan core measured) (sym shown) taken))))
-    input output)
+    causes)
 
 -- the clock is one of the processor's layout that was told no move
-pub clock-started : (core : Processor) (plan : Plan) (hart : Hart) (delays : List ℕ) (clock : SiteTimes) →
+clock-started : (core : Processor) (plan : Plan) (hart : Hart) (delays : List ℕ) (clock : SiteTimes) →
     core ≡ opened plan hart → clock ≡ started plan delays → clock ≡ started core.plan clock.delays
 unfolding opened started
 clock-started core plan hart delays clock is e =
@@ -100,7 +100,13 @@ clock-started core plan hart delays clock is e =
     let d : clock.delays ≡ delays = ap (λ (k : SiteTimes). k.delays) e in
     e ∙ ap (λ (l : Plan). started l delays) (sym p) ∙ ap (started core.plan) (sym d)
 
--- and of the delays
+-- so a timed run may begin
+pub can-begin : (limit : ℕ) (core : Processor) (plan : Plan) (hart : Hart) (delays : List ℕ) (clock : SiteTimes) →
+    limit ≤ most_limit → hart.retired ≡ 0 → core ≡ opened plan hart → clock ≡ started plan delays → CanBegin limit core clock 0
+can-begin limit core plan hart delays clock few none is begun =
+    record { can_run = can-run limit core plan hart few none is; clock_is = clock-started core plan hart delays clock is begun; none_made = refl }
+
+-- and the clock is one of the delays
 pub clock-delays : (plan : Plan) (delays : List ℕ) (clock : SiteTimes) → clock ≡ started plan delays → clock.delays ≡ delays
 unfolding started
 clock-delays plan delays clock e = ap (λ (k : SiteTimes). k.delays) e

@@ -1,12 +1,9 @@
 //! The run of a program on a layout, by which its time is measured.
 
-ghost use Rattle.std.specs.Prelude.{◌≡◌, ◌≤◌, IfOk, Some, false, true};
+ghost use Rattle.std.specs.Prelude.{◌≡◌, ◌≤◌, IfOk, false, true};
 ghost use Rattle.cf_asked.specs.Limits.{most_limit};
-ghost use Rattle.cf_io.specs.Causes.{HasCause};
 ghost use Rattle.cf_ledger.specs.Ledgers.{opened as opened_ledger};
-ghost use Rattle.cf_run.specs.Policies.{IsOpened, input_stopped, output_stopped};
-ghost use Rattle.cf_timed.specs.Clocks.{started};
-ghost use Rattle.cf_timed.specs.TimedRuns.{answer_of};
+ghost use Rattle.cf_timed.specs.TimedRuns.{CanBegin, HasCauses, answer_of};
 ghost use Rattle.cli_files.specs.Image.{IsProgram, opened};
 ghost use Rattle.cli_time.specs.Measures.{Measures, Takes};
 
@@ -56,13 +53,9 @@ fn measurement(
 
 /// Runs an opened processor by a clock that was told no move, and no ledger is kept.
 fn take_time(core: &mut Core, candidates: &mut Candidates, clock: Clock, limit: u64) -> Measured
-    requires limit { limit ≤ most_limit }
-    requires retired { core.old.state.retired ≤ limit }
-    requires opened { IsOpened core.old }
-    requires clock { clock ≡ started core.old.plan clock.delays }
+    requires begins { CanBegin limit core.old clock 0 }
     ensures takes { Takes clock.delays (record { limit = limit; sites = false }) core.old.plan core.old result }
-    ensures input { HasCause 0 0 (input_stopped (Some (answer_of result.answer))) }
-    ensures output { HasCause 0 0 (output_stopped (Some (answer_of result.answer))) }
+    ensures causes { HasCauses 0 0 0 0 (answer_of result.answer) }
 {
     let mut clock = clock;
     let mut moves = 0;
@@ -86,14 +79,10 @@ fn take_sites(
     ledger: Ledger,
     limit: u64,
 ) -> Measured
-    requires limit { limit ≤ most_limit }
-    requires retired { core.old.state.retired ≤ limit }
-    requires opened { IsOpened core.old }
-    requires clock { clock ≡ started core.old.plan clock.delays }
+    requires begins { CanBegin limit core.old clock 0 }
     requires ledger { ledger ≡ opened_ledger core.old.plan clock.delays }
     ensures takes { Takes clock.delays (record { limit = limit; sites = true }) core.old.plan core.old result }
-    ensures input { HasCause 0 0 (input_stopped (Some (answer_of result.answer))) }
-    ensures output { HasCause 0 0 (output_stopped (Some (answer_of result.answer))) }
+    ensures causes { HasCauses 0 0 0 0 (answer_of result.answer) }
 {
     let mut clock = clock;
     let mut ledger = ledger;

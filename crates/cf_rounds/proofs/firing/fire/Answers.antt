@@ -11,8 +11,8 @@ loop-place-init g c = record {
   output = refl;
 }
 
-pub make-requires-clause-allowed : goal.make-requires-clause-allowed
-make-requires-clause-allowed g c = fired-allowed _ _ _ _ _ _ _ _ _ c.loop-place.invariant.fired c.get-mv.ensures
+pub make_and_show-requires-clause-allowed : goal.make_and_show-requires-clause-allowed
+make_and_show-requires-clause-allowed g c = fired-allowed _ _ _ _ _ _ _ _ _ c.loop-place.invariant.fired c.get-mv.ensures
 
 pub returns-in-Err-ReadFault-clause-fires : goal.returns-in-Err-ReadFault-clause-fires
 returns-in-Err-ReadFault-clause-fires g c =

@@ -13,18 +13,18 @@ loop-ran-init g c = record {
   stages = c.new-pace.ensures.0 ∙ c.stages.ensures.stages ∙ ap (λ (plan : Plan). plan.stages) c.layout.ensures.layout;
   input_asked = λ unasked. refl;
   output_asked = λ unasked. refl;
-  within = c.requires.retired;
+  within = c.requires.begins.within;
   input = refl;
   output = refl;
   report = refl;
 }
 
 pub advance-end-requires-clause-some : goal.advance-end-requires-clause-some
-advance-end-requires-clause-some g c = comes-offered _ _ _ _ _ _ _ _ _ c.known.ensures.accepted c.known.ensures.registers c.requires.opened c.loop-ran.invariant.comes
+advance-end-requires-clause-some g c = comes-offered _ _ _ _ _ _ _ _ _ c.known.ensures.accepted c.known.ensures.registers c.requires.begins.is_opened c.loop-ran.invariant.comes
 
 pub advance-end-requires-clause-counts : goal.advance-end-requires-clause-counts
 advance-end-requires-clause-counts g c =
-    let few = comes-counted _ _ _ _ _ _ _ _ _ c.known.ensures.accepted c.known.ensures.registers c.requires.opened c.loop-ran.invariant.comes c.loop-ran.invariant.within c.requires.limit in
+    let few = comes-counted _ _ _ _ _ _ _ _ _ c.known.ensures.accepted c.known.ensures.registers c.requires.begins.is_opened c.loop-ran.invariant.comes c.loop-ran.invariant.within c.requires.begins.limit_allowed in
     can-count _ _ _ _ c.loop-ran.invariant.comes.reached (omega (arith, few))
 
 pub returns-in-Some-clause-run : goal.returns-in-Some-clause-run
@@ -34,7 +34,7 @@ returns-in-Some-clause-run g c =
 
 pub returns-in-Some-clause-bounded : goal.returns-in-Some-clause-bounded
 returns-in-Some-clause-bounded g c =
-    policy-bounded _ _ _ _ _ _ _ _ _ _ c.known.ensures.accepted c.known.ensures.registers c.requires.opened
+    policy-bounded _ _ _ _ _ _ _ _ _ _ c.known.ensures.accepted c.known.ensures.registers c.requires.begins.is_opened
     (comes-runs _ _ _ _ _ _ _ _ _ _ _ _ c.loop-ran.invariant.comes c.in-Some.ensures.turns)
 
 pub returns-in-Some-clause-asked : goal.returns-in-Some-clause-asked
@@ -43,7 +43,7 @@ returns-in-Some-clause-asked g c =
     c.loop-ran.invariant.input_asked c.in-Some.ensures.input_asked c.loop-ran.invariant.output_asked c.in-Some.ensures.output_asked
 
 pub loop-ran-smaller : goal.loop-ran-smaller
-loop-ran-smaller g c = comes-nearer _ _ _ _ _ _ _ _ _ _ _ c.known.ensures.accepted c.known.ensures.registers c.requires.opened c.loop-ran.invariant.comes c.in_default.ensures.turns
+loop-ran-smaller g c = comes-nearer _ _ _ _ _ _ _ _ _ _ _ c.known.ensures.accepted c.known.ensures.registers c.requires.begins.is_opened c.loop-ran.invariant.comes c.in_default.ensures.turns
 
 pub loop-ran-preserved : goal.loop-ran-preserved
 loop-ran-preserved g c = record {

@@ -2,12 +2,12 @@ use Rattle.std.proofs.Common.{refl}
 use Rattle.rv_machine.specs.Streams.{streams_of}
 use Rattle.cli_files.specs.Outside.{report_of}
 use Rattle.cli_files.specs.Schedules.{schedule_view}
-use Rattle.cli_files.proofs.Opened.{newly-opened}
+use Rattle.cli_files.proofs.Opened.{can-run}
 use Rattle.cfpp_cli.proofs.Machines.{opened-comes, unopened-comes}
 use Rattle.cfpp_cli.proofs.run.run_ready.Goals as goal
 
-pub run_scheduled-requires-clause-opened : goal.run_scheduled-requires-clause-opened
-run_scheduled-requires-clause-opened g c = newly-opened _ _ _ c.in-Ok-new.ensures
+pub run_scheduled-requires-clause-begins : goal.run_scheduled-requires-clause-begins
+run_scheduled-requires-clause-begins g c = can-run _ _ _ _ c.requires.limit c.requires.count c.in-Ok-new.ensures
 
 pub returns-in-Err-clause-comes : goal.returns-in-Err-clause-comes
 returns-in-Err-clause-comes g c =

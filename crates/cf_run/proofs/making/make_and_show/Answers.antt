@@ -1,6 +1,6 @@
 use Rattle.cf_run.specs.Moving.{Does}
 use Rattle.cf_run.proofs.Moves.{made-shown, made-unshown, does-read_fault, does-write_fault}
-use Rattle.cf_run.proofs.moving.make.Goals as goal
+use Rattle.cf_run.proofs.making.make_and_show.Goals as goal
 
 pub returns-in-Ok-put_shown-clause-does : goal.returns-in-Ok-put_shown-clause-does
 unfolding Does

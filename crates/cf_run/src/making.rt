@@ -19,7 +19,7 @@ use cf_report::Tally;
 
 /// Makes an allowed move, counts it and shows it, and tells what is seen of it; or says why the run stops there.
 #[inline(always)]
-pub fn make<S: Source, K: Sink, R: Sink>(
+pub fn make_and_show<S: Source, K: Sink, R: Sink>(
     core: &mut Core,
     mv: Move,
     show: Show,
