@@ -1,6 +1,10 @@
--- The limit of a run, which is a number of retired instructions.
+-- The limits of what can be asked.
 use Rattle.std.specs.Prelude.{ℕ}
 
--- the greatest one
+-- the greatest limit of a run, which is a number of retired instructions
 abbrev pub most_limit : ℕ
 most_limit = 1000000000
+
+-- the greatest number of statements of a drawn program
+abbrev pub most_statements : ℕ
+most_statements = 30000

@@ -2,6 +2,7 @@
 #![tactic(auto, unfolding(crate::specs::Program::load_line, crate::specs::Program::opening_text, crate::specs::Program::drawn_statement, crate::specs::Program::closing_text))]
 
 ghost use Rattle.std.specs.Prelude.{◌≡◌, ◌+◌, ◌≤◌, ◌++◌, OnOk, OnErr, codes, decimal, length};
+ghost use Rattle.cf_asked.specs.Limits.{most_statements};
 ghost use Rattle.cf_io.specs.Causes.{HasCause};
 ghost use Rattle.cf_io.specs.Puts.{Writes, WritesFront};
 ghost use Rattle.cf_gen.specs.Draws.{state_after};
@@ -89,7 +90,7 @@ fn opening(draws: &mut Draws) -> Page
 /// The statement with number `i` of so many, behind its label.
 fn statement(number: u32, i: u32, draws: &mut Draws) -> Page
     requires within { i ≤ number }
-    requires limit { number ≤ 30000 }
+    requires limit { number ≤ most_statements }
     ensures text { result ≡ drawn_statement number i draws.old }
     ensures state { draws.new ≡ state_after 5 draws.old }
 {
@@ -104,7 +105,7 @@ fn statement(number: u32, i: u32, draws: &mut Draws) -> Page
 /// The lines behind the statements.
 #[tactic(auto, unfolding(crate::specs::Program::closing_text, crate::specs::Program::ending_text))]
 fn closing(number: u32) -> Page
-    requires { number ≤ 30000 }
+    requires { number ≤ most_statements }
     ensures { result ≡ closing_text number }
 {
     let mut page = Page::new();
@@ -119,7 +120,7 @@ fn closing(number: u32) -> Page
 #[tactic(auto, using(cf_io::proofs::Owing::owes), unfolding(crate::specs::Program::program_text))]
 pub fn generate<K: Sink>(number: u32, out: &mut K) -> Result<(), Failed>
     requires some { 1 ≤ number }
-    requires limit { number ≤ 30000 }
+    requires limit { number ≤ most_statements }
     ensures ok { OnOk result (Writes (K.written out.old) (K.written out.new) (program_text number)) }
     ensures err { OnErr result (WritesFront (K.written out.old) (K.written out.new) (program_text number)) }
     ensures cause { HasCause (K.faults out.old) (K.faults out.new) result }

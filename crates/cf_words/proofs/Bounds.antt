@@ -5,10 +5,10 @@ use Rattle.std.specs.List.{list_all}
 use Rattle.std.specs.Str.Parse.{digits_value}
 use Rattle.std.proofs.lemmas.Bool.Decides.{nat_tests}
 use Rattle.std.proofs.lemmas.List.{length-map}
-use Rattle.cf_asked.specs.Limits.{most_limit}
+use Rattle.cf_asked.specs.Limits.{most_limit, most_statements}
 use Rattle.cf_words.specs.declared.names.Name.{Name}
 use Rattle.cf_words.specs.declared.names.Name.TheVariants as names
-use Rattle.cf_words.specs.Values.{most_statements, count_in, is_number}
+use Rattle.cf_words.specs.Values.{count_in, is_number}
 use Rattle.cf_words.specs.Commands.{most}
 use Rattle.cf_words.specs.Options.{takes, Setting, limit_to, show_lines, show_sites, script_from, seed_from, with_mul, with_run, Schedule, Given, given_in}
 use Rattle.cf_words.specs.Words.{Asked, gen, moves, layout_in, limit_of, asked_by, IsBounded, Asks}

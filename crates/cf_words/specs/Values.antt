@@ -2,6 +2,7 @@
 use Rattle.std.specs.Prelude.{ℕ, List, [], ◌∷◌, codes, length, nat_eq, nat_le, Bool, false, not, ◌&&◌, Option, Some, None, if◌then◌else◌}
 use Rattle.std.specs.List.{starts_with, list_all}
 use Rattle.std.specs.Str.Parse.{digits_value}
+use Rattle.cf_asked.specs.Limits.{most_statements}
 
 -- a word that may name a file: it is not empty and does not begin as an option does
 abbrev pub is_file_name : List ℕ → Bool
@@ -20,11 +21,7 @@ is_numeral word = nat_le 1 (length word) && nat_le (length word) 10 && list_all 
 abbrev pub is_number : ℕ → List ℕ → Bool
 is_number most word = is_numeral word && nat_le (digits_value 10 word) most
 
--- the greatest number of statements of a drawn program
-abbrev pub most_statements : ℕ
-most_statements = 30000
-
--- the number of statements that a word writes, from 1 to that
+-- the number of statements that a word writes, from 1 to the greatest
 unfoldable pub count_in : List ℕ → Option ℕ
 count_in word =
     if is_number most_statements word && nat_le 1 (digits_value 10 word) then Some (digits_value 10 word)

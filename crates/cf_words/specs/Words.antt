@@ -3,12 +3,12 @@ use Rattle.std.specs.Prelude.{◌≡◌, ◌≤◌, ◌+◌, ℕ, List, [], ◌�
 use Rattle.std.specs.List.{list_all}
 use Rattle.std.specs.Option.{unwrap_or}
 use lib.Pointwise.{pointwise}
-use Rattle.cf_asked.specs.Limits.{most_limit}
+use Rattle.cf_asked.specs.Limits.{most_limit, most_statements}
 use Rattle.cf_asked.specs.declared.show.Show.{Show}
 use Rattle.cf_asked.specs.declared.show.Show.TheVariants as shows
 use Rattle.cf_words.specs.declared.names.Name.{Name}
 use Rattle.cf_words.specs.declared.names.Name.TheVariants as names
-use Rattle.cf_words.specs.Values.{most_statements, count_in}
+use Rattle.cf_words.specs.Values.{count_in}
 use Rattle.cf_words.specs.Commands.{word_of, fewest, most, is_positional}
 use Rattle.cf_words.specs.Options.{Setting, written, takes, default_limit, NoneTwice, Schedule, by_rule, Given, given_in}
 

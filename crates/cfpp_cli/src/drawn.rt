@@ -1,6 +1,7 @@
 //! The command `gen`.
 
 ghost use Rattle.std.specs.Prelude.{◌≡◌, ◌≤◌, Ok, IfOk, IfErr};
+ghost use Rattle.cf_asked.specs.Limits.{most_statements};
 ghost use Rattle.cf_io.specs.Causes.{HasCause};
 ghost use Rattle.cf_gen.specs.Program.{program_text};
 ghost use Rattle.cli_files.specs.Causes.{files_answered, input_answered, output_answered};
@@ -27,7 +28,7 @@ const MOST_TEXT: usize = 1_048_576;
 /// Carries out `gen` without `--run`: puts the text of the program that is drawn from a number to the output.
 pub fn put_drawn<K: Sink>(number: u32, output: &mut K) -> Answer
     requires some { 1 ≤ number }
-    requires limit { number ≤ 30000 }
+    requires limit { number ≤ most_statements }
     ensures comes { PutsOrFails (program_text number) (K.written output.old) (K.written output.new) result.status result.closing }
     ensures files { files_answered result.status ≡ Ok tt }
     ensures input { input_answered result.status ≡ Ok tt }
@@ -42,7 +43,7 @@ pub fn put_drawn<K: Sink>(number: u32, output: &mut K) -> Answer
 /// The text of that program, or the answer where there is no memory for it.
 fn drawn_text(alloc: Global, number: u32) -> Result<MemSink, Answer>
     requires some { 1 ≤ number }
-    requires limit { number ≤ 30000 }
+    requires limit { number ≤ most_statements }
     ensures text { IfOk result (λ sink. sink.written ≡ program_text number) }
     ensures lacks { IfErr result (λ answer. IsUndrawn number answer.status answer.closing) }
 {
@@ -58,7 +59,7 @@ fn drawn_text(alloc: Global, number: u32) -> Result<MemSink, Answer>
 /// The machine that the program starts, or the answer where it starts none.
 fn drawn_machine(alloc: Global, number: u32) -> Result<Machine, Answer>
     requires some { 1 ≤ number }
-    requires limit { number ≤ 30000 }
+    requires limit { number ≤ most_statements }
     ensures machine { IfOk result (StartsDrawn number) }
     ensures count { IfOk result (λ machine. machine.retired ≡ 0) }
     ensures lacks { IfErr result (λ answer. IsUndrawn number answer.status answer.closing) }
@@ -87,7 +88,7 @@ pub fn run_drawn<S: Source, K: Sink, R: Sink>(
     report: &mut R,
 ) -> Result<Reported, Failed>
     requires some { 1 ≤ number }
-    requires limit { number ≤ 30000 }
+    requires limit { number ≤ most_statements }
     ensures answers { ComesOver (AnswersDrawn number) (BreaksDrawn number)
         (passage S.left K.written R.written R.faults input.old output.old report.old input.new output.new report.new) result }
     ensures files { files_reported result ≡ Ok tt }

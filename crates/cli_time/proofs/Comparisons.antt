@@ -1,5 +1,5 @@
 -- What comes of the lines of all layouts, and of the line behind them.
-use Rattle.std.proofs.Common.{◌≡◌, ◌∙◌, sym, ap, subst, refl, ℕ, ◌<◌, List, [], ◌∷◌, ◌++◌, length, map, append-nil, Option, Some, Result, Ok, Err, inl, inr}
+use Rattle.std.proofs.Common.{◌≡◌, ◌∙◌, ap, subst, ℕ, List, [], ◌++◌, append-nil, Option, Some, Result, Ok, Err, inl, inr}
 use Rattle.std.specs.Prelude.{codes, slice_get}
 use Rattle.std.specs.Result.{IsErr}
 use Rattle.cf_io.specs.Puts.{Writes, WritesFront}
@@ -21,7 +21,7 @@ use Rattle.cli_time.specs.Leasts.{IsFirstLeast}
 use Rattle.cli_time.specs.Lines.{least_line, time_lines}
 use Rattle.cli_time.specs.Reading.{IsReady}
 use Rattle.cli_time.specs.Runs.{PutsAll, PutsFewer}
-use Rattle.cli_time.specs.Times.{AnswersTime, BreaksAtLeast, BreaksTime, BreaksTimes, MeasuresAll, TimesOf}
+use Rattle.cli_time.specs.Times.{AnswersTime, BreaksTime, BreaksTimes, MeasuresAll, TimesOf}
 
 -- the layout that is named is the first with the least time
 measures-all : (words : List Layout) (options : TimeOptions) (delays : List ℕ) (plans : List Plan) (hart : Hart) (blank told : Option (List ℕ))
@@ -110,8 +110,8 @@ times-fewer words options delays plans hart blank full answer h is closed =
 
 -- what comes of the files is what the command answers
 pub answers-time : (asked : TimeAsked) (before after : Option Told) (delays : List ℕ) (plans : List Plan) (hart : Hart)
-    (blank full : Option (List ℕ)) (result : Result Answer Failed) → IsReady asked before after delays plans hart →
-    Decides (TimesOf asked.layouts asked.options delays plans hart) (BreaksTimes asked.layouts asked.options delays plans hart blank full) blank full result →
+    (blank full : Option (List ℕ)) (result : Result Answer Failed) → IsReady asked.files before after delays plans hart →
+    Decides (TimesOf asked.files.layouts asked.options delays plans hart) (BreaksTimes asked.files.layouts asked.options delays plans hart blank full) blank full result →
     Decides (AnswersTime asked before after) (BreaksTime asked before after blank full) blank full result
 answers-time asked before after delays plans hart blank full (Ok answer) ready (lines, put, comes) =
     (lines, put, inl (record { delays = delays; plans = plans; hart = hart; ready = ready; comes = comes }))

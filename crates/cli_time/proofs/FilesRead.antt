@@ -7,7 +7,7 @@ use Rattle.cf_words.specs.Words.{Layout}
 use Rattle.cli_files.specs.Reads.{layout_files, files_of_layouts, WereRead}
 use Rattle.cli_files.specs.declared.status.Status.{Status}
 use Rattle.cli_files.proofs.Reading.{AllRead, none-read, one-read, more-read, were-all, were-before, were-behind, were-lacking, layout-read, layout-lacking, program-read, program-lacking}
-use Rattle.cli_time.specs.Asked.{TimeAsked}
+use Rattle.cli_time.specs.Asked.{TimeAsked, TimeFiles}
 use Rattle.cf_timed.specs.Limits.{most_delays}
 use Rattle.cli_time.specs.DelayFiles.{IsDelaysAt, LacksDelays}
 use Rattle.cli_time.specs.LayoutFiles.{AreLayoutsAt, LacksLayouts}
@@ -44,24 +44,24 @@ layouts-lacking (word ∷ words) a b answer report (inr (inr (between, plan, fir
     (layouts-lacking words between b answer report h)
 
 -- all of them
-abbrev laid_files : TimeAsked → List (List ℕ)
+abbrev laid_files : TimeFiles → List (List ℕ)
 laid_files asked = (asked.delays ∷ []) ++ files_of_layouts asked.layouts
 
-abbrev pub time_files : TimeAsked → List (List ℕ)
+abbrev pub time_files : TimeFiles → List (List ℕ)
 time_files asked = laid_files asked ++ asked.program ∷ []
 
-laid-read : (asked : TimeAsked) (a b : Option Told) (delays : List ℕ) (plans : List Plan) → IsLaid asked a b delays plans → AllRead (laid_files asked) a b
+laid-read : (asked : TimeFiles) (a b : Option Told) (delays : List ℕ) (plans : List Plan) → IsLaid asked a b delays plans → AllRead (laid_files asked) a b
 laid-read asked a b delays plans l =
     more-read (asked.delays ∷ []) (files_of_layouts asked.layouts) a l.between b (delays-read asked.delays a l.between delays l.delays_at)
     (layouts-read asked.layouts l.between b plans l.layouts)
 
-ready-read : (asked : TimeAsked) (a b : Option Told) (delays : List ℕ) (plans : List Plan) (hart : Hart) →
+ready-read : (asked : TimeFiles) (a b : Option Told) (delays : List ℕ) (plans : List Plan) (hart : Hart) →
     IsReady asked a b delays plans hart → AllRead (time_files asked) a b
 ready-read asked a b delays plans hart r =
     more-read (laid_files asked) (asked.program ∷ []) a r.between b (laid-read asked a r.between delays plans r.laid)
     (program-read asked.program r.between b hart r.program)
 
-file-lacking : (asked : TimeAsked) (a b : Option Told) (answer : Status) (report : List ℕ) →
+file-lacking : (asked : TimeFiles) (a b : Option Told) (answer : Status) (report : List ℕ) →
     LacksFile asked a b answer report → WereRead (time_files asked) a b
 file-lacking asked a b answer report (inl h) =
     were-before (laid_files asked) (asked.program ∷ []) a b
@@ -74,15 +74,15 @@ file-lacking asked a b answer report (inr (inr h)) =
     were-behind (laid_files asked) (asked.program ∷ []) a h.between b (laid-read asked a h.between h.delays h.plans h.laid)
     (program-lacking asked.program h.between b answer report h.lacks)
 
-files-read : (Comes : List ℕ → List Plan → Hart → Type 0) (asked : TimeAsked) (a b : Option Told) →
+files-read : (Comes : List ℕ → List Plan → Hart → Type 0) (asked : TimeFiles) (a b : Option Told) →
     ReadsFiles Comes asked a b → WereRead (time_files asked) a b
 files-read Comes asked a b r = were-all (time_files asked) a b (ready-read asked a b r.delays r.plans r.hart r.ready)
 
 pub timed-read : (asked : TimeAsked) (a b : Option Told) (answer : Status) (report : List ℕ) →
-    AnswersTime asked a b answer report → WereRead (time_files asked) a b
-timed-read asked a b answer report (inl r) = files-read _ asked a b r
-timed-read asked a b answer report (inr h) = file-lacking asked a b answer report h
+    AnswersTime asked a b answer report → WereRead (time_files asked.files) a b
+timed-read asked a b answer report (inl r) = files-read _ asked.files a b r
+timed-read asked a b answer report (inr h) = file-lacking asked.files a b answer report h
 
 pub broken-read : (asked : TimeAsked) (a b : Option Told) (blank full : Option (List ℕ)) →
-    BreaksTime asked a b blank full → WereRead (time_files asked) a b
-broken-read asked a b blank full r = files-read _ asked a b r
+    BreaksTime asked a b blank full → WereRead (time_files asked.files) a b
+broken-read asked a b blank full r = files-read _ asked.files a b r

@@ -1,9 +1,8 @@
 -- What a timed run measures.
-use Rattle.std.proofs.Common.{◌≡◌, ◌∙◌, ◌≤◌, ◌+◌, sym, ap, subst, refl, ℕ, List, [], Some, None, Result, Ok, Err, Bool, true, min, arith}
+use Rattle.std.proofs.Common.{◌≡◌, ◌∙◌, ◌≤◌, sym, ap, subst, refl, ℕ, List, Some, None, Result, Ok, Err, Bool, true, arith}
 use Rattle.cf_asked.specs.Limits.{most_limit}
 use Rattle.cf_io.specs.Causes.{HasCause}
 use Rattle.rv_machine.specs.Hart.{Hart}
-use Rattle.rv_machine.specs.Streams.{Streams}
 use Rattle.cf_layout.specs.Layout.{Plan}
 use Rattle.cf_core.specs.Processors.{Processor, opened}
 use Rattle.cf_run.specs.Ending.{EndsAlike, EndsAsMachine, EndsSequentially}

@@ -4,7 +4,7 @@ use Rattle.cf_io.specs.Reads.{Told}
 use Rattle.cf_words.specs.Words.{Layout}
 use Rattle.cli_files.specs.declared.status.Status.{Status}
 use Rattle.cli_files.proofs.NoStreams.{SaysNoStream, lacks-layout-says, lacks-program-says}
-use Rattle.cli_time.specs.Asked.{TimeAsked}
+use Rattle.cli_time.specs.Asked.{TimeFiles}
 use Rattle.cli_time.specs.DelayFiles.{LacksDelays}
 use Rattle.cli_time.specs.LayoutFiles.{LacksLayouts}
 use Rattle.cli_time.specs.Reading.{LacksFile}
@@ -28,7 +28,7 @@ lacks-layouts-says (word ∷ words) before after answer report (inr (inl (plan, 
 lacks-layouts-says (word ∷ words) before after answer report (inr (inr (between, plan, first, h))) =
     lacks-layouts-says words between after answer report h
 
-pub lacks-file-says : (asked : TimeAsked) (before after : Option Told) (answer : Status) (report : List ℕ) →
+pub lacks-file-says : (asked : TimeFiles) (before after : Option Told) (answer : Status) (report : List ℕ) →
     LacksFile asked before after answer report → SaysNoStream answer
 lacks-file-says asked before after answer report (inl h) = lacks-delays-says asked.delays before after answer report h
 lacks-file-says asked before after answer report (inr (inl h)) =

@@ -1,5 +1,5 @@
 -- A program whose bytes were read and opened.
-use Rattle.std.proofs.Common.{◌≡◌, ℕ, ◌+◌, List, Option, refl}
+use Rattle.std.proofs.Common.{ℕ, ◌+◌, List, Option, refl}
 use Rattle.cf_io.specs.Reads.{Told}
 use Rattle.cli_files.specs.Files.{IsFrontOf}
 use Rattle.cli_files.specs.Image.{most_bytes, IsProgram, opened}

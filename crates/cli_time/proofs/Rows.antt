@@ -1,9 +1,9 @@
 -- The runs on the first layouts and their lines, and those of the next one.
-use Rattle.std.proofs.Common.{◌≡◌, ◌∙◌, sym, ap, subst, refl, ℕ, suc, ◌+◌, ◌<◌, List, [], ◌∷◌, ◌++◌, length, map, append-nil, append_assoc, Option, Some, true, false, Result, Ok, Err, Bool, arith}
+use Rattle.std.proofs.Common.{◌≡◌, ◌∙◌, sym, ap, subst, refl, ℕ, ◌+◌, ◌<◌, List, [], ◌∷◌, ◌++◌, length, map, append-nil, append_assoc, Option, Some, true, false, Result, Ok, Err, Bool, arith}
 use Rattle.std.specs.Prelude.{slice_get, is_err}
 use Rattle.std.proofs.lemmas.List.{length-append}
 use Rattle.cf_io.specs.Causes.{HasCause}
-use Rattle.cf_io.specs.Puts.{Writes, WritesFront}
+use Rattle.cf_io.specs.Puts.{Writes}
 use Rattle.cf_io.proofs.Owing.{writes-again, writes-nothing}
 use Rattle.rv_machine.specs.Hart.{Hart}
 use Rattle.cf_layout.specs.Layout.{Plan}

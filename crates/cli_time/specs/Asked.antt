@@ -3,20 +3,22 @@ use Rattle.std.specs.Prelude.{ℕ, List, codes}
 use Rattle.cf_words.specs.declared.command.TimeOptions.{TimeOptions}
 use Rattle.cf_words.specs.Words.{Layout, plain, in_file}
 
--- the files with the delays and with the program, the layouts in their order, and the options: the retired instructions at which each run stops, and whether it is shown what each time is made of
-pub record TimeAsked : Type 0 where
+-- the files with the delays and with the program, and the layouts in their order
+pub record TimeFiles : Type 0 where
   pub delays : List ℕ
   pub program : List ℕ
   pub layouts : List Layout
+
+-- what is read, and the options: the retired instructions at which each run stops, and whether it is shown what each time is made of
+pub record TimeAsked : Type 0 where
+  pub files : TimeFiles
   pub options : TimeOptions
 
+abbrev pub files_asked : List ℕ → List ℕ → List Layout → TimeFiles
+files_asked delays program layouts = record { delays = delays; program = program; layouts = layouts }
+
 abbrev pub time_asked : List ℕ → List ℕ → List Layout → TimeOptions → TimeAsked
-time_asked delays program layouts options = record {
-  delays = delays;
-  program = program;
-  layouts = layouts;
-  options = options;
-}
+time_asked delays program layouts options = record { files = files_asked delays program layouts; options = options }
 
 -- the word that names a layout
 unfoldable pub name_of : Layout → List ℕ

@@ -1,5 +1,5 @@
 -- The lines of `--show sites`: what the time of a run is made of (a format of this project).
-use Rattle.std.specs.Prelude.{ℕ, List, [], ◌∷◌, ◌++◌, codes, decimal, length, reverse, Bool, nat_lt, Option, Some, None}
+use Rattle.std.specs.Prelude.{ℕ, List, [], ◌++◌, codes, decimal, length, reverse, Bool, nat_lt, Option, Some, None}
 use Rattle.std.specs.List.{filter, flat_map, zip}
 use Rattle.cf_semantics.specs.moves.Candidates.{counted_from}
 use Rattle.cf_scripts.specs.Kinds.{names}

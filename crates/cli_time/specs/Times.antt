@@ -1,5 +1,5 @@
 -- What the command `time` answers, and its report.
-use Rattle.std.specs.Prelude.{◌≡◌, ◌<◌, ◌⊎◌, ℕ, List, [], ◌∷◌, ◌++◌, codes, length, map, slice_get, Option, Some}
+use Rattle.std.specs.Prelude.{◌≡◌, ◌<◌, ◌⊎◌, ℕ, List, ◌++◌, codes, length, map, slice_get, Option, Some}
 use Rattle.cf_io.specs.Puts.{Writes, WritesFront}
 use Rattle.cf_io.specs.Reads.{Told}
 use Rattle.rv_machine.specs.Hart.{Hart}
@@ -9,7 +9,7 @@ use Rattle.cf_words.specs.declared.command.TimeOptions.{TimeOptions}
 use Rattle.cf_words.specs.Words.{Layout}
 use Rattle.cli_files.specs.declared.status.Status.{Status}
 use Rattle.cli_files.specs.declared.status.Status.TheVariants as status
-use Rattle.cli_time.specs.Asked.{TimeAsked}
+use Rattle.cli_time.specs.Asked.{TimeAsked, TimeFiles}
 use Rattle.cli_time.specs.Leasts.{IsFirstLeast}
 use Rattle.cli_time.specs.Lines.{least_line, layout_lines, time_lines}
 use Rattle.cli_time.specs.Measures.{Measures, MeasuresFirst}
@@ -81,21 +81,21 @@ BreaksTimes words options delays plans hart blank full =
     ⊎ BreaksAtLeast words options delays plans hart blank full
 
 -- all files are there, and this comes of them
-pub record ReadsFiles (Comes : List ℕ → List Plan → Hart → Type 0) (asked : TimeAsked) (before after : Option Told) :
+pub record ReadsFiles (Comes : List ℕ → List Plan → Hart → Type 0) (files : TimeFiles) (before after : Option Told) :
     Type 0 where
   pub delays : List ℕ
   pub plans : List Plan
   pub hart : Hart
-  pub ready : IsReady asked before after delays plans hart
+  pub ready : IsReady files before after delays plans hart
   pub comes : Comes delays plans hart
 
 -- the answer of `time` and its report
 abbrev pub AnswersTime : TimeAsked → Option Told → Option Told → Status → List ℕ → Type 0
 AnswersTime asked before after answer report =
-    ReadsFiles (λ delays plans hart. TimesOf asked.layouts asked.options delays plans hart answer report) asked before after
-    ⊎ LacksFile asked before after answer report
+    ReadsFiles (λ delays plans hart. TimesOf asked.files.layouts asked.options delays plans hart answer report) asked.files before after
+    ⊎ LacksFile asked.files before after answer report
 
 -- all files are there, and the report failed
 abbrev pub BreaksTime : TimeAsked → Option Told → Option Told → Option (List ℕ) → Option (List ℕ) → Type 0
 BreaksTime asked before after blank full =
-    ReadsFiles (λ delays plans hart. BreaksTimes asked.layouts asked.options delays plans hart blank full) asked before after
+    ReadsFiles (λ delays plans hart. BreaksTimes asked.files.layouts asked.options delays plans hart blank full) asked.files before after

@@ -132,7 +132,7 @@ pub fn compare_layouts<F: Files, R: Sink>(
     ensures output { IfOk result (λ answer. output_answered answer.status ≡ Ok tt) }
     ensures report { HasCause (R.faults report.old) (R.faults report.new) result }
 {
-    match read_files(alloc, delays, program, layouts, options, files) {
+    match read_files(alloc, delays, program, layouts, files) {
         Ok(ready) => compare_ready(alloc, &ready, layouts, options, report),
         Err(answer) => Ok(answer),
     }

@@ -6,7 +6,7 @@ ghost use Rattle.cf_words.specs.Words.{layout_in};
 ghost use Rattle.cli_files.specs.Causes.{files_read};
 ghost use Rattle.cli_files.specs.Image.{IsProgram, opened};
 ghost use Rattle.cli_files.specs.Programs.{IsProgramAt, LacksProgram};
-ghost use Rattle.cli_time.specs.Asked.{time_asked};
+ghost use Rattle.cli_time.specs.Asked.{files_asked};
 ghost use Rattle.cli_time.specs.Reading.{IsReady, LacksFile};
 
 use crate::delay_files::delays_at;
@@ -14,7 +14,6 @@ use crate::layout_files::layouts_at;
 use cf_io::{Files, FilesErr};
 use cf_layout::Layout;
 use cf_timed::Delays;
-use cf_words::TimeOptions;
 use cli_files::{Answer, MOST_BYTES, Which, no_memory, open_image, unread};
 use std::alloc::Global;
 
@@ -50,15 +49,14 @@ pub(crate) fn read_files<F: Files>(
     delays: &str,
     program: &str,
     layouts: &[String],
-    options: TimeOptions,
     files: &mut F,
 ) -> Result<Ready, Answer>
     ensures ready { IfOk result (λ ready. IsReady
-        (time_asked delays.now program.now (map layout_in (map string_bytes layouts.now)) options)
+        (files_asked delays.now program.now (map layout_in (map string_bytes layouts.now)))
         (F.told files.old) (F.told files.new) ready.delays (vec_items ready.layouts) (opened (vec_items ready.image))) }
     ensures program { IfOk result (λ ready. IsProgram (vec_items ready.image)) }
     ensures lacks { IfErr result (λ answer. LacksFile
-        (time_asked delays.now program.now (map layout_in (map string_bytes layouts.now)) options)
+        (files_asked delays.now program.now (map layout_in (map string_bytes layouts.now)))
         (F.told files.old) (F.told files.new) answer.status answer.closing) }
     ensures faults { HasCause (F.faults files.old) (F.faults files.new) (files_read result) }
 {

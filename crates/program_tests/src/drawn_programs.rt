@@ -4,6 +4,7 @@
 //! from the description of the text alone.
 
 ghost use Rattle.std.specs.Prelude.{◌≤◌};
+ghost use Rattle.cf_asked.specs.Limits.{most_statements};
 
 use cf_gen::generate;
 use cf_io::{Failed, MemSink};
@@ -21,7 +22,7 @@ fn sink_failing_at(rt: &(impl Abort + AllocGlobal), put: u64) -> MemSink {
 /// The program of so many statements begins with this text.
 fn assert_begins(rt: &(impl Abort + AllocGlobal), number: u32, text: &[u8]) -> Result<(), Fail>
     requires some { 1 ≤ number }
-    requires limit { number ≤ 30000 }
+    requires limit { number ≤ most_statements }
 {
     let mut out = sink_failing_at(rt, 100);
     assert_eq!(rt; generate(number, &mut out), Ok(()));

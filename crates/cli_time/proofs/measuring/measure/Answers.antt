@@ -12,8 +12,9 @@ take_sites-requires-clause-ledger c =
     ledger-opened _ _ _ _ c.args.delays _ c.in_ok-core.ensures (clock-delays _ _ _ c.new-clock.ensures) c.new-ledger.ensures
 
 pub take_time-requires : goal.take_time-requires
-take_time-requires c =
-    can-begin _ _ _ _ c.args.delays _ c.requires.limit c.in_ok-machine.ensures.count c.in_ok-core.ensures c.new-clock.ensures
+take_time-requires c = record {
+  begins = can-begin _ _ _ _ c.args.delays _ c.requires.limit c.in_ok-machine.ensures.count c.in_ok-core.ensures c.new-clock.ensures;
+}
 
 pub returns-then-options : goal.returns-then-options
 returns-then-options c =
