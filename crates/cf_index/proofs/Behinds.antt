@@ -1,5 +1,5 @@
 -- The first move of a list that stands behind another.
-use Rattle.std.proofs.Common.{◌≡◌, ◌≢◌, ◌∙◌, sym, refl, ap, ℕ, ◌^◌, ◌<◌, ◌≤◌, List, [], ◌∷◌, ◌++◌, length, Bool, true, false, cond, nat_lt, Option, Some, None, arith}
+use Rattle.std.proofs.Common.{◌≡◌, ◌∙◌, sym, refl, ap, ℕ, ◌^◌, ◌<◌, ◌≤◌, List, [], ◌∷◌, ◌++◌, length, Bool, true, false, cond, nat_lt, Option, Some, None, arith}
 use Rattle.std.specs.Prelude.{filter, find, not, slice_get}
 use Rattle.std.specs.List.{position_or_len}
 use Rattle.std.specs.Int.{trailing_zeros}
@@ -9,14 +9,14 @@ use Rattle.std.proofs.lemmas.Option.{slice_get_within}
 use mir.Syntax.{w64}
 use Rattle.cf_layout.specs.Layout.{Plan}
 use Rattle.cf_bind.specs.declared.moves.Move.{Move}
-use Rattle.cf_bind.specs.declared.moves.Move.TheVariants.{Issue, Emit, Climb, Fall, Meet, Execute, Send, Launch, Slide, Access, Recover, Leave, Exit, Serve}
+use Rattle.cf_bind.specs.declared.moves.Move.TheVariants.{Issue, Emit}
 use Rattle.cf_bind.specs.declared.passenger.Guess.{Guess}
 use Rattle.cf_bind.specs.declared.passenger.Guess.TheVariants.{Next, Taken, Wait}
 use Rattle.cf_semantics.specs.moves.Candidates.{candidates, held_back, other_moves, slides_from}
 use Rattle.cf_semantics.specs.state.State.{State}
 use Rattle.cf_semantics.specs.claims.Weight.{is_issue}
 use Rattle.cf_index.specs.Allowed.{all_entering, all_leaving, all_passing, is_allowed}
-use Rattle.cf_index.specs.Order.{first_behind, kind_place, slide_place, stands_behind}
+use Rattle.cf_index.specs.Order.{first_behind, kind_place, stands_behind}
 use Rattle.cf_index.specs.Places.{places}
 use Rattle.cf_index.proofs.Filled.{all_chosen}
 use Rattle.cf_index.proofs.Passed.{earlier}
@@ -112,19 +112,3 @@ no_issue last mv behind e = refl
 pub no_issue_first : (last : Move) → ((g : Guess) → last ≡ Issue g → ⊥) → 1 ≤ kind_place last
 no_issue_first (Issue g) other = absurd (other g refl)
 no_issue_first last other = omega arith
-
-pub no_slide : (last : Move) → ((k c : ℕ) → last ≡ Slide k c → ⊥) → kind_place last ≢ slide_place
-no_slide (Slide k c) other e = other k c refl
-no_slide (Issue g) other e = absurd (omega arith)
-no_slide Emit other e = absurd (omega arith)
-no_slide (Climb i) other e = absurd (omega arith)
-no_slide (Fall i) other e = absurd (omega arith)
-no_slide (Meet i) other e = absurd (omega arith)
-no_slide (Execute i) other e = absurd (omega arith)
-no_slide (Send i) other e = absurd (omega arith)
-no_slide (Launch i) other e = absurd (omega arith)
-no_slide Access other e = absurd (omega arith)
-no_slide (Recover i) other e = absurd (omega arith)
-no_slide Leave other e = absurd (omega arith)
-no_slide Exit other e = absurd (omega arith)
-no_slide Serve other e = absurd (omega arith)

@@ -9,7 +9,6 @@ use Rattle.std.proofs.lemmas.Option.{slice_get_within}
 use Rattle.cf_layout.specs.Layout.{Plan, SidingPlan}
 use Rattle.cf_bind.specs.declared.moves.Move.{Move}
 use Rattle.cf_bind.specs.declared.moves.Move.TheVariants.{Issue, Emit, Climb, Fall, Meet, Execute, Send, Launch, Slide, Access, Recover, Leave, Exit, Serve}
-use Rattle.cf_bind.specs.declared.passenger.Guess.{Guess}
 use Rattle.cf_bind.specs.declared.passenger.Guess.TheVariants.{Next, Taken, Wait}
 use Rattle.cf_semantics.specs.moves.Candidates.{candidates, counted_from, held_back, other_moves, slides_from}
 use Rattle.cf_semantics.specs.state.State.{State}
@@ -150,9 +149,9 @@ other_kind Leave e = omega arith
 other_kind Exit e = omega arith
 other_kind Serve e = omega arith
 
-pub unissued : (xs : List Move) (g : Guess) (o : Option Move) → IfSome o (λ next. Some next ≡ slice_get xs 0) → IfSome o (λ next. is_issue next ≡ false) → IfSome o (λ next. Some next ≡ slice_get xs (first_behind (Some (Issue g)) xs))
-unissued xs g None first other = tt
-unissued xs g (Some m) first other = behind_issue xs (Issue g) m first (later (Issue g) m (other_kind m other))
+pub unissued : (xs : List Move) (last : Move) (o : Option Move) → kind_place last ≡ 0 → IfSome o (λ next. Some next ≡ slice_get xs 0) → IfSome o (λ next. is_issue next ≡ false) → IfSome o (λ next. Some next ≡ slice_get xs (first_behind (Some last) xs))
+unissued xs last None issue first other = tt
+unissued xs last (Some m) issue first other = behind_issue xs last m first (later last m (let behind = other_kind m other in omega (arith, issue, behind)))
 
 -- where none stands behind, it is the first of all
 past_end : {X : Type 0} (xs : List X) (k : ℕ) → slice_get xs k ≡ None → length xs ≤ k

@@ -57,6 +57,15 @@ leaving_none l last before =
     both_none last _ _ (flag_none last l.leave Leave (later last Leave (omega arith))) (
     both_none last _ _ (flag_none last l.exit Exit (later last Exit (omega arith))) (flag_none last l.serve Serve (later last Serve (omega arith))))))
 
+-- which is any but those that leave
+pub enters_or_passes : (last : Move) → (last ≡ Access → ⊥) → ((i : ℕ) → last ≡ Recover i → ⊥) → (last ≡ Leave → ⊥) → (last ≡ Exit → ⊥) → (last ≡ Serve → ⊥) → kind_place last < 9
+enters_or_passes Access access recover leave exit serve = absurd (access refl)
+enters_or_passes (Recover i) access recover leave exit serve = absurd (recover i refl)
+enters_or_passes Leave access recover leave exit serve = absurd (leave refl)
+enters_or_passes Exit access recover leave exit serve = absurd (exit refl)
+enters_or_passes Serve access recover leave exit serve = absurd (serve refl)
+enters_or_passes last access recover leave exit serve = omega arith
+
 -- a flag's move that is passed, before others
 flag_step : (last : Move) (b : Bool) (mv : Move) (ys : List Move) → stands_behind last mv ≡ false → passed last (flagged b mv ++ ys) ≡ bool_byte b + passed last ys
 flag_step last b mv ys before = passed_all last (flagged b mv) ys (flag_all last b mv before) ∙ rw (length_flag b mv) refl

@@ -1,5 +1,5 @@
 -- The first move of a list that stands behind a rank.
-use Rattle.std.proofs.Common.{◌≡◌, ◌≢◌, ◌∙◌, sym, refl, ℕ, zero, suc, ◌+◌, ◌-◌, ◌/◌, ◌%◌, ◌^◌, ◌<◌, List, [], ◌∷◌, ◌++◌, map, Bool, true, false, cond, nat_lt, Option, Some, None, arith}
+use Rattle.std.proofs.Common.{◌≡◌, ◌≢◌, ◌∙◌, sym, refl, ap, ℕ, zero, suc, ◌+◌, ◌-◌, ◌/◌, ◌%◌, ◌^◌, ◌<◌, List, [], ◌∷◌, ◌++◌, map, Bool, true, false, cond, nat_lt, Option, Some, None, arith}
 use Rattle.std.specs.Prelude.{◌&&◌, filter, find, not, slice_get}
 use Rattle.std.specs.Int.{trailing_zeros}
 use Rattle.std.proofs.lemmas.Bool.Decides.{nat_tests}
@@ -181,6 +181,9 @@ same_find p q (x ∷ xs) same = rw (same x, same_find p q xs same) refl
 
 pub found_past : (last : Move) (xs : List Move) → 0 < kind_place last → kind_place last ≢ slide_place → find (is_past (rank_of last)) xs ≡ find (stands_behind last) xs
 found_past last xs some other = same_find (is_past (rank_of last)) (stands_behind last) xs (λ mv. same_past last mv some other)
+
+pub found_rank : (r : Rank) (last : Move) (xs : List Move) (o : Option Move) → r ≡ rank_of last → 0 < kind_place last → kind_place last ≢ slide_place → o ≡ find (is_past r) xs → o ≡ find (stands_behind last) xs
+found_rank r last xs o stands some other e = e ∙ ap (λ (q : Rank). find (is_past q) xs) stands ∙ found_past last xs some other
 
 -- what is found in the first part, or else in the second
 pub found_here : (p : Move → Bool) (xs ys : List Move) (o : Option Move) (mv : Move) → o ≡ find p xs → o ≡ Some mv → Some mv ≡ find p (xs ++ ys)

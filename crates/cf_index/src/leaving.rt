@@ -71,20 +71,12 @@ impl Leaving {
         let accesses = self.access as usize;
         let recovers = accesses + count(self.recover as u64);
         match last {
-            Move::Issue(_)
-            | Move::Emit
-            | Move::Climb(_)
-            | Move::Fall(_)
-            | Move::Meet(_)
-            | Move::Execute(_)
-            | Move::Send(_)
-            | Move::Launch(_)
-            | Move::Slide(_, _) => 0,
             Move::Access => accesses,
             Move::Recover(i) => accesses + count_below(self.recover as u64, i as usize),
             Move::Leave => recovers + self.leave as usize,
             Move::Exit => recovers + self.leave as usize + self.exit as usize,
             Move::Serve => self.len(),
+            _ => 0,
         }
     }
 }

@@ -9,7 +9,7 @@ use crate::words::past;
 use cf_bind::{Guess, Move};
 
 // The places of the kinds in the order of all moves, by which a search compares them.
-const ISSUE: u32 = 0;
+pub(crate) const ISSUE: u32 = 0;
 
 const EMIT: u32 = 1;
 

@@ -1,16 +1,17 @@
 //! The first candidate behind a move, found without a look at all of them.
 
-ghost use Rattle.std.specs.Prelude.{◌≡◌, ◌≢◌, ◌<◌, ◌++◌, false, IfSome, Some, filter, find, slice_get};
+ghost use Rattle.std.specs.Prelude.{◌≡◌, ◌≢◌, ◌++◌, false, IfSome, Some, filter, find, slice_get};
+ghost use Rattle.cf_bind.specs.declared.moves.Move.{Move as Step};
 ghost use Rattle.cf_semantics.specs.moves.Candidates.{candidates, slides_from};
 ghost use Rattle.cf_semantics.specs.claims.Weight.{is_issue};
 ghost use Rattle.cf_index.specs.Allowed.{all_leaving, all_passing, allowed_others, is_allowed, withheld};
-ghost use Rattle.cf_index.specs.Order.{first_behind, kind_place, slide_place, stands_behind};
+ghost use Rattle.cf_index.specs.Order.{first_behind, slide_place};
 ghost use Rattle.cf_index.specs.Ranks.{is_past, rank_of};
 
 use crate::ahead::next_passing;
 use crate::candidates::Candidates;
 use crate::outward::next_outward;
-use crate::rank::Rank;
+use crate::rank::{ISSUE, Rank, SLIDE};
 use crate::stages::goes_on;
 use cf_bind::{Guess, Move};
 use cf_core::Core;
@@ -25,16 +26,6 @@ fn next(core: &Core, last: Rank) -> Option<Move>
         Some(next) => Some(next),
         None => next_outward(core, last),
     }
-}
-
-/// The first move that does not enter, behind one that is neither Issue nor within the sidings.
-#[inline(always)]
-fn onward(core: &Core, last: Move, rank: Rank) -> Option<Move>
-    requires other { 0 < kind_place last }
-    requires stands { rank ≡ rank_of last }
-    ensures { kind_place last ≢ slide_place → result ≡ find (stands_behind last) (filter (is_allowed core.now.plan core.now.state) (all_passing core.now.plan) ++ (filter (is_allowed core.now.plan core.now.state) (slides_from 0 core.now.plan.sidings) ++ filter (is_allowed core.now.plan core.now.state) (all_leaving core.now.plan))) }
-{
-    next(core, rank)
 }
 
 /// The first move that is no Issue.
@@ -94,21 +85,20 @@ impl Candidates {
     /// The first candidate of a processor behind the move of this rank, or the first of all where none stands there, with Issue held
     /// back or not. It is not told behind Slide, nor where it takes a look at all candidates: where an Issue may stand behind another.
     #[inline(always)]
-    pub fn soon(core: &Core, last: Move, rank: Rank, held: bool) -> Option<Move>
-        requires { rank ≡ rank_of last }
-        ensures { IfSome result (λ next. Some next ≡ slice_get (withheld held (candidates core.now.plan core.now.state))
-            (first_behind (Some last) (withheld held (candidates core.now.plan core.now.state)))) }
+    pub fn soon(core: &Core, last: Rank, held: bool) -> Option<Move>
+        ensures next { (mv : Step) → last ≡ rank_of mv → IfSome result (λ next. Some next ≡ slice_get (withheld held (candidates core.now.plan core.now.state))
+            (first_behind (Some mv) (withheld held (candidates core.now.plan core.now.state)))) }
+        ensures slide { last.kind ≡ slide_place → result ≡ None }
     {
-        if !goes_on(core) {
+        if !goes_on(core) || last.kind == SLIDE {
             return None;
         }
-        match last {
-            Move::Issue(_) => first_unissued(core, held),
-            Move::Slide(_, _) => None,
-            _ => match onward(core, last, rank) {
-                Some(next) => Some(next),
-                None => first(core, held),
-            },
+        if last.kind == ISSUE {
+            return first_unissued(core, held);
+        }
+        match next(core, last) {
+            Some(next) => Some(next),
+            None => first(core, held),
         }
     }
 }

@@ -12,7 +12,8 @@ use cf_index::{Candidates, Rank};
 use std::marker::Model;
 
 /// Picks the first candidate behind the last one that it picked in the order of all moves, or the first of all where none
-/// stands there or nothing was picked yet. It is seen as the last one that it picked, beside which stands its rank.
+/// stands there or nothing was picked yet. It is seen as the last one that it picked, beside which stands its rank: that of a Slide,
+/// behind which all candidates are looked at, where nothing was picked.
 #[derive(Drop)]
 pub struct Round {
     last: Option<Move>,
@@ -20,15 +21,16 @@ pub struct Round {
 }
 
 impl Model for Round {
-    ghost use Rattle.std.specs.Prelude.{◌≡◌, IfSome, Option};
+    ghost use Rattle.std.specs.Prelude.{◌≡◌, MatchOption, Option};
     ghost use Rattle.cf_bind.specs.declared.moves.Move.{Move};
+    ghost use Rattle.cf_index.specs.Order.{slide_place};
     ghost use Rattle.cf_index.specs.Ranks.{rank_of};
 
     ghost Value = { Option Move };
 
     ghost view = { λ r. r.last };
 
-    ghost invariant = { λ r. IfSome r.last (λ mv. r.rank ≡ rank_of mv) };
+    ghost invariant = { λ r. MatchOption r.last (r.rank.kind ≡ slide_place) (λ mv. r.rank ≡ rank_of mv) };
 }
 
 impl Round {
@@ -38,7 +40,7 @@ impl Round {
     {
         Round {
             last: None,
-            rank: Rank::of(Move::Emit),
+            rank: Rank::of(Move::Slide(0, 0)),
         }
     }
 
@@ -95,11 +97,9 @@ impl Policy for Round {
 
     #[inline(always)]
     fn choose(&mut self, core: &Core, candidates: &mut Candidates, pace: &Pace) -> Move {
-        if let Some(last) = self.last {
-            if let Some(next) = Candidates::soon(core, last, self.rank, pace.held()) {
-                self.keep(next);
-                return next;
-            }
+        if let Some(next) = Candidates::soon(core, self.rank, pace.held()) {
+            self.keep(next);
+            return next;
         }
         self.choose_of_all(core, candidates, pace)
     }

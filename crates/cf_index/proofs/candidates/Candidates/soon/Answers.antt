@@ -1,22 +1,39 @@
-use Rattle.std.proofs.Common.{◌≡◌, Some, sym, subst}
-use Rattle.std.specs.Prelude.{IfSome, slice_get}
-use Rattle.cf_bind.specs.declared.moves.Move.{Move}
-use Rattle.cf_semantics.specs.moves.Candidates.{candidates}
-use Rattle.cf_index.specs.Allowed.{withheld}
-use Rattle.cf_index.specs.Order.{first_behind}
-use Rattle.cf_index.proofs.Behinds.{no_issue_first, no_slide}
+use Rattle.std.proofs.Common.{◌≢◌, ◌++◌, ◌<◌, ap, arith}
+use Rattle.std.specs.Prelude.{filter}
+use Rattle.cf_semantics.specs.moves.Candidates.{candidates, slides_from}
+use Rattle.cf_index.specs.declared.rank.Rank.{Rank}
+use Rattle.cf_index.specs.Allowed.{all_leaving, all_passing, is_allowed, withheld}
+use Rattle.cf_index.specs.Order.{kind_place, slide_place}
 use Rattle.cf_index.proofs.Firsts.{found_soon, unissued, wrapped}
+use Rattle.cf_index.proofs.Ranks.{found_rank}
 use Rattle.cf_index.proofs.candidates.Candidates.soon.Goals as goal
 
-pub returns-in-Issue : goal.returns-in-Issue
-returns-in-Issue c =
+pub returns-then-last-eq-ISSUE-clause-next : goal.returns-then-last-eq-ISSUE-clause-next
+returns-then-last-eq-ISSUE-clause-next c = λ mv stands.
     let moves = withheld c.args.held (candidates c.args.core.now.plan c.args.core.now.state) in
-    subst (λ (last : Move). IfSome c.first_unissued.result (λ next. Some next ≡ slice_get moves (first_behind (Some last) moves))) (sym c.in-Issue.is) (unissued moves c.in-Issue.field-0 c.first_unissued.result c.first_unissued.ensures.first c.first_unissued.ensures.other)
+    let kind = ap (λ (r : Rank). r.kind) stands in
+    unissued moves mv c.first_unissued.result (omega (arith, kind)) c.first_unissued.ensures.first c.first_unissued.ensures.other
 
-pub returns-in-Some : goal.returns-in-Some
-returns-in-Some c =
-    found_soon c.args.core.now.plan c.args.core.now.state c.args.last c.in-Some.next c.args.held c.onward.result (no_issue_first c.args.last c.in_default.not-Issue) (c.onward.ensures (no_slide c.args.last c.in_default.not-Slide)) c.in-Some.is
+pub returns-in-Some-clause-next : goal.returns-in-Some-clause-next
+returns-in-Some-clause-next c = λ mv stands.
+    let plan = c.args.core.now.plan in
+    let s = c.args.core.now.state in
+    let q = is_allowed plan s in
+    let rest = filter q (all_passing plan) ++ (filter q (slides_from 0 plan.sidings) ++ filter q (all_leaving plan)) in
+    let kind = ap (λ (r : Rank). r.kind) stands in
+    let behind : 0 < kind_place mv = omega (arith, kind) in
+    let outside : kind_place mv ≢ slide_place = λ slide. absurd (omega (arith, kind, slide)) in
+    let found = found_rank c.args.last mv rest c.next.result stands behind outside (c.next.ensures (λ slide. absurd (omega (arith, slide)))) in
+    found_soon plan s mv c.in-Some.next c.args.held c.next.result behind found c.in-Some.is
 
-pub returns-in-None : goal.returns-in-None
-returns-in-None c =
-    wrapped c.args.core.now.plan c.args.core.now.state c.args.last c.args.held c.onward.result c.first.result (no_issue_first c.args.last c.in_default.not-Issue) (c.onward.ensures (no_slide c.args.last c.in_default.not-Slide)) c.in-None.is c.first.ensures
+pub returns-in-None-clause-next : goal.returns-in-None-clause-next
+returns-in-None-clause-next c = λ mv stands.
+    let plan = c.args.core.now.plan in
+    let s = c.args.core.now.state in
+    let q = is_allowed plan s in
+    let rest = filter q (all_passing plan) ++ (filter q (slides_from 0 plan.sidings) ++ filter q (all_leaving plan)) in
+    let kind = ap (λ (r : Rank). r.kind) stands in
+    let behind : 0 < kind_place mv = omega (arith, kind) in
+    let outside : kind_place mv ≢ slide_place = λ slide. absurd (omega (arith, kind, slide)) in
+    let found = found_rank c.args.last mv rest c.next.result stands behind outside (c.next.ensures (λ slide. absurd (omega (arith, slide)))) in
+    wrapped plan s mv c.args.held c.next.result c.first.result behind found c.in-None.is c.first.ensures
