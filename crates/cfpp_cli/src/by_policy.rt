@@ -16,10 +16,12 @@ use cf_run::{Scripted, Show, run_policy};
 use cf_sched::Policy;
 
 /// Runs the opened processor by the picks of a policy, and puts what is shown and the closing lines.
-pub fn run_by_policy<P: Policy, S: Source, K: Sink, R: Sink>(
+// A call of its own, with the policy as a local, so that the compiler makes a loop for each policy and keeps its state in registers.
+#[inline(never)]
+pub fn run_by_policy<P: Policy + Drop, S: Source, K: Sink, R: Sink>(
     core: &mut Core,
     candidates: &mut Candidates,
-    policy: &mut P,
+    policy: P,
     limit: u64,
     show: Show,
     input: &mut S,
@@ -27,16 +29,25 @@ pub fn run_by_policy<P: Policy, S: Source, K: Sink, R: Sink>(
     report: &mut R,
 ) -> Result<Reported, Failed>
     requires begins { CanRun limit core.old }
-    ensures runs { ComesOver (RunsCore limit show core.old core.new (ByPolicy P.picked P.onward limit show policy.old))
-        (BreaksCore limit show core.old (ByPolicy P.picked P.onward limit show policy.old))
+    ensures runs { ComesOver (RunsCore limit show core.old core.new (ByPolicy P.picked P.onward limit show policy))
+        (BreaksCore limit show core.old (ByPolicy P.picked P.onward limit show policy))
         (passage S.left K.written R.written R.faults input.old output.old report.old input.new output.new report.new) result }
     ensures files { files_reported result ≡ Ok tt }
     ensures input { Tells input_answered (S.faults input.old) (S.faults input.new) result }
     ensures output { Tells output_answered (K.faults output.old) (K.faults output.new) result }
 {
+    let mut policy = policy;
     let mut tally = no_moves();
     let ran = run_policy(
-        core, candidates, policy, limit, show, input, output, report, &mut tally,
+        core,
+        candidates,
+        &mut policy,
+        limit,
+        show,
+        input,
+        output,
+        report,
+        &mut tally,
     );
     close(core, limit, Scripted::Ran(ran), &tally, report)
 }

@@ -16,6 +16,8 @@ use cf_run::{Show, run_script};
 use cf_scripts::Script;
 
 /// Runs the processor by the moves of a text, and puts what is shown and the closing lines.
+// A call of its own, so that the compiler makes this loop apart from those of the policies.
+#[inline(never)]
 pub fn run_by_script<S: Source, K: Sink, R: Sink>(
     core: &mut Core,
     text: &[u8],

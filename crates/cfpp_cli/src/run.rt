@@ -53,16 +53,12 @@ fn run_scheduled<S: Source, K: Sink, R: Sink>(
             run_by_script(core, text.as_slice(), limit, show, input, output, report)
         }
         ReadySchedule::Seed(seed) => {
-            let mut drawn = Drawn::new(*seed);
-            run_by_policy(
-                core, candidates, &mut drawn, limit, show, input, output, report,
-            )
+            let drawn = Drawn::new(*seed);
+            run_by_policy(core, candidates, drawn, limit, show, input, output, report)
         }
         ReadySchedule::Rule => {
-            let mut round = Round::new();
-            run_by_policy(
-                core, candidates, &mut round, limit, show, input, output, report,
-            )
+            let round = Round::new();
+            run_by_policy(core, candidates, round, limit, show, input, output, report)
         }
     }
 }
