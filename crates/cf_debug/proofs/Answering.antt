@@ -1,6 +1,7 @@
 -- What commands and lines leave, from what their parts leave.
 use Rattle.std.proofs.Common.{◌≡◌, ◌≢◌, ℕ, ◌+◌, ◌<◌, ◌≤◌, List, [], ◌∷◌, ◌++◌, length, Option, Some, None, Bool, true, false, Ok, Err, refl, sym, ap, subst, ◌∙◌, append-nil, append_assoc, inl, inr, arith}
 use Rattle.std.specs.Prelude.{◌⊎◌, Result, codes}
+use Rattle.std.specs.Result.{IsErrAnd}
 use Rattle.cf_io.specs.Causes.{HasCause}
 use Rattle.cf_io.specs.Puts.{Writes, WritesFront}
 use Rattle.cf_io.specs.declared.failed.Failed.{Failed}
@@ -88,13 +89,6 @@ pub move-aground : (mv : AnyMove) (now new : Bench) (stop : Option ℕ) (written
 unfolding CarriesOut RunsAground MakesOrFails
 move-aground mv now new stop written failed fails = ([], (refl, fails), nothing_put written)
 
--- a move does the same whatever the break address
-pub move-anywhere : (mv : AnyMove) (now new : Bench) (stop other : Option ℕ) (written after : Option (List ℕ)) (answer : Result (Unit {0}) Broken) → CarriesOut (Move mv) (desk_of now stop) (desk_of new stop) written after answer → CarriesOut (Move mv) (desk_of now other) (desk_of new other) written after answer
-unfolding CarriesOut Carries CarriesPart RunsAground
-move-anywhere mv now new stop other written after (Ok done) (text, h, put) = (text, (refl, h.1), put)
-move-anywhere mv now new stop other written after (Err broken.Report) (text, h, put) = (text, (refl, h.1), put)
-move-anywhere mv now new stop other written after (Err broken.Output) h = h
-
 -- `auto` at the limit
 pub auto-spent : (n : ℕ) (now : Bench) (stop : Option ℕ) (written after : Option (List ℕ)) (i j : ℕ) (answer : Result (Unit {0}) Failed) → IsSpent now → PutsText written after i j (refused_line (codes "Limit")) answer → CarriesOut (Auto n) (desk_of now stop) (desk_of now stop) written after (of_report answer)
 unfolding Carries CarriesPart
@@ -111,10 +105,15 @@ auto-made n now new stop written between after count number i j (Err failed) bel
     (lines ++ counted_line (codes "auto ") number, inl (refl, inr (below, (count, lines, drives, ap (λ (k : ℕ). lines ++ counted_line (codes "auto ") k) same))), front-again written between after lines (counted_line (codes "auto ") number) told put.front)
 
 -- or they broke off
-pub auto-broken : (n : ℕ) (now new : Bench) (stop : Option ℕ) (written after : Option (List ℕ)) (b : Broken) → DrivesOut n stop now new written after (Err b) → CarriesOut (Auto n) (desk_of now stop) (desk_of new stop) written after (Err b)
+auto-broken : (n : ℕ) (now new : Bench) (stop : Option ℕ) (written after : Option (List ℕ)) (b : Broken) → DrivesOut n stop now new written after (Err b) → CarriesOut (Auto n) (desk_of now stop) (desk_of new stop) written after (Err b)
 unfolding CarriesOut CarriesPart DrivesOut RunsAground
 auto-broken n now new stop written after broken.Report (lines, drives, put) = (lines, inr (refl, drives), put)
 auto-broken n now new stop written after broken.Output (lines, drives, put) = (lines, drives, put)
+
+-- and what broke them off is passed on
+pub auto-stopped : (n : ℕ) (now new : Bench) (stop : Option ℕ) (written after : Option (List ℕ)) (b : Broken) (answer : Result (Unit {0}) Broken) → IsErrAnd answer (λ e. e ≡ b) → DrivesOut n stop now new written after (Err b) → CarriesOut (Auto n) (desk_of now stop) (desk_of new stop) written after answer
+auto-stopped n now new stop written after b (Ok done) same h = absurd same
+auto-stopped n now new stop written after b (Err e) same h = subst (λ (by : Broken). CarriesOut (Auto n) (desk_of now stop) (desk_of new stop) written after (Err by)) (sym same) (auto-broken n now new stop written after b h)
 
 -- `back`, whatever the output tells
 pub carries-back : (core new : Processor) (ring later : List Kept) (output : Option (List ℕ)) (stop : Option ℕ) (written after : Option (List ℕ)) (i j : ℕ) (answer : Result (Unit {0}) Failed) → PutsBack (bench_of core ring None) (bench_of new later None) written after i j answer

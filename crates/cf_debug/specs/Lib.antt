@@ -6,5 +6,6 @@ pub mod Commands
 pub mod Replies
 pub mod Cutting
 pub mod Standing
+pub mod Lending
 pub mod Outcomes
 pub mod Sessions

@@ -5,20 +5,21 @@ ghost use Rattle.cf_io.specs.Causes.{HasCause};
 ghost use Rattle.cf_report.specs.Putting.{PutsText};
 ghost use Rattle.cf_debug.specs.declared.command.Command.TheVariants as commands;
 ghost use Rattle.cf_debug.specs.Commands.{AsksFew};
+ghost use Rattle.cf_debug.specs.Lending.{desk_left, desk_lent};
 ghost use Rattle.cf_debug.specs.Making.{bench_of};
 ghost use Rattle.cf_debug.specs.Outcomes.{CarriesOut, PutsBack, of_report, output_broken, report_broken};
-ghost use Rattle.cf_debug.specs.Replies.{break_text, desk_of};
+ghost use Rattle.cf_debug.specs.Replies.{break_text};
 ghost use Rattle.cf_debug.specs.Standing.{StandsSomewhere};
 
 use crate::answer::Broken;
 use crate::command::Command;
+use crate::desk::Desk;
 use crate::driving::{drive, is_spent};
 use crate::making::make;
 use crate::replies::{put_back, put_break, put_counted, put_memory, put_moved, refuse, refuse_bar};
 use crate::ring::Ring;
 use cf_bind::Move;
 use cf_core::Core;
-use cf_index::Candidates;
 use cf_io::{Failed, Sink};
 use cf_report::{put_picture, put_registers};
 
@@ -35,55 +36,54 @@ fn told(answer: Result<(), Failed>) -> Result<(), Broken>
 /// `move`.
 fn carry_move<K: Sink, R: Sink>(
     mv: Move,
-    core: &mut Core,
-    ring: &mut Ring,
+    desk: Desk<'_>,
     output: &mut K,
     report: &mut R,
 ) -> Result<(), Broken>
     ensures carries { CarriesOut (commands.Move mv)
-        (desk_of (bench_of core.old ring.old (K.written output.old)) None)
-        (desk_of (bench_of core.new ring.new (K.written output.new)) None)
+        (desk_lent desk.entry (K.written output.old)) (desk_left desk.exit (K.written output.new))
         (R.written report.old) (R.written report.new) result }
     ensures output { HasCause (K.faults output.old) (K.faults output.new) (output_broken result) }
     ensures report { HasCause (R.faults report.old) (R.faults report.new) (report_broken result) }
 {
+    let Desk { core, ring, .. } = desk;
     if is_spent(core) {
         return told(refuse(b"Limit", report));
     }
     if let Some(bar) = core.allowed(mv) {
         return told(refuse_bar(bar, report));
     }
-    match make(core, ring, mv, output) {
-        Ok(event) => told(put_moved(core, &event, report)),
-        Err(_) => Err(Broken::Output),
-    }
+    let Ok(event) = make(core, ring, mv, output) else {
+        return Err(Broken::Output);
+    };
+    told(put_moved(core, &event, report))
 }
 
 /// `auto`.
 fn carry_auto<K: Sink, R: Sink>(
     count: u32,
-    core: &mut Core,
-    candidates: &mut Candidates,
-    ring: &mut Ring,
-    stop: Option<u32>,
+    desk: Desk<'_>,
     output: &mut K,
     report: &mut R,
 ) -> Result<(), Broken>
-    requires stands { StandsSomewhere core.old ring.old }
+    requires stands { StandsSomewhere desk.core.now desk.ring.now }
     ensures carries { CarriesOut (commands.Auto count)
-        (desk_of (bench_of core.old ring.old (K.written output.old)) stop)
-        (desk_of (bench_of core.new ring.new (K.written output.new)) stop)
+        (desk_lent desk.entry (K.written output.old)) (desk_left desk.exit (K.written output.new))
         (R.written report.old) (R.written report.new) result }
     ensures output { HasCause (K.faults output.old) (K.faults output.new) (output_broken result) }
     ensures report { HasCause (R.faults report.old) (R.faults report.new) (report_broken result) }
 {
+    let Desk {
+        core,
+        candidates,
+        ring,
+        stop,
+    } = desk;
     if is_spent(core) {
         return told(refuse(b"Limit", report));
     }
-    match drive(count, core, candidates, ring, stop, output, report) {
-        Ok(made) => told(put_counted(b"auto ", u64::from(made), report)),
-        Err(broken) => Err(broken),
-    }
+    let made = drive(count, core, candidates, ring, *stop, output, report)?;
+    told(put_counted(b"auto ", u64::from(made), report))
 }
 
 /// `back`.
@@ -118,32 +118,31 @@ fn carry_break<R: Sink>(
 /// Carries a command out.
 pub(crate) fn carry_out<K: Sink, R: Sink>(
     command: Command,
-    core: &mut Core,
-    candidates: &mut Candidates,
-    ring: &mut Ring,
-    stop: &mut Option<u32>,
+    desk: Desk<'_>,
     output: &mut K,
     report: &mut R,
 ) -> Result<(), Broken>
-    requires stands { StandsSomewhere core.old ring.old }
+    requires stands { StandsSomewhere desk.core.now desk.ring.now }
     requires few { AsksFew command }
     ensures carries { CarriesOut command
-        (desk_of (bench_of core.old ring.old (K.written output.old)) stop.old)
-        (desk_of (bench_of core.new ring.new (K.written output.new)) stop.new)
+        (desk_lent desk.entry (K.written output.old)) (desk_left desk.exit (K.written output.new))
         (R.written report.old) (R.written report.new) result }
     ensures output { HasCause (K.faults output.old) (K.faults output.new) (output_broken result) }
     ensures report { HasCause (R.faults report.old) (R.faults report.new) (report_broken result) }
 {
     match command {
         Command::Nothing => Ok(()),
-        Command::Move(mv) => carry_move(mv, core, ring, output, report),
-        Command::Auto(count) => carry_auto(count, core, candidates, ring, *stop, output, report),
-        Command::Show => told(put_picture(core, report)),
-        Command::Registers => told(put_registers(core.regs(), report)),
-        Command::Memory(address, len) => told(put_memory(core, address, len, report)),
-        Command::Break(address) => told(carry_break(address, stop, report)),
-        Command::Bound => told(put_counted(b"bound ", core.bound(), report)),
-        Command::Back => told(carry_back(core, ring, report)),
+        Command::Move(mv) => carry_move(mv, desk, output, report),
+        Command::Auto(count) => carry_auto(count, desk, output, report),
+        Command::Show => told(put_picture(desk.core, report)),
+        Command::Registers => told(put_registers(desk.core.regs(), report)),
+        Command::Memory(address, len) => told(put_memory(desk.core, address, len, report)),
+        Command::Break(address) => told(carry_break(address, desk.stop, report)),
+        Command::Bound => told(put_counted(b"bound ", desk.core.bound(), report)),
+        Command::Back => {
+            let Desk { core, ring, .. } = desk;
+            told(carry_back(core, ring, report))
+        }
         Command::End => Ok(()),
     }
 }

@@ -4,6 +4,7 @@
 mod answer;
 mod carrying;
 mod command;
+mod desk;
 mod driving;
 mod feed;
 mod making;

@@ -4,16 +4,17 @@ ghost use Rattle.std.specs.Prelude.{◌≡◌, ◌≢◌, ◌≤◌, true, false
 ghost use Rattle.cf_io.specs.Causes.{HasCause};
 ghost use Rattle.cf_run.specs.Policies.{IsOpened};
 ghost use Rattle.cf_debug.specs.declared.command.Command.TheVariants as commands;
+ghost use Rattle.cf_debug.specs.Lending.{desk_left, desk_lent};
 ghost use Rattle.cf_debug.specs.Limits.{most_retired};
 ghost use Rattle.cf_debug.specs.Making.{bench_of};
 ghost use Rattle.cf_debug.specs.Outcomes.{output_broken, report_broken};
-ghost use Rattle.cf_debug.specs.Replies.{desk_of};
 ghost use Rattle.cf_debug.specs.Sessions.{Debugs, Ends, Finishes, StaysOnRun, UsesByte, commands_ended, ended_by, output_ended, report_ended, session_of};
 ghost use Rattle.cf_debug.specs.Standing.{StandsSomewhere};
 
 use crate::answer::{Broken, Debugged};
 use crate::carrying::carry_out;
 use crate::command::Command;
+use crate::desk::Desk;
 use crate::feed::{Feed, Next};
 use crate::pending::Pending;
 use crate::reading::read_command;
@@ -46,17 +47,13 @@ fn is_end(command: Command) -> bool
 /// Answers what a line tells, or tells how the session ends there.
 fn answer_line<K: Sink, R: Sink>(
     line: &[u8],
-    core: &mut Core,
-    candidates: &mut Candidates,
-    ring: &mut Ring,
-    stop: &mut Option<u32>,
+    desk: Desk<'_>,
     output: &mut K,
     report: &mut R,
 ) -> Option<Debugged>
-    requires stands { StandsSomewhere core.old ring.old }
+    requires stands { StandsSomewhere desk.core.now desk.ring.now }
     ensures ends { Ends line.now
-        (desk_of (bench_of core.old ring.old (K.written output.old)) stop.old)
-        (desk_of (bench_of core.new ring.new (K.written output.new)) stop.new)
+        (desk_lent desk.entry (K.written output.old)) (desk_left desk.exit (K.written output.new))
         (R.written report.old) (R.written report.new) result }
     ensures output { HasCause (K.faults output.old) (K.faults output.new) (output_ended result) }
     ensures report { HasCause (R.faults report.old) (R.faults report.new) (report_ended result) }
@@ -66,7 +63,7 @@ fn answer_line<K: Sink, R: Sink>(
             if is_end(command) {
                 return Some(Debugged::Done);
             }
-            ended(carry_out(command, core, candidates, ring, stop, output, report))
+            ended(carry_out(command, desk, output, report))
         }
         Err(refusal) => match refuse_line(refusal, report) {
             Ok(()) => None,
@@ -79,17 +76,13 @@ fn answer_line<K: Sink, R: Sink>(
 fn use_byte<K: Sink, R: Sink>(
     byte: u8,
     line: &mut Pending,
-    core: &mut Core,
-    candidates: &mut Candidates,
-    ring: &mut Ring,
-    stop: &mut Option<u32>,
+    desk: Desk<'_>,
     output: &mut K,
     report: &mut R,
 ) -> Option<Debugged>
-    requires stands { StandsSomewhere core.old ring.old }
+    requires stands { StandsSomewhere desk.core.now desk.ring.now }
     ensures uses { UsesByte byte line.old line.new
-        (desk_of (bench_of core.old ring.old (K.written output.old)) stop.old)
-        (desk_of (bench_of core.new ring.new (K.written output.new)) stop.new)
+        (desk_lent desk.entry (K.written output.old)) (desk_left desk.exit (K.written output.new))
         (R.written report.old) (R.written report.new) result }
     ensures output { HasCause (K.faults output.old) (K.faults output.new) (output_ended result) }
     ensures report { HasCause (R.faults report.old) (R.faults report.new) (report_ended result) }
@@ -98,7 +91,7 @@ fn use_byte<K: Sink, R: Sink>(
         line.push(byte);
         return None;
     }
-    let answer = answer_line(line.whole(), core, candidates, ring, stop, output, report);
+    let answer = answer_line(line.whole(), desk, output, report);
     line.clear();
     answer
 }
@@ -106,17 +99,13 @@ fn use_byte<K: Sink, R: Sink>(
 /// Answers the unfinished line at the end of the commands, if there is one.
 fn finish<K: Sink, R: Sink>(
     line: &Pending,
-    core: &mut Core,
-    candidates: &mut Candidates,
-    ring: &mut Ring,
-    stop: &mut Option<u32>,
+    desk: Desk<'_>,
     output: &mut K,
     report: &mut R,
 ) -> Debugged
-    requires stands { StandsSomewhere core.old ring.old }
+    requires stands { StandsSomewhere desk.core.now desk.ring.now }
     ensures finishes { Finishes line.now
-        (desk_of (bench_of core.old ring.old (K.written output.old)) stop.old)
-        (desk_of (bench_of core.new ring.new (K.written output.new)) stop.new)
+        (desk_lent desk.entry (K.written output.old)) (desk_left desk.exit (K.written output.new))
         (R.written report.old) (R.written report.new) result }
     ensures output { HasCause (K.faults output.old) (K.faults output.new) (output_ended (Some result)) }
     ensures report { HasCause (R.faults report.old) (R.faults report.new) (report_ended (Some result)) }
@@ -124,7 +113,7 @@ fn finish<K: Sink, R: Sink>(
     if line.bytes().is_empty() {
         return Debugged::Done;
     }
-    match answer_line(line.bytes(), core, candidates, ring, stop, output, report) {
+    match answer_line(line.bytes(), desk, output, report) {
         Some(answer) => answer,
         None => Debugged::Done,
     }
@@ -166,15 +155,19 @@ pub fn debug<S: Source, K: Sink, R: Sink>(
     let mut line = Pending::new();
     let mut feed = Feed::new();
     loop {
+        let desk = Desk {
+            core,
+            candidates,
+            ring,
+            stop: &mut stop,
+        };
         match feed.next(commands) {
             Next::Byte(byte) => {
-                if let Some(answer) = use_byte(
-                    byte, &mut line, core, candidates, ring, &mut stop, output, report,
-                ) {
+                if let Some(answer) = use_byte(byte, &mut line, desk, output, report) {
                     return answer;
                 }
             }
-            Next::AtEnd => return finish(&line, core, candidates, ring, &mut stop, output, report),
+            Next::AtEnd => return finish(&line, desk, output, report),
             Next::TooMany => return Debugged::Limit,
             Next::Fault => return Debugged::ReadFault,
         }

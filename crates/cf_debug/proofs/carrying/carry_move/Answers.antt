@@ -8,8 +8,8 @@ returns-then-is_spent-clause-carries g c = as-told _ _ _ _ _ _ _ c.told.ensures 
 pub returns-in-Some-clause-carries : goal.returns-in-Some-clause-carries
 returns-in-Some-clause-carries g c = as-told _ _ _ _ _ _ _ c.told-in-Some.ensures (carries-move _ _ _ _ _ _ _ _ _ _ (moves-barred _ _ _ (c.is_spent.ensures.no c.if-is_spent.false) (sym c.in-Some.ensures)) c.refuse_bar.ensures)
 
-pub returns-in-Ok-clause-carries : goal.returns-in-Ok-clause-carries
-returns-in-Ok-clause-carries g c = as-told _ _ _ _ _ _ _ c.told-in-Ok.ensures (carries-move _ _ _ _ _ _ _ _ _ _ (moves-made _ _ _ _ (c.is_spent.ensures.no c.if-is_spent.false) c.in-Ok.ensures.makes) c.put_moved.ensures)
+pub returns-clause-carries : goal.returns-clause-carries
+returns-clause-carries g c = as-told _ _ _ _ _ _ _ c.told-2.ensures (carries-move _ _ _ _ _ _ _ _ _ _ (moves-made _ _ _ _ (c.is_spent.ensures.no c.if-is_spent.false) c.in-Ok.ensures.makes) c.put_moved.ensures)
 
-pub returns-in-Err-clause-carries : goal.returns-in-Err-clause-carries
-returns-in-Err-clause-carries g c = move-aground _ _ _ _ _ _ c.in-Err.ensures.makes
+pub returns-in_default-make-clause-carries : goal.returns-in_default-make-clause-carries
+returns-in_default-make-clause-carries g c = move-aground _ _ _ _ _ _ c.in_default-make.ensures.makes

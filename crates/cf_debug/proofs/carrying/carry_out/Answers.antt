@@ -1,11 +1,11 @@
-use Rattle.std.proofs.Common.{◌≤◌, refl, ap, subst}
+use Rattle.std.proofs.Common.{refl, ap, subst}
 use Rattle.std.specs.Prelude.{codes}
 use Rattle.cf_texts.specs.Texts.{counted_line}
 use Rattle.cf_report.specs.Lines.{registers_text}
 use Rattle.cf_debug.specs.Commands.{AsksFew}
 use Rattle.cf_debug.specs.Making.{bench_of}
 use Rattle.cf_debug.specs.Replies.{Carries, CarriesPart, desk_of}
-use Rattle.cf_debug.proofs.Answering.{as-command, as-told, carries-back, carries-nothing, carries-told, move-anywhere}
+use Rattle.cf_debug.proofs.Answering.{as-command, as-told, carries-back, carries-nothing, carries-told}
 use Rattle.cf_debug.proofs.carrying.carry_out.Goals as goal
 
 pub put_memory-requires : goal.put_memory-requires
@@ -16,7 +16,7 @@ unfolding Carries
 returns-in-Nothing-clause-carries g c = as-command _ _ _ _ _ _ _ c.in-Nothing.is (carries-nothing _ _ _ (refl, refl))
 
 pub returns-in-Move-clause-carries : goal.returns-in-Move-clause-carries
-returns-in-Move-clause-carries g c = as-command _ _ _ _ _ _ _ c.in-Move.is (move-anywhere _ _ _ _ _ _ _ _ c.carry_move.ensures.carries)
+returns-in-Move-clause-carries g c = as-command _ _ _ _ _ _ _ c.in-Move.is c.carry_move.ensures.carries
 
 pub returns-in-Show-clause-carries : goal.returns-in-Show-clause-carries
 unfolding Carries CarriesPart
@@ -35,7 +35,7 @@ returns-in-Memory-clause-carries g c = as-command _ _ _ _ _ _ _ c.in-Memory.is (
 pub returns-in-Break-clause-carries : goal.returns-in-Break-clause-carries
 unfolding Carries CarriesPart
 returns-in-Break-clause-carries g c =
-    let set = ap (desk_of (bench_of c.args.core.now c.args.ring.now (g.K.Sink.written c.args.output.now))) c.carry_break.ensures.stop in
+    let set = ap (desk_of (bench_of c.args.desk.core.now c.args.desk.ring.now (g.K.Sink.written c.args.output.now))) c.carry_break.ensures.stop in
     as-command _ _ _ _ _ _ _ c.in-Break.is (as-told _ _ _ _ _ _ _ c.told-in-Break.ensures (carries-told _ _ _ _ _ _ _ _ _ (set, refl) (set, refl) c.carry_break.ensures.puts))
 
 pub returns-in-Bound-clause-carries : goal.returns-in-Bound-clause-carries
