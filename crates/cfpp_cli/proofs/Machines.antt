@@ -1,5 +1,5 @@
 -- A run of the processor that ends with Exit, Trap or Limit answers as `machine` does.
-use Rattle.std.proofs.Common.{◌≡◌, ◌<◌, ◌+◌, ◌-◌, ℕ, zero, suc, List, [], ◌++◌, Option, Some, None, Result, Ok, Err, false, refl, sym, ap, subst, ◌∙◌, inl, inr, arith}
+use Rattle.std.proofs.Common.{◌≡◌, ◌<◌, ◌+◌, ◌-◌, ℕ, zero, suc, List, [], ◌++◌, Option, Some, None, Result, Ok, false, refl, sym, ap, subst, ◌∙◌, inl, inr, arith}
 use Rattle.cf_asked.specs.declared.show.Show.{Show}
 use Rattle.rv_inst.specs.declared.isa.Isa.{Isa}
 use Rattle.rv_machine.specs.Hart.{Hart}
@@ -8,7 +8,6 @@ use Rattle.rv_machine.specs.Outcome.{Outcome, Next, Trap, Exit}
 use Rattle.rv_machine.specs.Step.{step}
 use Rattle.rv_machine.specs.Streams.{Streams, Leaves}
 use Rattle.rv_machine.specs.declared.outcome.Retired.{Retired}
-use Rattle.cf_io.specs.Causes.{Rose}
 use Rattle.cf_io.specs.declared.failed.Failed.{Failed}
 use Rattle.cf_bind.specs.declared.moves.Move.{Move}
 use Rattle.cf_layout.specs.Layout.{Plan, has_mul}

@@ -8,7 +8,7 @@ use Rattle.cli_files.specs.Causes.{files_answered, input_answered, output_answer
 use Rattle.cfpp_cli.specs.Deciding.{Decided}
 use Rattle.cli_files.specs.Outside.{Outside, Report}
 use Rattle.cfpp_cli.specs.Reporting.{Puts}
-use Rattle.cfpp_cli.specs.Worlds.{Span}
+use Rattle.cfpp_cli.specs.Passages.{Span}
 use Rattle.cfpp_cli.specs.Top.{Completes, IsTop, NoneRose, Reports, says_fault}
 use Rattle.cfpp_cli.specs.declared.reporting.Reported.{Reported}
 use Rattle.cfpp_cli.proofs.FilesRead.{answers-read, breaks-read}

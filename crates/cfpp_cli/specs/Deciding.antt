@@ -4,7 +4,7 @@ use Rattle.cf_io.specs.declared.failed.Failed.{Failed}
 use Rattle.cf_words.specs.Words.{Asked}
 use Rattle.cfpp_cli.specs.Reporting.{CarriesOut}
 use Rattle.cfpp_cli.specs.Top.{Reading, Answers, Breaks}
-use Rattle.cfpp_cli.specs.Worlds.{Span}
+use Rattle.cfpp_cli.specs.Passages.{Span}
 use Rattle.cfpp_cli.specs.declared.reporting.Reported.{Reported}
 
 -- what the words ask was carried out, or the report failed at it

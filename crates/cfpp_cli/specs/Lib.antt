@@ -1,5 +1,4 @@
 pub mod Causes
-pub mod Worlds
 pub mod Check
 pub mod Deciding
 pub mod Drawn
@@ -11,6 +10,7 @@ pub mod Listings
 pub mod Machine
 pub mod NamedFiles
 pub mod Options
+pub mod Passages
 pub mod Reporting
 pub mod Rounds
 pub mod Run

@@ -9,7 +9,7 @@ use Rattle.cli_files.specs.Causes.{files_answered}
 use Rattle.cli_files.specs.Outside.{Outside, Report}
 use Rattle.cli_files.specs.declared.answer.Answer.{Answer}
 use Rattle.cli_files.specs.declared.status.Status.{Status}
-use Rattle.cfpp_cli.specs.Worlds.{Span, Passage}
+use Rattle.cfpp_cli.specs.Passages.{Span, Passage}
 use Rattle.cfpp_cli.specs.declared.reporting.Reported.{Reported}
 
 -- the text was put to the report, or the report failed behind a front of it

@@ -1,5 +1,5 @@
 -- What the commands `run` and `moves` answer, and what they leave of the outside.
-use Rattle.std.specs.Prelude.{◌≡◌, ◌≤◌, ◌-◌, ◌⊎◌, ℕ, List, [], ◌++◌, true, false, codes, Option, None}
+use Rattle.std.specs.Prelude.{◌≡◌, ◌≤◌, ◌-◌, ◌⊎◌, ℕ, List, [], ◌++◌, true, false, Option, None}
 use Rattle.cf_asked.specs.declared.show.Show.{Show}
 use Rattle.rv_machine.specs.Hart.{Hart}
 use Rattle.rv_machine.specs.Streams.{Streams}

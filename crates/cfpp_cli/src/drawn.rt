@@ -8,11 +8,12 @@ ghost use Rattle.cli_files.specs.Causes.{files_answered, input_answered, output_
 ghost use Rattle.cfpp_cli.specs.Drawn.{AnswersDrawn, BreaksDrawn, IsUndrawn, StartsDrawn};
 ghost use Rattle.cfpp_cli.specs.FileCommands.{PutsOrFails};
 ghost use Rattle.cfpp_cli.specs.Reporting.{ComesOver, Tells, files_reported};
-ghost use Rattle.cfpp_cli.specs.Worlds.{passage};
+ghost use Rattle.cfpp_cli.specs.Passages.{passage, input_left, output_left};
 
 use crate::assembling::file_of;
 use crate::reporting::{Reported, put_answer};
 use crate::run::run_ready;
+use crate::streams::Streams;
 use crate::tail::Tail;
 use cf_gen::generate;
 use cf_io::{Failed, MemSink, Sink, Source};
@@ -83,21 +84,19 @@ fn drawn_machine(alloc: Global, number: u32) -> Result<Machine, Answer>
 pub fn run_drawn<S: Source, K: Sink, R: Sink>(
     alloc: Global,
     number: u32,
-    input: &mut S,
-    output: &mut K,
-    report: &mut R,
+    streams: Streams<'_, S, K, R>,
 ) -> Result<Reported, Failed>
     requires some { 1 ≤ number }
     requires limit { number ≤ most_statements }
     ensures answers { ComesOver (AnswersDrawn number) (BreaksDrawn number)
-        (passage S.left K.written R.written R.faults input.old output.old report.old input.new output.new report.new) result }
+        (passage S.left K.written R.written R.faults streams.entry streams.exit) result }
     ensures files { files_reported result ≡ Ok tt }
-    ensures input { Tells input_answered (S.faults input.old) (S.faults input.new) result }
-    ensures output { Tells output_answered (K.faults output.old) (K.faults output.new) result }
+    ensures input { Tells input_answered (S.faults streams.entry.input.now) (S.faults (input_left streams.exit)) result }
+    ensures output { Tells output_answered (K.faults streams.entry.output.now) (K.faults (output_left streams.exit)) result }
 {
     let machine = match drawn_machine(alloc, number) {
         Ok(machine) => machine,
-        Err(answer) => return Ok(put_answer(answer, report)),
+        Err(answer) => return Ok(put_answer(answer, streams.report)),
     };
     let ready = Ready {
         layout: plain(),
@@ -109,5 +108,5 @@ pub fn run_drawn<S: Source, K: Sink, R: Sink>(
         limit: DEFAULT_LIMIT,
         show: Show::Report,
     };
-    run_ready(alloc, ready, options, Tail::Nothing, input, output, report)
+    run_ready(alloc, ready, options, Tail::Nothing, streams)
 }

@@ -16,9 +16,9 @@ mod reporting;
 mod rounds;
 mod run;
 mod running;
+mod streams;
 mod tail;
 mod top;
-mod world;
 
 pub use cli_files::{DelaysFault, ProgramErr, ScriptFault, Status, TraceFault, Which};
 pub use top::cfpp;

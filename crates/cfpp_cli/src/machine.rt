@@ -6,12 +6,12 @@ ghost use Rattle.cli_files.specs.Causes.{input_answered, output_answered};
 ghost use Rattle.cfpp_cli.specs.Machine.{RunsHart, BreaksHart, AnswersMachine, BreaksProgram};
 ghost use Rattle.cfpp_cli.specs.Options.{chosen_of};
 ghost use Rattle.cfpp_cli.specs.Reporting.{CarriesOut, ComesOver, Tells, files_reported};
-ghost use Rattle.cfpp_cli.specs.Worlds.{passage, span, files_left, input_left, output_left};
+ghost use Rattle.cfpp_cli.specs.Passages.{passage, span, input_left, output_left};
 
 use crate::finishing::close_machine;
 use crate::reporting::{Reported, put_answer};
 use crate::running::run;
-use crate::world::World;
+use crate::streams::Streams;
 use cf_io::{Failed, Files, Sink, Source};
 use cf_words::MachineOptions;
 use cli_files::program_at;
@@ -25,19 +25,22 @@ use std::alloc::Global;
 fn run_machine<S: Source, K: Sink, R: Sink>(
     machine: Machine,
     options: MachineOptions,
-    input: &mut S,
-    output: &mut K,
-    report: &mut R,
+    streams: Streams<'_, S, K, R>,
 ) -> Result<Reported, Failed>
     requires { machine.retired ≡ 0 }
     ensures comes { ComesOver
         (λ before after blank. RunsHart (chosen_of options.limit options.show_retired options.mul) machine before after)
         (BreaksHart (chosen_of options.limit options.show_retired options.mul) machine)
-        (passage S.left K.written R.written R.faults input.old output.old report.old input.new output.new report.new) result }
+        (passage S.left K.written R.written R.faults streams.entry streams.exit) result }
     ensures files { files_reported result ≡ Ok tt }
-    ensures input { Tells input_answered (S.faults input.old) (S.faults input.new) result }
-    ensures output { Tells output_answered (K.faults output.old) (K.faults output.new) result }
+    ensures input { Tells input_answered (S.faults streams.entry.input.now) (S.faults (input_left streams.exit)) result }
+    ensures output { Tells output_answered (K.faults streams.entry.output.now) (K.faults (output_left streams.exit)) result }
 {
+    let Streams {
+        input,
+        output,
+        report,
+    } = streams;
     let mut running = machine;
     let finish = run(&mut running, options, input, output, report);
     close_machine(&running, options.limit, finish, report)
@@ -50,26 +53,19 @@ pub fn run_program<F: Files, S: Source, K: Sink, R: Sink>(
     alloc: Global,
     program: &str,
     options: MachineOptions,
-    world: World<'_, F, S, K, R>,
+    files: &mut F,
+    streams: Streams<'_, S, K, R>,
 ) -> Result<Reported, Failed>
     ensures answers { CarriesOut
         (λ before after blank. AnswersMachine program.now (chosen_of options.limit options.show_retired options.mul) before after)
         (BreaksProgram program.now (chosen_of options.limit options.show_retired options.mul))
-        (span F.told F.faults S.left S.faults K.written K.faults R.written R.faults world.entry world.exit) result }
-    ensures files { HasCause (F.faults world.entry.files.now) (F.faults (files_left world.exit)) (files_reported result) }
-    ensures input { Tells input_answered (S.faults world.entry.input.now) (S.faults (input_left world.exit)) result }
-    ensures output { Tells output_answered (K.faults world.entry.output.now) (K.faults (output_left world.exit)) result }
+        (span F.told F.faults S.left S.faults K.written K.faults R.written R.faults files.old files.new streams.entry streams.exit) result }
+    ensures files { HasCause (F.faults files.old) (F.faults files.new) (files_reported result) }
+    ensures input { Tells input_answered (S.faults streams.entry.input.now) (S.faults (input_left streams.exit)) result }
+    ensures output { Tells output_answered (K.faults streams.entry.output.now) (K.faults (output_left streams.exit)) result }
 {
-    match program_at(alloc, program, world.files) {
-        Ok(machine) => {
-            let World {
-                input,
-                output,
-                report,
-                ..
-            } = world;
-            run_machine(machine, options, input, output, report)
-        }
-        Err(answer) => Ok(put_answer(answer, world.report)),
+    match program_at(alloc, program, files) {
+        Ok(machine) => run_machine(machine, options, streams),
+        Err(answer) => Ok(put_answer(answer, streams.report)),
     }
 }

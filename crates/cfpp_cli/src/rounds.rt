@@ -8,12 +8,12 @@ ghost use Rattle.cf_rounds.specs.Running.{ran_of as ran_for};
 ghost use Rattle.cf_run.specs.Policies.{IsOpened};
 ghost use Rattle.cli_files.specs.Causes.{files_answered, input_answered, output_answered};
 ghost use Rattle.cfpp_cli.specs.Reporting.{ReportsAll, ReportsOver};
-ghost use Rattle.cfpp_cli.specs.Worlds.{passage, span, files_left, input_left, output_left};
+ghost use Rattle.cfpp_cli.specs.Passages.{passage, span, input_left, output_left};
 ghost use Rattle.cfpp_cli.specs.Rounds.{rounds_asked, RunsCoreInRounds, ComesInRounds, AnswersRounds};
 
 use crate::finishing::{close_in_rounds, no_moves};
 use crate::reporting::{Reported, put_answer};
-use crate::world::World;
+use crate::streams::Streams;
 use cf_core::Core;
 use cf_index::Candidates;
 use cf_io::{Files, Sink, Source};
@@ -42,19 +42,22 @@ fn run_core<S: Source, K: Sink, R: Sink>(
     core: &mut Core,
     candidates: &mut Candidates,
     limit: u64,
-    input: &mut S,
-    output: &mut K,
-    report: &mut R,
+    streams: Streams<'_, S, K, R>,
 ) -> Reported
     requires limit { limit ≤ most_limit }
     requires retired { core.old.state.retired ≤ limit }
     requires opened { IsOpened core.old }
     ensures runs { ReportsOver (RunsCoreInRounds limit core.old core.new)
-        (passage S.left K.written R.written R.faults input.old output.old report.old input.new output.new report.new) result }
+        (passage S.left K.written R.written R.faults streams.entry streams.exit) result }
     ensures files { files_answered result.status ≡ Ok tt }
-    ensures input { HasCause (S.faults input.old) (S.faults input.new) (input_answered result.status) }
-    ensures output { HasCause (K.faults output.old) (K.faults output.new) (output_answered result.status) }
+    ensures input { HasCause (S.faults streams.entry.input.now) (S.faults (input_left streams.exit)) (input_answered result.status) }
+    ensures output { HasCause (K.faults streams.entry.output.now) (K.faults (output_left streams.exit)) (output_answered result.status) }
 {
+    let Streams {
+        input,
+        output,
+        report,
+    } = streams;
     let mut tally = no_moves();
     let mut rounds = 0;
     let clocked = run_rounds(
@@ -75,24 +78,22 @@ fn run_loaded<S: Source, K: Sink, R: Sink>(
     alloc: Global,
     loaded: Loaded,
     limit: u64,
-    input: &mut S,
-    output: &mut K,
-    report: &mut R,
+    streams: Streams<'_, S, K, R>,
 ) -> Reported
     requires count { loaded.machine.retired ≡ 0 }
     requires limit { limit ≤ most_limit }
     ensures comes { ReportsOver (ComesInRounds limit loaded.layout loaded.machine)
-        (passage S.left K.written R.written R.faults input.old output.old report.old input.new output.new report.new) result }
+        (passage S.left K.written R.written R.faults streams.entry streams.exit) result }
     ensures files { files_answered result.status ≡ Ok tt }
-    ensures input { HasCause (S.faults input.old) (S.faults input.new) (input_answered result.status) }
-    ensures output { HasCause (K.faults output.old) (K.faults output.new) (output_answered result.status) }
+    ensures input { HasCause (S.faults streams.entry.input.now) (S.faults (input_left streams.exit)) (input_answered result.status) }
+    ensures output { HasCause (K.faults streams.entry.output.now) (K.faults (output_left streams.exit)) (output_answered result.status) }
 {
     let Ok(mut candidates) = Candidates::new(alloc) else {
-        return put_answer(no_memory(), report);
+        return put_answer(no_memory(), streams.report);
     };
     match Core::new(alloc, loaded.layout, loaded.machine) {
-        Ok(mut core) => run_core(&mut core, &mut candidates, limit, input, output, report),
-        Err(_) => put_answer(no_memory(), report),
+        Ok(mut core) => run_core(&mut core, &mut candidates, limit, streams),
+        Err(_) => put_answer(no_memory(), streams.report),
     }
 }
 
@@ -104,25 +105,18 @@ pub fn run_in_rounds<F: Files, S: Source, K: Sink, R: Sink>(
     layout: LayoutWord<'_>,
     program: &str,
     limit: u64,
-    world: World<'_, F, S, K, R>,
+    files: &mut F,
+    streams: Streams<'_, S, K, R>,
 ) -> Reported
     requires { limit ≤ most_limit }
     ensures answers { ReportsAll (AnswersRounds (rounds_asked (layout_of layout.entry) program.now limit))
-        (span F.told F.faults S.left S.faults K.written K.faults R.written R.faults world.entry world.exit) result }
-    ensures files { HasCause (F.faults world.entry.files.now) (F.faults (files_left world.exit)) (files_answered result.status) }
-    ensures input { HasCause (S.faults world.entry.input.now) (S.faults (input_left world.exit)) (input_answered result.status) }
-    ensures output { HasCause (K.faults world.entry.output.now) (K.faults (output_left world.exit)) (output_answered result.status) }
+        (span F.told F.faults S.left S.faults K.written K.faults R.written R.faults files.old files.new streams.entry streams.exit) result }
+    ensures files { HasCause (F.faults files.old) (F.faults files.new) (files_answered result.status) }
+    ensures input { HasCause (S.faults streams.entry.input.now) (S.faults (input_left streams.exit)) (input_answered result.status) }
+    ensures output { HasCause (K.faults streams.entry.output.now) (K.faults (output_left streams.exit)) (output_answered result.status) }
 {
-    match load(alloc, layout, program, world.files) {
-        Ok(loaded) => {
-            let World {
-                input,
-                output,
-                report,
-                ..
-            } = world;
-            run_loaded(alloc, loaded, limit, input, output, report)
-        }
-        Err(answer) => put_answer(answer, world.report),
+    match load(alloc, layout, program, files) {
+        Ok(loaded) => run_loaded(alloc, loaded, limit, streams),
+        Err(answer) => put_answer(answer, streams.report),
     }
 }

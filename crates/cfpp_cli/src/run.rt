@@ -10,14 +10,14 @@ ghost use Rattle.cli_files.specs.Causes.{input_answered, output_answered};
 ghost use Rattle.cli_files.specs.RunFiles.{run_asked};
 ghost use Rattle.cfpp_cli.specs.Reporting.{CarriesOut, ComesOver, Tells, files_reported};
 ghost use Rattle.cfpp_cli.specs.Run.{chosen_by, RunsCore, BreaksCore, ComesOf, AnswersRun, BreaksRun};
-ghost use Rattle.cfpp_cli.specs.Worlds.{passage, span, files_left, input_left, output_left};
+ghost use Rattle.cfpp_cli.specs.Passages.{passage, span, input_left, output_left};
 ghost use Rattle.cli_files.specs.Schedules.{schedule_view, FitsScript};
 
 use crate::by_policy::run_by_policy;
 use crate::by_script::run_by_script;
 use crate::reporting::{Reported, put_answer};
+use crate::streams::Streams;
 use crate::tail::{Tail, add_tail};
-use crate::world::World;
 use cf_core::Core;
 use cf_index::Candidates;
 use cf_io::{Failed, Files, Sink, Source};
@@ -35,30 +35,28 @@ fn run_scheduled<S: Source, K: Sink, R: Sink>(
     schedule: &ReadySchedule,
     limit: u64,
     show: Show,
-    input: &mut S,
-    output: &mut K,
-    report: &mut R,
+    streams: Streams<'_, S, K, R>,
 ) -> Result<Reported, Failed>
     requires begins { CanRun limit core.old }
     requires fits { FitsScript (schedule_view schedule.now) }
     ensures runs { ComesOver (RunsCore limit show core.old core.new (chosen_by limit show (schedule_view schedule.now)))
         (BreaksCore limit show core.old (chosen_by limit show (schedule_view schedule.now)))
-        (passage S.left K.written R.written R.faults input.old output.old report.old input.new output.new report.new) result }
+        (passage S.left K.written R.written R.faults streams.entry streams.exit) result }
     ensures files { files_reported result ≡ Ok tt }
-    ensures input { Tells input_answered (S.faults input.old) (S.faults input.new) result }
-    ensures output { Tells output_answered (K.faults output.old) (K.faults output.new) result }
+    ensures input { Tells input_answered (S.faults streams.entry.input.now) (S.faults (input_left streams.exit)) result }
+    ensures output { Tells output_answered (K.faults streams.entry.output.now) (K.faults (output_left streams.exit)) result }
 {
     match schedule {
         ReadySchedule::Script(text) => {
-            run_by_script(core, text.as_slice(), limit, show, input, output, report)
+            run_by_script(core, text.as_slice(), limit, show, streams)
         }
         ReadySchedule::Seed(seed) => {
             let drawn = Drawn::new(*seed);
-            run_by_policy(core, candidates, drawn, limit, show, input, output, report)
+            run_by_policy(core, candidates, drawn, limit, show, streams)
         }
         ReadySchedule::Rule => {
             let round = Round::new();
-            run_by_policy(core, candidates, round, limit, show, input, output, report)
+            run_by_policy(core, candidates, round, limit, show, streams)
         }
     }
 }
@@ -70,9 +68,7 @@ pub fn run_ready<S: Source, K: Sink, R: Sink>(
     ready: Ready,
     options: RunOptions<'_>,
     tail: Tail,
-    input: &mut S,
-    output: &mut K,
-    report: &mut R,
+    streams: Streams<'_, S, K, R>,
 ) -> Result<Reported, Failed>
     requires limit { options.limit ≤ most_limit }
     requires count { ready.machine.retired ≡ 0 }
@@ -80,11 +76,16 @@ pub fn run_ready<S: Source, K: Sink, R: Sink>(
     ensures comes { ComesOver
         (ComesOf options.entry.limit options.entry.show tail ready.layout ready.machine (schedule_view ready.schedule))
         (BreaksCore options.entry.limit options.entry.show (opened ready.layout ready.machine) (chosen_by options.entry.limit options.entry.show (schedule_view ready.schedule)))
-        (passage S.left K.written R.written R.faults input.old output.old report.old input.new output.new report.new) result }
+        (passage S.left K.written R.written R.faults streams.entry streams.exit) result }
     ensures files { files_reported result ≡ Ok tt }
-    ensures input { Tells input_answered (S.faults input.old) (S.faults input.new) result }
-    ensures output { Tells output_answered (K.faults output.old) (K.faults output.new) result }
+    ensures input { Tells input_answered (S.faults streams.entry.input.now) (S.faults (input_left streams.exit)) result }
+    ensures output { Tells output_answered (K.faults streams.entry.output.now) (K.faults (output_left streams.exit)) result }
 {
+    let Streams {
+        input,
+        output,
+        report,
+    } = streams;
     let Ok(mut candidates) = Candidates::new(alloc) else {
         return Ok(put_answer(no_memory(), report));
     };
@@ -98,9 +99,11 @@ pub fn run_ready<S: Source, K: Sink, R: Sink>(
         &ready.schedule,
         options.limit,
         options.show,
-        input,
-        output,
-        report,
+        Streams {
+            input,
+            output,
+            report: &mut *report,
+        },
     )?;
     Ok(add_tail(tail, &core, reported, report))
 }
@@ -115,27 +118,20 @@ pub fn run_processor<F: Files, S: Source, K: Sink, R: Sink>(
     program: &str,
     options: RunOptions<'_>,
     tail: Tail,
-    world: World<'_, F, S, K, R>,
+    files: &mut F,
+    streams: Streams<'_, S, K, R>,
 ) -> Result<Reported, Failed>
     requires { options.limit ≤ most_limit }
     ensures answers { CarriesOut
         (AnswersRun tail (run_asked (layout_of layout.entry) program.now (asked_schedule options.entry.schedule) options.entry.limit options.entry.show))
         (BreaksRun (run_asked (layout_of layout.entry) program.now (asked_schedule options.entry.schedule) options.entry.limit options.entry.show))
-        (span F.told F.faults S.left S.faults K.written K.faults R.written R.faults world.entry world.exit) result }
-    ensures files { HasCause (F.faults world.entry.files.now) (F.faults (files_left world.exit)) (files_reported result) }
-    ensures input { Tells input_answered (S.faults world.entry.input.now) (S.faults (input_left world.exit)) result }
-    ensures output { Tells output_answered (K.faults world.entry.output.now) (K.faults (output_left world.exit)) result }
+        (span F.told F.faults S.left S.faults K.written K.faults R.written R.faults files.old files.new streams.entry streams.exit) result }
+    ensures files { HasCause (F.faults files.old) (F.faults files.new) (files_reported result) }
+    ensures input { Tells input_answered (S.faults streams.entry.input.now) (S.faults (input_left streams.exit)) result }
+    ensures output { Tells output_answered (K.faults streams.entry.output.now) (K.faults (output_left streams.exit)) result }
 {
-    match read_files(alloc, layout, program, options, world.files) {
-        Ok(ready) => {
-            let World {
-                input,
-                output,
-                report,
-                ..
-            } = world;
-            run_ready(alloc, ready, options, tail, input, output, report)
-        }
-        Err(answer) => Ok(put_answer(answer, world.report)),
+    match read_files(alloc, layout, program, options, files) {
+        Ok(ready) => run_ready(alloc, ready, options, tail, streams),
+        Err(answer) => Ok(put_answer(answer, streams.report)),
     }
 }

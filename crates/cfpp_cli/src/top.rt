@@ -7,7 +7,7 @@ ghost use Rattle.cli_files.specs.Outside.{outside_of, report_of};
 ghost use Rattle.cfpp_cli.specs.Deciding.{Decided};
 ghost use Rattle.cfpp_cli.specs.Reporting.{Tells, files_reported};
 ghost use Rattle.cfpp_cli.specs.Top.{IsTop, NoneRose, says_fault};
-ghost use Rattle.cfpp_cli.specs.Worlds.{span, files_left, input_left, output_left};
+ghost use Rattle.cfpp_cli.specs.Passages.{span, input_left, output_left};
 
 use crate::asm::assemble_program;
 use crate::check::check_layout;
@@ -19,8 +19,8 @@ use crate::putting::put_text;
 use crate::reporting::{Reported, put_answer, put_decided};
 use crate::rounds::run_in_rounds;
 use crate::run::run_processor;
+use crate::streams::Streams;
 use crate::tail::Tail;
-use crate::world::World;
 use cf_io::{Failed, Files, Sink, Source};
 use cf_words::{Command, RunOptions, Show, read_words};
 use cli_audit::audit_trace;
@@ -33,23 +33,34 @@ use std::alloc::Global;
 fn decide<F: Files, S: Source, K: Sink, R: Sink>(
     alloc: Global,
     words: &[String],
-    world: World<'_, F, S, K, R>,
+    files: &mut F,
+    streams: Streams<'_, S, K, R>,
 ) -> Result<Reported, Failed>
     ensures decided { Decided (map string_bytes words.now)
-        (span F.told F.faults S.left S.faults K.written K.faults R.written R.faults world.entry world.exit) result }
-    ensures files { HasCause (F.faults world.entry.files.now) (F.faults (files_left world.exit)) (files_reported result) }
-    ensures input { Tells input_answered (S.faults world.entry.input.now) (S.faults (input_left world.exit)) result }
-    ensures output { Tells output_answered (K.faults world.entry.output.now) (K.faults (output_left world.exit)) result }
+        (span F.told F.faults S.left S.faults K.written K.faults R.written R.faults files.old files.new streams.entry streams.exit) result }
+    ensures files { HasCause (F.faults files.old) (F.faults files.new) (files_reported result) }
+    ensures input { Tells input_answered (S.faults streams.entry.input.now) (S.faults (input_left streams.exit)) result }
+    ensures output { Tells output_answered (K.faults streams.entry.output.now) (K.faults (output_left streams.exit)) result }
 {
     match read_words(words) {
-        Ok(Command::Machine { program, options }) => { run_program(alloc, program, options, world) }
+        Ok(Command::Machine { program, options }) => {
+            run_program(alloc, program, options, files, streams)
+        }
         Ok(
             Command::Run {
                 layout,
                 program,
                 options,
             },
-        ) => run_processor(alloc, layout, program, options, Tail::Nothing, world),
+        ) => run_processor(
+            alloc,
+            layout,
+            program,
+            options,
+            Tail::Nothing,
+            files,
+            streams,
+        ),
         Ok(
             Command::Moves {
                 layout,
@@ -63,55 +74,32 @@ fn decide<F: Files, S: Source, K: Sink, R: Sink>(
                 limit,
                 show: Show::Report,
             };
-            run_processor(alloc, layout, program, options, Tail::Moves, world)
+            run_processor(alloc, layout, program, options, Tail::Moves, files, streams)
         }
         Ok(Command::Check { layout }) => {
-            let World {
-                files,
-                output,
-                report,
-                ..
-            } = world;
-            Ok(put_answer(check_layout(alloc, layout, files, output), report))
+            let answer = check_layout(alloc, layout, files, streams.output);
+            Ok(put_answer(answer, streams.report))
         }
         Ok(Command::Asm { source }) => {
-            let World {
-                files,
-                output,
-                report,
-                ..
-            } = world;
-            Ok(put_answer(assemble_program(alloc, source, files, output), report))
+            let answer = assemble_program(alloc, source, files, streams.output);
+            Ok(put_answer(answer, streams.report))
         }
         Ok(Command::List { program }) => {
-            let World {
-                files,
-                output,
-                report,
-                ..
-            } = world;
-            Ok(put_answer(list_program(alloc, program, files, output), report))
+            let answer = list_program(alloc, program, files, streams.output);
+            Ok(put_answer(answer, streams.report))
         }
-        Ok(Command::Gen { number, run: true }) => {
-            let World {
-                input,
-                output,
-                report,
-                ..
-            } = world;
-            run_drawn(alloc, number, input, output, report)
-        }
+        Ok(Command::Gen { number, run: true }) => { run_drawn(alloc, number, streams) }
         Ok(Command::Gen { number, run: false }) => {
-            let World { output, report, .. } = world;
-            Ok(put_answer(put_drawn(number, output), report))
+            let answer = put_drawn(number, streams.output);
+            Ok(put_answer(answer, streams.report))
         }
         Ok(Command::Help) => {
-            let World { output, report, .. } = world;
-            Ok(put_answer(put_text(HELP, output), report))
+            let answer = put_text(HELP, streams.output);
+            Ok(put_answer(answer, streams.report))
         }
         Ok(Command::Version) => {
-            let World { output, report, .. } = world;
-            Ok(put_answer(put_text(VERSION, output), report))
+            let answer = put_text(VERSION, streams.output);
+            Ok(put_answer(answer, streams.report))
         }
         Ok(
             Command::Rounds {
@@ -119,7 +107,7 @@ fn decide<F: Files, S: Source, K: Sink, R: Sink>(
                 program,
                 limit,
             },
-        ) => Ok(run_in_rounds(alloc, layout, program, limit, world)),
+        ) => Ok(run_in_rounds(alloc, layout, program, limit, files, streams)),
         Ok(
             Command::Audit {
                 layout,
@@ -127,24 +115,15 @@ fn decide<F: Files, S: Source, K: Sink, R: Sink>(
                 trace,
             },
         ) => {
-            let World {
-                files,
-                input,
-                report,
-                ..
-            } = world;
-            Ok(put_answer(
-                audit_trace(alloc, layout, program, trace, files, input),
-                report,
-            ))
+            let answer = audit_trace(alloc, layout, program, trace, files, streams.input);
+            Ok(put_answer(answer, streams.report))
         }
         Ok(Command::Debug { layout, program }) => {
-            let World {
-                files,
+            let Streams {
                 input,
                 output,
                 report,
-            } = world;
+            } = streams;
             let decided = debug_program(alloc, layout, program, files, input, output, report);
             put_decided(decided, report)
         }
@@ -156,16 +135,23 @@ fn decide<F: Files, S: Source, K: Sink, R: Sink>(
                 options,
             },
         ) => {
-            let World { files, report, .. } = world;
-            let decided = compare_layouts(alloc, delays, program, layouts, options, files, report);
-            put_decided(decided, report)
+            let decided = compare_layouts(
+                alloc,
+                delays,
+                program,
+                layouts,
+                options,
+                files,
+                streams.report,
+            );
+            put_decided(decided, streams.report)
         }
         Err(index) => {
             let answer = Answer {
                 status: Status::BadWords(index),
                 closing: bad_words(index),
             };
-            Ok(put_answer(answer, world.report))
+            Ok(put_answer(answer, streams.report))
         }
     }
 }
@@ -217,13 +203,12 @@ pub fn cfpp<F: Files, S: Source, K: Sink, R: Sink>(
         (report_of (R.written report.old) (R.faults report.old))
         (report_of (R.written report.new) (R.faults report.new)) }
 {
-    let world = World {
-        files,
+    let streams = Streams {
         input,
         output,
         report,
     };
-    match decide(alloc, words, world) {
+    match decide(alloc, words, files, streams) {
         Ok(reported) => match reported.put {
             Ok(()) => reported.status,
             Err(_) => Status::WriteFault,

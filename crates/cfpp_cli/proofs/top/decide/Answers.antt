@@ -44,7 +44,7 @@ returns-in-Ok-Check-clause-decided g c =
     record {
       reading = Ok (check (layout_of c.in-Ok-Check.layout));
       reads = rw c.in-Ok-Check.field-0-is at c.in-Ok-Check.ensures.answers;
-      comes = ([], _, rw c.put_answer.ensures.status (c.check_layout.ensures.answers, refl), shows-none _ _ _ _ c.put_answer.ensures.puts);
+      comes = ([], _, rw c.put_answer.ensures.status (c.check_layout-answer.ensures.answers, refl), shows-none _ _ _ _ c.put_answer.ensures.puts);
     }
 
 pub returns-in-Ok-Asm-clause-decided : goal.returns-in-Ok-Asm-clause-decided
@@ -52,7 +52,7 @@ returns-in-Ok-Asm-clause-decided g c =
     record {
       reading = Ok (asm c.in-Ok-Asm.source.now);
       reads = rw c.in-Ok-Asm.field-0-is at c.in-Ok-Asm.ensures.answers;
-      comes = ([], _, rw c.put_answer-in-Ok-Asm.ensures.status (c.assemble_program.ensures.answers, refl), shows-none _ _ _ _ c.put_answer-in-Ok-Asm.ensures.puts);
+      comes = ([], _, rw c.put_answer-in-Ok-Asm.ensures.status (c.assemble_program-answer.ensures.answers, refl), shows-none _ _ _ _ c.put_answer-in-Ok-Asm.ensures.puts);
     }
 
 pub returns-in-Ok-List-clause-decided : goal.returns-in-Ok-List-clause-decided
@@ -60,7 +60,7 @@ returns-in-Ok-List-clause-decided g c =
     record {
       reading = Ok (listing c.in-Ok-List.program.now);
       reads = rw c.in-Ok-List.field-0-is at c.in-Ok-List.ensures.answers;
-      comes = ([], _, rw c.put_answer-in-Ok-List.ensures.status (c.list_program.ensures.answers, refl), shows-none _ _ _ _ c.put_answer-in-Ok-List.ensures.puts);
+      comes = ([], _, rw c.put_answer-in-Ok-List.ensures.status (c.list_program-answer.ensures.answers, refl), shows-none _ _ _ _ c.put_answer-in-Ok-List.ensures.puts);
     }
 
 pub returns-in-Ok-Gen-default-false-clause-decided : goal.returns-in-Ok-Gen-default-false-clause-decided
@@ -69,7 +69,7 @@ returns-in-Ok-Gen-default-false-clause-decided g c =
       reading = Ok (gen c.in-Ok-Gen-default-false.number false);
       reads = rw (c.in-Ok-Gen-default-false.field-0-is, c.in-Ok-Gen-default-false.field-0-1-test) at
           c.in-Ok-Gen-default-false.ensures.answers;
-      comes = ([], _, rw c.put_answer-in-Ok-Gen-default-false.ensures.status (record { put = c.put_drawn.ensures.comes; files = refl; input = refl }), shows-none _ _ _ _ c.put_answer-in-Ok-Gen-default-false.ensures.puts);
+      comes = ([], _, rw c.put_answer-in-Ok-Gen-default-false.ensures.status (record { put = c.put_drawn-answer.ensures.comes; files = refl; input = refl }), shows-none _ _ _ _ c.put_answer-in-Ok-Gen-default-false.ensures.puts);
     }
 
 pub returns-in-Ok-Help-clause-decided : goal.returns-in-Ok-Help-clause-decided
@@ -77,7 +77,7 @@ returns-in-Ok-Help-clause-decided g c =
     record {
       reading = Ok help;
       reads = rw c.in-Ok-Help.field-0-is at c.in-Ok-Help.ensures.answers;
-      comes = ([], _, rw c.put_answer-in-Ok-Help.ensures.status (record { put = c.put_text.ensures.comes; files = refl; input = refl }), shows-none _ _ _ _ c.put_answer-in-Ok-Help.ensures.puts);
+      comes = ([], _, rw c.put_answer-in-Ok-Help.ensures.status (record { put = c.put_text-answer.ensures.comes; files = refl; input = refl }), shows-none _ _ _ _ c.put_answer-in-Ok-Help.ensures.puts);
     }
 
 pub returns-in-Ok-Version-clause-decided : goal.returns-in-Ok-Version-clause-decided
@@ -85,7 +85,7 @@ returns-in-Ok-Version-clause-decided g c =
     record {
       reading = Ok version;
       reads = rw c.in-Ok-Version.field-0-is at c.in-Ok-Version.ensures.answers;
-      comes = ([], _, rw c.put_answer-in-Ok-Version.ensures.status (record { put = c.put_text-in-Ok-Version.ensures.comes; files = refl; input = refl }), shows-none _ _ _ _ c.put_answer-in-Ok-Version.ensures.puts);
+      comes = ([], _, rw c.put_answer-in-Ok-Version.ensures.status (record { put = c.put_text-answer-in-Ok-Version.ensures.comes; files = refl; input = refl }), shows-none _ _ _ _ c.put_answer-in-Ok-Version.ensures.puts);
     }
 
 pub returns-in-Ok-Audit-clause-decided : goal.returns-in-Ok-Audit-clause-decided
@@ -93,7 +93,7 @@ returns-in-Ok-Audit-clause-decided g c =
     record {
       reading = Ok (audit (layout_of c.in-Ok-Audit.layout) c.in-Ok-Audit.program.now c.in-Ok-Audit.trace.now);
       reads = rw c.in-Ok-Audit.field-0-is at c.in-Ok-Audit.ensures.answers;
-      comes = ([], _, rw c.put_answer-in-Ok-Audit.ensures.status (c.audit_trace.ensures.answers, refl), shows-none _ _ _ _ c.put_answer-in-Ok-Audit.ensures.puts);
+      comes = ([], _, rw c.put_answer-in-Ok-Audit.ensures.status (c.audit_trace-answer.ensures.answers, refl), shows-none _ _ _ _ c.put_answer-in-Ok-Audit.ensures.puts);
     }
 
 pub returns-in-Err-clause-decided : goal.returns-in-Err-clause-decided
@@ -108,15 +108,16 @@ pub returns-in-Ok-Gen-default-true-clause-decided : goal.returns-in-Ok-Gen-defau
 returns-in-Ok-Gen-default-true-clause-decided g c =
     let n = c.in-Ok-Gen-default-true.number in
     let told = g.R.Sink.written in
-    let before = streams_of (g.S.Source.left c.args.world.input.now) (g.K.Sink.written c.args.world.output.now) in
-    let after = streams_of (g.S.Source.left c.run_drawn.new.input) (g.K.Sink.written c.run_drawn.new.output) in
+    let before = streams_of (g.S.Source.left c.args.streams.input.now) (g.K.Sink.written c.args.streams.output.now) in
+    let left = c.run_drawn.new.streams in
+    let after = streams_of (g.S.Source.left left.0) (g.K.Sink.written left.1.0) in
     record {
       reading = Ok (gen n true);
       reads = rw (c.in-Ok-Gen-default-true.field-0-is, c.in-Ok-Gen-default-true.field-0-1-test) at
           c.in-Ok-Gen-default-true.ensures.answers;
-      comes = comes-beside (AnswersDrawn n before after (told c.args.world.report.now))
-          (BreaksDrawn n before after (told c.args.world.report.now) (told c.run_drawn.new.report))
-          (g.F.Files.told c.args.world.files.now ≡ g.F.Files.told c.args.world.files.now) _ _ c.run_drawn.result refl c.run_drawn.ensures.answers;
+      comes = comes-beside (AnswersDrawn n before after (told c.args.streams.report.now))
+          (BreaksDrawn n before after (told c.args.streams.report.now) (told left.1.1.0))
+          (g.F.Files.told c.args.files.now ≡ g.F.Files.told c.args.files.now) _ _ c.run_drawn.result refl c.run_drawn.ensures.answers;
     }
 
 pub returns-in-Ok-Rounds-clause-decided : goal.returns-in-Ok-Rounds-clause-decided
@@ -135,9 +136,9 @@ returns-in-Ok-Debug-clause-decided g c =
     let program = c.in-Ok-Debug.program.now in
     let reported = g.R.Sink.written in
     let faults = g.R.Sink.faults in
-    let before = outside_of (g.F.Files.told c.args.world.files.now) (g.F.Files.faults c.args.world.files.now)
-    (g.S.Source.left c.args.world.input.now) (g.S.Source.faults c.args.world.input.now)
-    (g.K.Sink.written c.args.world.output.now) (g.K.Sink.faults c.args.world.output.now) in
+    let before = outside_of (g.F.Files.told c.args.files.now) (g.F.Files.faults c.args.files.now)
+    (g.S.Source.left c.args.streams.input.now) (g.S.Source.faults c.args.streams.input.now)
+    (g.K.Sink.written c.args.streams.output.now) (g.K.Sink.faults c.args.streams.output.now) in
     let after = outside_of (g.F.Files.told decided.new.files) (g.F.Files.faults decided.new.files)
     (g.S.Source.left decided.new.input) (g.S.Source.faults decided.new.input)
     (g.K.Sink.written decided.new.output) (g.K.Sink.faults decided.new.output) in
@@ -145,8 +146,8 @@ returns-in-Ok-Debug-clause-decided g c =
       reading = Ok (debug layout program);
       reads = rw c.in-Ok-Debug.field-0-is at c.in-Ok-Debug.ensures.answers;
       comes = decided-comes (λ answer report. AnswersDebug layout program before after answer report)
-          (λ told. BreaksDebug layout program before after (reported c.args.world.report.now) told)
-          (report_of (reported c.args.world.report.now) (faults c.args.world.report.now))
+          (λ told. BreaksDebug layout program before after (reported c.args.streams.report.now) told)
+          (report_of (reported c.args.streams.report.now) (faults c.args.streams.report.now))
           (report_of (reported decided.new.report) (faults decided.new.report))
           (report_of (reported c.put_decided.new.report) (faults c.put_decided.new.report))
           decided.result c.put_decided.result decided.ensures.answers decided.ensures.report c.put_decided.ensures;
@@ -176,10 +177,10 @@ returns-in-Ok-Time-clause-decided g c =
     let asked = time_asked c.in-Ok-Time.delays.now c.in-Ok-Time.program.now layouts o in
     let reported = g.R.Sink.written in
     let faults = g.R.Sink.faults in
-    let before = g.F.Files.told c.args.world.files.now in
+    let before = g.F.Files.told c.args.files.now in
     let after = g.F.Files.told decided.new.files in
-    let streams = streams_of (g.S.Source.left c.args.world.input.now) (g.K.Sink.written c.args.world.output.now) in
-    let blank = report_of (reported c.args.world.report.now) (faults c.args.world.report.now) in
+    let streams = streams_of (g.S.Source.left c.args.streams.input.now) (g.K.Sink.written c.args.streams.output.now) in
+    let blank = report_of (reported c.args.streams.report.now) (faults c.args.streams.report.now) in
     let half = report_of (reported decided.new.report) (faults decided.new.report) in
     let full = report_of (reported put.new.report) (faults put.new.report) in
     record {

@@ -1,0 +1,11 @@
+//! The streams that a run is lent, as one value.
+
+use cf_io::{Sink, Source};
+
+/// What a run is lent beside the files: the program's input and output, and the report.
+#[derive(Drop)]
+pub struct Streams<'a, S: Source, K: Sink, R: Sink> {
+    pub input: &'a mut S,
+    pub output: &'a mut K,
+    pub report: &'a mut R,
+}
