@@ -42,17 +42,10 @@ pub fn run_by_script<S: Source, K: Sink, R: Sink>(
         output,
         report,
     } = streams;
-    let mut script = Script::view(text);
+    let mut moves = Script::view(text);
     let mut tally = no_moves();
     let finish = run_script(
-        core,
-        &mut script,
-        limit,
-        show,
-        input,
-        output,
-        report,
-        &mut tally,
+        core, &mut moves, limit, show, input, output, report, &mut tally,
     );
     close(core, limit, finish, &tally, report)
 }

@@ -4,8 +4,8 @@ use Rattle.cfpp_cli.proofs.by_script.run_by_script.Goals as goal
 pub returns-clause-runs : goal.returns-clause-runs
 returns-clause-runs g c =
     script-closed _ _ _ _ _ _ _ _ _ _ _ _ c.run_script-finish.result c.close.result
-    (rw (c.view-script.ensures, c.no_moves-tally.ensures) at c.run_script-finish.ensures.run)
-    (rw (c.view-script.ensures, c.no_moves-tally.ensures) at c.run_script-finish.ensures.sequential)
+    (rw (c.view-moves.ensures, c.no_moves-tally.ensures) at c.run_script-finish.ensures.run)
+    (rw (c.view-moves.ensures, c.no_moves-tally.ensures) at c.run_script-finish.ensures.sequential)
     (rw c.no_moves-tally.ensures at c.run_script-finish.ensures.ends)
     c.run_script-finish.ensures.report c.close.ensures
 
