@@ -1,5 +1,5 @@
 -- What a hart does alone, it does beside streams that stay as they are; and what an environment call comes to, its instruction comes to.
-use Rattle.std.proofs.Common.{◌≡◌, ◌∙◌, ◌≢◌, ℕ, ◌%◌, List, [], Some, None, Ok, Err, false, ◌==◌, refl, ap, sym, subst, IsTrue, arith}
+use Rattle.std.proofs.Common.{◌≡◌, ◌∙◌, ◌≢◌, ℕ, ◌%◌, List, [], Some, None, Ok, Err, true, false, ◌==◌, refl, ap, sym, subst, IsTrue, arith}
 use Rattle.std.proofs.lemmas.Bool.Decides.{nat_tests}
 use Rattle.mem_regions.specs.Memory.{Memory}
 use Rattle.mem_regions.specs.Fetching.{fetch_at}
@@ -21,20 +21,9 @@ use Rattle.rv_machine.specs.Machine.{Machine}
 use Rattle.rv_machine.specs.Outcome.{Outcome, Next, Trap, Exit}
 use Rattle.rv_machine.specs.Call.{call}
 use Rattle.rv_machine.specs.Streams.{Streams}
-use Rattle.rv_machine.specs.Step.{beside, retire, compute, access_memory, pass, synchronize, environment, serial, execute, interpret, step_on}
-use Rattle.rv_machine.specs.Acts.{Does, Acts, Steps, Stops, Serves}
+use Rattle.rv_machine.specs.Step.{beside, retire, compute, access_memory, pass, synchronize, synchronizes, environment, serial, execute, interpret, step_on}
+use Rattle.rv_machine.specs.Acts.{Does, Acts, Steps, Serves}
 use Rattle.rv_machine.proofs.Told.{some_rest, rest-told, rest-spent, stays}
-
--- a trap or an exit, which leaves the hart as it was
-stops-alone : (end : Outcome Machine) (outcome : List ℕ → Outcome Machine) (old new : Hart)
-    (s : Streams) → outcome (some_rest s.input) ≡ end → new ≡ old → Stops outcome end old new s s
-stops-alone end outcome old new s is same = record {
-  rest = some_rest s.input;
-  told = rest-told s.input;
-  is = is;
-  hart = same;
-  streams = refl;
-}
 
 -- an outcome of the hart alone
 alone : (o : Outcome Hart) (calls : Type 0) (outcome : List ℕ → Outcome Machine) (old new : Hart)
@@ -56,10 +45,22 @@ alone (Next h line) calls outcome old new s result is does =
     })
 alone (Trap cause pc detail) calls outcome old new s result is does =
     let P : Stepped → Type 0 = λ r. Acts calls outcome old new s s r in
-    subst P (sym does.1) (stops-alone (Trap cause pc detail) outcome old new s is does.0)
+    subst P (sym does.1) (record {
+      rest = some_rest s.input;
+      told = rest-told s.input;
+      is = is;
+      hart = does.0;
+      streams = refl;
+    })
 alone (Exit status) calls outcome old new s result is does =
     let P : Stepped → Type 0 = λ r. Acts calls outcome old new s s r in
-    subst P (sym does.1) (stops-alone (Exit status) outcome old new s is does.0)
+    subst P (sym does.1) (record {
+      rest = some_rest s.input;
+      told = rest-told s.input;
+      is = is;
+      hart = does.0;
+      streams = refl;
+    })
 
 -- an outcome that is the hart's own, whatever the input has left
 acts-alone : (calls : Type 0) (outcome : List ℕ → Outcome Machine) (o : Outcome Hart)
@@ -151,22 +152,35 @@ unfolding execute
 acts-passing word i h new s result e does =
     acts-alone _ _ (pass h word i) h new s result (λ rest. rw e refl) does
 
+-- ECALL and FENCE.I
+pub acts-serially : (word : ℕ) (i : Instr) (h new : Hart) (before after : Streams)
+    (result : Stepped) → class_of i ≡ class.Serial →
+    Acts (i ≡ instr.Ecall) (λ rest. serial h rest word i) h new before after result →
+    Acts (i ≡ instr.Ecall) (λ rest. execute (class_of i) h rest word i) h new before after result
+unfolding execute
+acts-serially word i h new before after result e acts =
+    acts-as _ _ _ _ h new before after result (λ same. same) (λ rest. rw e refl) acts
+
 -- FENCE.I
-pub acts-synchronizing : (word rd rs1 imm : ℕ) (i : Instr) (h new : Hart) (s : Streams)
-    (result : Stepped) → i ≡ instr.FenceI rd rs1 imm → Does (synchronize h word) h new result →
-    Acts (i ≡ instr.Ecall) (λ rest. execute (class_of i) h rest word i) h new s s result
-unfolding execute serial
-acts-synchronizing word rd rs1 imm i h new s result e does =
+pub acts-synchronizing : (word : ℕ) (i : Instr) (h new : Hart) (s : Streams) (result : Stepped) →
+    synchronizes i ≡ true → Does (synchronize h word) h new result →
+    Acts (i ≡ instr.Ecall) (λ rest. serial h rest word i) h new s s result
+unfolding serial
+acts-synchronizing word i h new s result e does =
     acts-alone _ _ (synchronize h word) h new s result (λ rest. rw e refl) does
+
+-- the two instructions of their class
+ecall-is : (i : Instr) → class_of i ≡ class.Serial → synchronizes i ≡ false → i ≡ instr.Ecall
+ecall-is i e f = grind arith
 
 -- ECALL
 pub acts-calling : (word : ℕ) (i : Instr) (h new : Hart) (before after : Streams)
-    (result : Stepped) → i ≡ instr.Ecall →
+    (result : Stepped) → class_of i ≡ class.Serial → synchronizes i ≡ false →
     Acts (Unit {0}) (λ rest. environment h word (call h.regs h.mem rest)) h new before after result →
-    Acts (i ≡ instr.Ecall) (λ rest. execute (class_of i) h rest word i) h new before after result
-unfolding execute serial
-acts-calling word i h new before after result e acts =
-    acts-as _ _ _ _ h new before after result (λ u. e) (λ rest. rw e refl) acts
+    Acts (i ≡ instr.Ecall) (λ rest. serial h rest word i) h new before after result
+unfolding serial
+acts-calling word i h new before after result s e acts =
+    acts-as _ _ _ _ h new before after result (λ u. ecall-is i s e) (λ rest. rw e refl) acts
 
 -- an environment call that answered
 pub acts-answered : (word value next : ℕ) (h new : Hart) (mem : Memory) (before after : Streams)

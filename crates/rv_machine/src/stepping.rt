@@ -79,8 +79,8 @@ impl Machine {
             Instr::Mul { .. } => self.compute(word, i),
             Instr::Fence { .. } => self.pass(word, i),
             Instr::Ebreak => self.pass(word, i),
-            Instr::Ecall => self.call_environment(word, input, output),
-            Instr::FenceI { .. } => self.synchronize(word),
+            Instr::Ecall => self.serial(word, i, input, output),
+            Instr::FenceI { .. } => self.serial(word, i, input, output),
         }
     }
 

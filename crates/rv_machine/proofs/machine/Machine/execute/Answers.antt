@@ -1,6 +1,6 @@
 use Rattle.std.proofs.Common.{refl, ap}
 use Rattle.rv_inst.specs.Operands.{class_of, register_op}
-use Rattle.rv_machine.proofs.Acting.{acts-computing, acts-accessing, acts-passing, acts-calling, acts-synchronizing}
+use Rattle.rv_machine.proofs.Acting.{acts-computing, acts-accessing, acts-serially, acts-passing}
 use Rattle.rv_machine.proofs.Classes.{op-computes, mul-computes}
 use Rattle.rv_machine.proofs.machine.Machine.execute.Goals as goal
 
@@ -62,8 +62,8 @@ returns-in-Ebreak-clause-acts g c =
 
 pub returns-in-Ecall-clause-acts : goal.returns-in-Ecall-clause-acts
 returns-in-Ecall-clause-acts g c =
-    acts-calling c.args.word c.args.i _ _ _ _ _ c.in-Ecall.is c.call_environment.ensures.acts
+    acts-serially c.args.word c.args.i _ _ _ _ _ (ap class_of c.in-Ecall.is) c.serial.ensures.acts
 
 pub returns-in-FenceI-clause-acts : goal.returns-in-FenceI-clause-acts
 returns-in-FenceI-clause-acts g c =
-    acts-synchronizing c.args.word _ _ _ c.args.i _ _ _ _ c.in-FenceI.is c.synchronize.ensures.does
+    acts-serially c.args.word c.args.i _ _ _ _ _ (ap class_of c.in-FenceI.is) c.serial-in-FenceI.ensures.acts
