@@ -17,6 +17,3 @@ mod session;
 pub use answer::Debugged;
 pub use ring::Ring;
 pub use session::debug;
-
-#[cfg(test)]
-mod tests;

@@ -21,6 +21,3 @@ pub use candidates::Candidates;
 pub use rank::Rank;
 pub use sharing::shares;
 pub use visiting::Visitor;
-
-#[cfg(test)]
-mod tests;

@@ -18,6 +18,3 @@ pub use finished::over;
 pub use making::make_and_show;
 pub use policy::run_policy;
 pub use script::run_script;
-
-#[cfg(test)]
-mod tests;

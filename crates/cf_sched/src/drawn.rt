@@ -36,7 +36,7 @@ impl Drawn {
 
     /// The generator's next word.
     #[inline(always)]
-    pub(crate) fn draw(&mut self) -> u32
+    pub fn draw(&mut self) -> u32
         ensures { (result, self.new) ≡ pcg32 self.old }
     {
         self.generator.next_word()

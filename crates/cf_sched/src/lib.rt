@@ -12,6 +12,3 @@ pub use drawn::Drawn;
 pub use pace::Pace;
 pub use policy::Policy;
 pub use round::Round;
-
-#[cfg(test)]
-mod tests;

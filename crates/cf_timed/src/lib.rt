@@ -22,6 +22,3 @@ pub use reading::{MOST_DELAYS, read_delays};
 pub use refusal::{DelayErr, DelayKind};
 pub use run::{clock_behind, run_timed, run_unreported, timed};
 pub use timing::Timing;
-
-#[cfg(test)]
-mod tests;

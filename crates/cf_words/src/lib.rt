@@ -12,6 +12,3 @@ pub use command::{
     Command, DEFAULT_LIMIT, LayoutWord, MachineOptions, RunOptions, TimeOptions, read_words,
 };
 pub use options::Schedule;
-
-#[cfg(test)]
-mod tests;

@@ -1,5 +1,5 @@
-//! Tests of public calls of the processor and its parts, a file for each crate: a crate that has
-//! tests of its own is proved a second time with them.
+//! Tests of public calls of the memory, the sequential machine, the processor and its parts, a file for each crate: a
+//! crate that has tests of its own is proved a second time with them.
 #![tactic(auto)]
 
 #[cfg(test)]
@@ -9,9 +9,15 @@ mod instructions_on_the_way;
 #[cfg(test)]
 mod lines;
 #[cfg(test)]
+mod machine;
+#[cfg(test)]
+mod memory;
+#[cfg(test)]
 mod passengers;
 #[cfg(test)]
 mod processor;
+#[cfg(test)]
+mod programs;
 #[cfg(test)]
 mod scripts;
 #[cfg(test)]

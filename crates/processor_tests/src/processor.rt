@@ -1,36 +1,16 @@
 //! Runs that were worked by hand, under the built-in layout: what no clause says is that there is memory for a processor, and
 //! that these moves lead from its start to where a reader of the table of moves expects them to.
+use crate::programs::{BASE, machine_of};
 use cf_bind::{Bar, Guess, Move};
 use cf_core::{Core, Step};
 use cf_io::{Empty, Nowhere};
 use cf_layout::plain;
-use mem_regions::{Part, Regions};
-use rv_machine::Machine;
 use std::process::Abort;
 use std::test::Fail;
 
-/// Where the words of a program stand.
-const BASE: u32 = 0x1_0000;
-
 /// A processor that is about to fetch the first of these words.
 fn core_of(rt: &(impl Abort + AllocGlobal), words: &[u32]) -> Result<Core, Fail> {
-    assert!(rt; words.len() <= 16);
-    let mut file = Vec::new(rt.alloc());
-    for word in words {
-        file.extend_from_slice(&word.to_le_bytes())?;
-    }
-    assert!(rt; file.len() == 4 * words.len());
-    let size = file.len() as u32;
-    let image = Part {
-        base: BASE,
-        start: 0,
-        len: size,
-        size,
-        write: true,
-        exec: true,
-    };
-    let memory = Regions::load(rt.alloc(), file.as_slice(), &[image])?;
-    Ok(Core::new(rt.alloc(), plain(), Machine::new(memory, BASE))?)
+    Ok(Core::new(rt.alloc(), plain(), machine_of(rt, words, BASE)?)?)
 }
 
 /// Makes the moves in order, up to the first that is not made, and tells what came of that one.

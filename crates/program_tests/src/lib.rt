@@ -1,9 +1,11 @@
-//! Tests of public calls of instructions, their texts, programs and their files, a file for each crate: a crate that has
-//! tests of its own is proved a second time with them.
+//! Tests of public calls of instructions, their texts, programs and their files, and the words of commands, a file for each
+//! crate: a crate that has tests of its own is proved a second time with them.
 #![tactic(auto)]
 
 #[cfg(test)]
 mod assembler;
+#[cfg(test)]
+mod command_words;
 #[cfg(test)]
 mod digit_texts;
 #[cfg(test)]

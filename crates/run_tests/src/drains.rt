@@ -1,19 +1,11 @@
 //! The weight of what stands in a processor, and drains of one state, worked by hand from the table of moves.
 
+use crate::processors::{SEVEN, TINY, core_of, layout_of};
 use cf_bind::{Fetch, Guess, Move};
 use cf_core::{Core, Step};
 use cf_io::{Empty, Nowhere};
-use layout_file::read_layout;
-use mem_regions::{Part, Regions};
-use rv_machine::Machine;
 use std::process::Abort;
 use std::test::Fail;
-
-/// Two stages.
-const TINY: &[u8] =
-    b"format = 1\nstages = 2\nlane = 4\n[units]\nadd = [1, 2]\nlogic = [1]\nshift = [2]\n\
-        compare = [1]\nbranch = [1]\njump = [1]\n[[siding]]\nclasses = [\"memory\"]\n\
-        launch = 1\nrecover = 2\ncells = 1\n";
 
 /// Eight stages, and a siding for shifts.
 const SHIFT_SIDING: &[u8] =
@@ -21,31 +13,6 @@ const SHIFT_SIDING: &[u8] =
         compare = [2, 4]\nbranch = [3]\njump = [3]\n[[siding]]\nclasses = [\"memory\"]\n\
         launch = 4\nrecover = 6\ncells = 2\n[[siding]]\nclasses = [\"shift\"]\nlaunch = 1\n\
         recover = 3\ncells = 2\n";
-
-/// `addi x10, x0, 7`, `addi x17, x0, 93` and `ecall`: the program ends with status 7.
-const SEVEN: &[u32] = &[0x0070_0513, 0x05d0_0893, 0x0000_0073];
-
-/// A processor of a layout on a flat image of at most four words.
-fn core_of(rt: &(impl Abort + AllocGlobal), layout: &[u8], words: &[u32]) -> Result<Core, Fail> {
-    assert!(rt; words.len() <= 4, "too many words");
-    let mut file = Vec::new(rt.alloc());
-    for word in words {
-        file.extend_from_slice(&word.to_le_bytes())?;
-    }
-    assert!(rt; file.len() == 4 * words.len(), "length");
-    let size = file.len() as u32;
-    let image = Part {
-        base: 0x1_0000,
-        start: 0,
-        len: size,
-        size,
-        write: true,
-        exec: true,
-    };
-    let memory = Regions::load(rt.alloc(), file.as_slice(), &[image])?;
-    let layout = read_layout(rt.alloc(), layout).ok().expect(rt, "layout");
-    Ok(Core::new(rt.alloc(), layout, Machine::new(memory, 0x1_0000))?)
-}
 
 /// `beq x0, x0, 16` and `slli x1, x2, 1`: what stands behind the branch is fetched by a wrong guess.
 const WRONG_GUESS: &[u32] = &[0x0000_0863, 0x0011_1093];
@@ -96,7 +63,7 @@ fn make_all(rt: &(impl Abort + AllocGlobal), core: &mut Core, legs: &[Leg]) {
 /// not launched where the longest siding has one cell; it requests no register.
 #[test]
 fn bounds(rt: HostRuntime) -> Result<(), Fail> {
-    let mut core = core_of(&rt, TINY, SEVEN)?;
+    let mut core = core_of(&rt, layout_of(&rt, TINY), SEVEN)?;
     assert_eq!(rt; core.bound(), 0);
     make(&rt, &mut core, Move::Issue(Guess::Next));
     assert_eq!(rt; core.bound(), 11);
@@ -106,7 +73,7 @@ fn bounds(rt: HostRuntime) -> Result<(), Fail> {
 /// The branch stands in stage 3, where its unit is, and has not been executed; the shift behind it stands in stage 1, from
 /// which its siding launches, and has requested x2.
 fn guessed(rt: &(impl Abort + AllocGlobal)) -> Result<Core, Fail> {
-    let mut core = core_of(rt, SHIFT_SIDING, WRONG_GUESS)?;
+    let mut core = core_of(rt, layout_of(rt, SHIFT_SIDING), WRONG_GUESS)?;
     make(rt, &mut core, Move::Issue(Guess::Next));
     climb(rt, &mut core, 1, 2);
     make(rt, &mut core, Move::Issue(Guess::Next));

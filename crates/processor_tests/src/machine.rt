@@ -1,43 +1,9 @@
 //! Programs and environment calls that were worked by hand from the manual and the tables of Linux.
+use crate::programs::{BASE, STACK, machine_of};
 use cf_io::{Empty, MemSink, MemSource, Nowhere};
-use mem_regions::{Part, Regions};
+use mem_regions::Regions;
 use rv_machine::{Machine, Served, Stepped, serve};
-use std::process::Abort;
 use std::test::Fail;
-
-/// Where the words of a program stand.
-const BASE: u32 = 0x1_0000;
-
-/// A stack of 1 MiB, zeroed.
-const STACK: Part = Part {
-    base: 0x7f00_0000,
-    start: 0,
-    len: 0,
-    size: 0x10_0000,
-    write: true,
-    exec: false,
-};
-
-/// A machine whose words stand at `BASE` in a region that may be read, written and executed, with a stack.
-fn machine_of(rt: &(impl Abort + AllocGlobal), words: &[u32], entry: u32) -> Result<Machine, Fail> {
-    assert!(rt; words.len() <= 16);
-    let mut file = Vec::new(rt.alloc());
-    for word in words {
-        file.extend_from_slice(&word.to_le_bytes())?;
-    }
-    assert!(rt; file.len() == 4 * words.len());
-    let size = file.len() as u32;
-    let image = Part {
-        base: BASE,
-        start: 0,
-        len: size,
-        size,
-        write: true,
-        exec: true,
-    };
-    let memory = Regions::load(rt.alloc(), file.as_slice(), &[image, STACK])?;
-    Ok(Machine::new(memory, entry))
-}
 
 /// Steps until an instruction does not retire.
 fn run(machine: &mut Machine) -> Stepped {

@@ -1,38 +1,17 @@
 //! Candidates that were worked by hand from the table of moves, under the built-in layout: what no clause says is that these
 //! moves are allowed where a reader of the table expects them to be.
-use super::*;
+use crate::processors::{BRANCH_BEHIND, core_of};
 use cf_bind::{Guess, Move};
-use cf_core::{Core, Step};
+use cf_core::Step;
+use cf_index::Candidates;
 use cf_io::{Empty, Nowhere};
 use cf_layout::plain;
-use mem_regions::{Part, Regions};
-use rv_machine::Machine;
-use std::process::Abort;
 use std::test::Fail;
-
-/// Where the program stands: `addi x10, x0, 7` and `beq x0, x0, 0`.
-const BASE: u32 = 0x1_0000;
-
-const PROGRAM: [u8; 8] = [0x13, 0x05, 0x70, 0x00, 0x63, 0x00, 0x00, 0x00];
-
-/// A processor that is about to fetch the first instruction.
-fn core(rt: &(impl Abort + AllocGlobal)) -> Result<Core, Fail> {
-    let image = Part {
-        base: BASE,
-        start: 0,
-        len: 8,
-        size: 8,
-        write: true,
-        exec: true,
-    };
-    let memory = Regions::load(rt.alloc(), &PROGRAM, &[image])?;
-    Ok(Core::new(rt.alloc(), plain(), Machine::new(memory, BASE))?)
-}
 
 /// With the first instruction in stage 2, where it can be executed or passed on, the branch can be issued by three guesses.
 #[test]
 fn an_instruction_and_the_branch_behind_it(rt: HostRuntime) -> Result<(), Fail> {
-    let mut core = core(&rt)?;
+    let mut core = core_of(&rt, plain(), BRANCH_BEHIND)?;
     let mut candidates = Candidates::new(rt.alloc())?;
     candidates.fill(&core);
     assert!(rt; candidates.len() == 1);

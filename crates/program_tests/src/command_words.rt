@@ -1,5 +1,5 @@
 //! Words of command lines, by the grammar: what they ask, and which of them is refused.
-use super::*;
+use cf_words::{Command, LayoutWord, Schedule, read_words};
 use std::alloc::{AllocError, Global};
 use std::process::Abort;
 use std::test::Fail;

@@ -1,22 +1,16 @@
 //! Picks that were worked by hand, and words of the generator. The words are those of PCG XSH RR 64/32 (O'Neill, "PCG: a family
 //! of simple fast space-efficient statistically good algorithms for random number generation", 2014), worked out with whole
 //! numbers in Python by a program that gives the words of the paper's C demo, 0xa15c02b7 and so on, for state 42 and stream 54.
-use super::*;
+use crate::processors::{BRANCH_BEHIND, core_of};
 use cf_bind::{Guess, Move};
 use cf_core::{Core, Step};
 use cf_index::Candidates;
 use cf_io::{Empty, Nowhere};
 use cf_layout::plain;
+use cf_sched::{Drawn, Pace, Policy, Round};
 use cf_semantics::Event;
-use mem_regions::{Part, Regions};
-use rv_machine::Machine;
 use std::process::Abort;
 use std::test::Fail;
-
-/// Where the program stands: `addi x10, x0, 7` and `beq x0, x0, 0`.
-const BASE: u32 = 0x1_0000;
-
-const PROGRAM: [u8; 8] = [0x13, 0x05, 0x70, 0x00, 0x63, 0x00, 0x00, 0x00];
 
 /// The first words of the generator with a seed.
 fn words(seed: u32) -> [u32; 4] {
@@ -43,16 +37,7 @@ fn words_of_three_seeds(rt: HostRuntime) -> Result<(), Fail> {
 
 /// A processor with the first instruction in stage 2: Issue by three guesses, Climb(2) and Execute(2) are allowed.
 fn core(rt: &(impl Abort + AllocGlobal)) -> Result<Core, Fail> {
-    let image = Part {
-        base: BASE,
-        start: 0,
-        len: 8,
-        size: 8,
-        write: true,
-        exec: true,
-    };
-    let memory = Regions::load(rt.alloc(), &PROGRAM, &[image])?;
-    let mut core = Core::new(rt.alloc(), plain(), Machine::new(memory, BASE))?;
+    let mut core = core_of(rt, plain(), BRANCH_BEHIND)?;
     for mv in [Move::Issue(Guess::Next), Move::Climb(1)] {
         assert!(rt; core.retired() < 1000);
         assert!(rt; matches!(core.step(mv, &mut Empty, &mut Nowhere), Step::Moved(_)));

@@ -1,6 +1,6 @@
 //! Delays and their refusals, by the format.
-use super::*;
 use cf_bind::Move;
+use cf_timed::{DelayErr, DelayKind, Delays, read_delays};
 use std::process::Abort;
 
 /// The text tells delays.

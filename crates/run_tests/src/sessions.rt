@@ -1,57 +1,14 @@
 //! Sessions: the commands and answers of the table, and what an empty ring, the limits, and failing calls do.
-ghost use Rattle.std.specs.Prelude.{◌≡◌, ◌<◌, ◌≤◌, [], IfOk, length};
+ghost use Rattle.std.specs.Prelude.{◌≡◌, [], IfOk};
 ghost use Rattle.cf_run.specs.Policies.{IsOpened};
 
-use super::*;
+use crate::processors::{SEVEN, TINY, core_of, layout_of};
 use cf_core::Core;
+use cf_debug::{Debugged, Ring, debug};
 use cf_index::Candidates;
 use cf_io::{MemSink, MemSource};
-use layout_file::read_layout;
-use mem_regions::{Part, Regions};
-use rv_machine::Machine;
 use std::process::Abort;
 use std::test::Fail;
-
-/// Two stages.
-const TINY: &[u8] =
-    b"format = 1\nstages = 2\nlane = 4\n[units]\nadd = [1, 2]\nlogic = [1]\nshift = [2]\n\
-        compare = [1]\nbranch = [1]\njump = [1]\n[[siding]]\nclasses = [\"memory\"]\n\
-        launch = 1\nrecover = 2\ncells = 1\n";
-
-/// `addi x10, x0, 7`, `addi x17, x0, 93` and `ecall`: the program ends with status 7.
-const SEVEN: &[u32] = &[0x0070_0513, 0x05d0_0893, 0x0000_0073];
-
-/// A processor of two stages on a flat image of at most eight words, with a stack.
-fn core_of(rt: &(impl Abort + AllocGlobal), words: &[u32]) -> Result<Core, Fail>
-    ensures { IfOk result (λ core. IsOpened core) }
-{
-    assert!(rt; words.len() <= 8, "too many words");
-    let mut file = Vec::new(rt.alloc());
-    for word in words {
-        file.extend_from_slice(&word.to_le_bytes())?;
-    }
-    assert!(rt; file.len() == 4 * words.len(), "length");
-    let size = file.len() as u32;
-    let image = Part {
-        base: 0x1_0000,
-        start: 0,
-        len: size,
-        size,
-        write: true,
-        exec: true,
-    };
-    let stack = Part {
-        base: 0x7f00_0000,
-        start: 0,
-        len: 0,
-        size: 0x10_0000,
-        write: true,
-        exec: false,
-    };
-    let memory = Regions::load(rt.alloc(), file.as_slice(), &[image, stack])?;
-    let layout = read_layout(rt.alloc(), TINY).ok().expect(rt, "layout");
-    Ok(Core::new(rt.alloc(), layout, Machine::new(memory, 0x1_0000))?)
-}
 
 /// A processor, what the debugger works with beside it, and where output and answers go.
 #[derive(Drop)]
@@ -77,7 +34,7 @@ impl Bench {
         let mut failing = Vec::new(rt.alloc());
         failing.extend_from_slice(fails)?;
         Ok(Bench {
-            core: core_of(rt, words)?,
+            core: core_of(rt, layout_of(rt, TINY), words)?,
             candidates: Candidates::new(rt.alloc())?,
             ring: Ring::new(rt.alloc())?,
             output: MemSink::new(rt.alloc(), 1000, failing)?,

@@ -1,0 +1,43 @@
+//! Machines that are about to run the words of a program.
+use mem_regions::{Part, Regions};
+use rv_machine::Machine;
+use std::process::Abort;
+use std::test::Fail;
+
+/// Where the words of a program stand.
+pub(crate) const BASE: u32 = 0x1_0000;
+
+/// A stack of 1 MiB, zeroed.
+pub(crate) const STACK: Part = Part {
+    base: 0x7f00_0000,
+    start: 0,
+    len: 0,
+    size: 0x10_0000,
+    write: true,
+    exec: false,
+};
+
+/// A machine whose words stand at `BASE` in a region that may be read, written and executed, with a stack.
+pub(crate) fn machine_of(
+    rt: &(impl Abort + AllocGlobal),
+    words: &[u32],
+    entry: u32,
+) -> Result<Machine, Fail> {
+    assert!(rt; words.len() <= 16);
+    let mut file = Vec::new(rt.alloc());
+    for word in words {
+        file.extend_from_slice(&word.to_le_bytes())?;
+    }
+    assert!(rt; file.len() == 4 * words.len());
+    let size = file.len() as u32;
+    let image = Part {
+        base: BASE,
+        start: 0,
+        len: size,
+        size,
+        write: true,
+        exec: true,
+    };
+    let memory = Regions::load(rt.alloc(), file.as_slice(), &[image, STACK])?;
+    Ok(Machine::new(memory, entry))
+}

@@ -1,0 +1,16 @@
+//! Tests of public calls of the processor, its candidates, schedules and delays, and the debugger, a file for each subject:
+//! a crate that has tests of its own is proved a second time with them.
+#![tactic(auto)]
+
+#[cfg(test)]
+mod candidates;
+#[cfg(test)]
+mod delays;
+#[cfg(test)]
+mod drains;
+#[cfg(test)]
+mod processors;
+#[cfg(test)]
+mod schedules;
+#[cfg(test)]
+mod sessions;

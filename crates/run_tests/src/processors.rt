@@ -1,0 +1,63 @@
+//! Processors that are about to run the words of a program.
+ghost use Rattle.std.specs.Prelude.{IfOk};
+ghost use Rattle.cf_run.specs.Policies.{IsOpened};
+
+use cf_core::Core;
+use cf_layout::Layout;
+use layout_file::read_layout;
+use mem_regions::{Part, Regions};
+use rv_machine::Machine;
+use std::process::Abort;
+use std::test::Fail;
+
+/// Two stages.
+pub(crate) const TINY: &[u8] =
+    b"format = 1\nstages = 2\nlane = 4\n[units]\nadd = [1, 2]\nlogic = [1]\nshift = [2]\n\
+        compare = [1]\nbranch = [1]\njump = [1]\n[[siding]]\nclasses = [\"memory\"]\n\
+        launch = 1\nrecover = 2\ncells = 1\n";
+
+/// `addi x10, x0, 7`, `addi x17, x0, 93` and `ecall`: the program ends with status 7.
+pub(crate) const SEVEN: &[u32] = &[0x0070_0513, 0x05d0_0893, 0x0000_0073];
+
+/// `addi x10, x0, 7` and `beq x0, x0, 0`.
+pub(crate) const BRANCH_BEHIND: &[u32] = &[0x0070_0513, 0x0000_0063];
+
+/// The layout that a text describes.
+pub(crate) fn layout_of(rt: &(impl Abort + AllocGlobal), text: &[u8]) -> Layout {
+    read_layout(rt.alloc(), text).ok().expect(rt, "layout")
+}
+
+/// A processor of a layout on a flat image of at most eight words, with a stack.
+pub(crate) fn core_of(
+    rt: &(impl Abort + AllocGlobal),
+    layout: Layout,
+    words: &[u32],
+) -> Result<Core, Fail>
+    ensures { IfOk result (λ core. IsOpened core) }
+{
+    assert!(rt; words.len() <= 8, "too many words");
+    let mut file = Vec::new(rt.alloc());
+    for word in words {
+        file.extend_from_slice(&word.to_le_bytes())?;
+    }
+    assert!(rt; file.len() == 4 * words.len(), "length");
+    let size = file.len() as u32;
+    let image = Part {
+        base: 0x1_0000,
+        start: 0,
+        len: size,
+        size,
+        write: true,
+        exec: true,
+    };
+    let stack = Part {
+        base: 0x7f00_0000,
+        start: 0,
+        len: 0,
+        size: 0x10_0000,
+        write: true,
+        exec: false,
+    };
+    let memory = Regions::load(rt.alloc(), file.as_slice(), &[image, stack])?;
+    Ok(Core::new(rt.alloc(), layout, Machine::new(memory, 0x1_0000))?)
+}
