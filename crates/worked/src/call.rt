@@ -1,6 +1,6 @@
 //! A call of the simulator over objects in memory.
 
-use cf_io::{Files, MemFiles, MemSink, MemSource, Sink, Source};
+use cf_io::{MemFiles, MemSink, MemSource};
 use cfpp_cli::cfpp;
 use std::alloc::{AllocError, Global};
 
@@ -65,18 +65,6 @@ pub(crate) fn keep(
     Ok(())
 }
 
-/// The status of a call over these files and streams.
-fn status_of<F: Files, S: Source, K: Sink, R: Sink>(
-    alloc: Global,
-    words: &[String],
-    files: &mut F,
-    input: &mut S,
-    output: &mut K,
-    report: &mut R,
-) -> u8 {
-    cfpp(alloc, words, files, input, output, report).code()
-}
-
 impl Fails {
     /// No call fails.
     pub(crate) fn new(alloc: Global) -> Fails {
@@ -124,7 +112,7 @@ impl Call {
         );
         let mut output = MemSink::new(alloc, self.room, fails.output.as_slice().to_vec(alloc)?)?;
         let mut report = MemSink::new(alloc, REPORT_ROOM, fails.report.as_slice().to_vec(alloc)?)?;
-        let status = status_of(
+        let status = cfpp(
             alloc,
             self.words.as_slice(),
             &mut files,
@@ -133,7 +121,7 @@ impl Call {
             &mut report,
         );
         Ok(Outcome {
-            status,
+            status: status.code(),
             output: output.bytes().to_vec(alloc)?,
             report: report.bytes().to_vec(alloc)?,
         })
