@@ -23,8 +23,8 @@ use Rattle.cf_run.proofs.Runs.{reached-more, reached-trace, reached-rest}
 use Rattle.cf_run.proofs.Stopping.{filled, shown_too}
 use Rattle.cf_audit.specs.declared.answer.Audit.{Audit}
 use Rattle.cf_audit.specs.declared.answer.Audit.TheVariants.{Agrees, Wrong, ReadFault}
-use Rattle.cf_audit.specs.declared.answer.TraceKind.{TraceKind}
-use Rattle.cf_audit.specs.declared.answer.TraceKind.TheVariants.{NotAMove, Barred, Differs, Cut}
+use Rattle.cf_scripts.specs.declared.trace_refusal.TraceKind.{TraceKind}
+use Rattle.cf_scripts.specs.declared.trace_refusal.TraceKind.TheVariants.{NotAMove, Barred, Differs, Cut}
 use Rattle.cf_audit.specs.Audits.{Audits}
 use Rattle.cf_audit.specs.Compared.{alone, told_by}
 use Rattle.cf_audit.specs.Traces.{most_retired, line_of, has_line, BeginsWith, IsTrace, StandsAt, PartsAt, Fails, GoesWrong}

@@ -19,8 +19,8 @@ use Rattle.cf_run.specs.Made.{Made, retirement, shown, all_shown}
 use Rattle.cf_run.proofs.Retirements.{made-texts, one-text}
 use Rattle.cf_audit.specs.declared.answer.Audit.{Audit}
 use Rattle.cf_audit.specs.declared.answer.Audit.TheVariants.{Agrees, Wrong, ReadFault}
-use Rattle.cf_audit.specs.declared.answer.TraceKind.{TraceKind}
-use Rattle.cf_audit.specs.declared.answer.TraceKind.TheVariants.{NotAMove, Barred, Differs, Cut}
+use Rattle.cf_scripts.specs.declared.trace_refusal.TraceKind.{TraceKind}
+use Rattle.cf_scripts.specs.declared.trace_refusal.TraceKind.TheVariants.{NotAMove, Barred, Differs, Cut}
 use Rattle.cf_audit.specs.Audits.{Audits, AgreesWithAll}
 use Rattle.cf_audit.specs.Traces.{most_retired, AreReadBack, IsReadBack, IsTrace, PartsAt, Fails, GoesWrong, has_line}
 use Rattle.cf_audit.proofs.Coming.{shown-some}

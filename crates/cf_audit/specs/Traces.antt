@@ -17,8 +17,8 @@ use Rattle.cf_report.specs.Lines.{numbered_move}
 use Rattle.cf_scripts.specs.MoveLines.{move_in}
 use Rattle.cf_run.specs.Made.{Made, shown, all_shown}
 use Rattle.cf_run.specs.Going.{moment_of, Finds, IsMade, Leads}
-use Rattle.cf_audit.specs.declared.answer.TraceKind.{TraceKind}
-use Rattle.cf_audit.specs.declared.answer.TraceKind.TheVariants.{NotAMove, Barred, Differs, Cut}
+use Rattle.cf_scripts.specs.declared.trace_refusal.TraceKind.{TraceKind}
+use Rattle.cf_scripts.specs.declared.trace_refusal.TraceKind.TheVariants.{NotAMove, Barred, Differs, Cut}
 
 -- so many instructions at most can retire: their count is a u64
 abbrev pub most_retired : ℕ

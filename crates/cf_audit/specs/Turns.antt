@@ -12,7 +12,7 @@ use Rattle.cf_run.specs.declared.answer.Ran.TheVariants as ran
 use Rattle.cf_run.specs.Moving.{Place, place_of, MakesOne, MakesAndShows, Does, shown_of}
 use Rattle.cf_audit.specs.declared.answer.Audit.{Audit}
 use Rattle.cf_audit.specs.declared.answer.Audit.TheVariants.{Agrees, Wrong, ReadFault}
-use Rattle.cf_audit.specs.declared.answer.TraceKind.TheVariants.{NotAMove, Barred, Differs, Cut}
+use Rattle.cf_scripts.specs.declared.trace_refusal.TraceKind.TheVariants.{NotAMove, Barred, Differs, Cut}
 use Rattle.cf_audit.specs.Compared.{Comparison, told_by, HasOther, IsSame}
 use Rattle.cf_audit.specs.Traces.{BeginsWith, has_line, line_of}
 

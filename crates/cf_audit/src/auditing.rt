@@ -11,14 +11,14 @@ ghost use Rattle.cf_audit.specs.Traces.{has_line, line_of};
 ghost use Rattle.cf_audit.specs.Turns.{stand_by, Compares, Tests, input_tested};
 ghost use Rattle.cf_audit.specs.Audits.{Audits, AgreesWithAll, RetiresSequentially};
 
-use crate::answer::{Audit, TraceKind};
+use crate::answer::Audit;
 use crate::compared::Compared;
 use crate::first_line::recorded_move;
 use cf_core::Core;
 use cf_io::{Nowhere, Source};
 use cf_report::Tally;
 use cf_run::{Ran, Show, known, make_and_show};
-use cf_scripts::MOST_SCRIPT;
+use cf_scripts::{MOST_SCRIPT, TraceKind};
 
 /// The greatest length of a trace, in bytes: that of a script.
 pub const MOST_TRACE: usize = MOST_SCRIPT;

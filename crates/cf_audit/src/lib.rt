@@ -8,5 +8,6 @@ mod compared;
 mod first_line;
 pub mod laws;
 
-pub use answer::{Audit, TraceKind};
+pub use answer::Audit;
 pub use auditing::{MOST_TRACE, audit};
+pub use cf_scripts::TraceKind;

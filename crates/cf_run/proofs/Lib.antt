@@ -16,3 +16,4 @@ pub mod Stopped
 pub mod Coming
 pub mod Headline
 pub mod Ending
+pub mod Opened

@@ -7,9 +7,9 @@ use Rattle.cf_scripts.specs.MoveLines.{is_ascii}
 use Rattle.cf_scripts.specs.Scripts.{is_skipped}
 use Rattle.cf_scripts.specs.Words.{words_of, first_word}
 use Rattle.cf_semantics.specs.state.Options.{on, is_some}
-use Rattle.cf_timed.specs.declared.refusal.DelayErr.{DelayErr}
-use Rattle.cf_timed.specs.declared.refusal.DelayKind.{DelayKind}
-use Rattle.cf_timed.specs.declared.refusal.DelayKind.TheVariants.{NotAscii, UnknownKind, KindTwice, BadDelay, ExtraWords}
+use Rattle.cf_scripts.specs.declared.delay_refusal.DelayErr.{DelayErr}
+use Rattle.cf_scripts.specs.declared.delay_refusal.DelayKind.{DelayKind}
+use Rattle.cf_scripts.specs.declared.delay_refusal.DelayKind.TheVariants.{NotAscii, UnknownKind, KindTwice, BadDelay, ExtraWords}
 
 -- the first refusal, or what the second step makes of the first one's answer
 abbrev pub and_then : {A B E : Type 0} → Result A E → (A → Result B E) → Result B E

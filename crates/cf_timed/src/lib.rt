@@ -9,16 +9,15 @@ mod least;
 mod putting;
 mod reaching;
 mod reading;
-mod refusal;
 mod run;
 mod soonest;
 mod timing;
 
 pub use answer::Timed;
+pub use cf_scripts::{DelayErr, DelayKind};
 pub use clock::Clock;
 pub use delays::{Delays, kind_place};
 pub use reaching::port;
 pub use reading::{MOST_DELAYS, read_delays};
-pub use refusal::{DelayErr, DelayKind};
 pub use run::{clock_behind, run_timed, run_unreported, timed};
 pub use timing::Timing;

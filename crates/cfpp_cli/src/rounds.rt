@@ -37,7 +37,7 @@ fn ran_of(clocked: Clocked) -> Ran
 }
 
 /// Runs the opened processor in rounds, and puts the closing lines.
-#[tactic(auto, using(cli_files::proofs::Opened::opened_cores))]
+#[tactic(auto, using(cf_run::proofs::Opened::opened_cores))]
 fn run_core<S: Source, K: Sink, R: Sink>(
     core: &mut Core,
     candidates: &mut Candidates,
@@ -73,7 +73,7 @@ fn run_core<S: Source, K: Sink, R: Sink>(
 }
 
 /// Opens the processor of the layout on the machine, and runs it in rounds.
-#[tactic(auto, using(cli_files::proofs::Opened::opened_cores))]
+#[tactic(auto, using(cf_run::proofs::Opened::opened_cores))]
 fn run_loaded<S: Source, K: Sink, R: Sink>(
     alloc: Global,
     loaded: Loaded,

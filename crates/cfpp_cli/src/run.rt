@@ -28,7 +28,7 @@ use cli_files::{Ready, ReadySchedule, no_memory, read_files};
 use std::alloc::Global;
 
 /// Runs the opened processor by what was read.
-#[tactic(auto, using(cli_files::proofs::Opened::opened_cores))]
+#[tactic(auto, using(cf_run::proofs::Opened::opened_cores))]
 fn run_scheduled<S: Source, K: Sink, R: Sink>(
     core: &mut Core,
     candidates: &mut Candidates,
@@ -62,7 +62,7 @@ fn run_scheduled<S: Source, K: Sink, R: Sink>(
 }
 
 /// Opens the processor of the layout on the machine, runs it by what was read, and puts what is to stand behind its report.
-#[tactic(auto, using(cli_files::proofs::Opened::opened_cores))]
+#[tactic(auto, using(cf_run::proofs::Opened::opened_cores))]
 pub fn run_ready<S: Source, K: Sink, R: Sink>(
     alloc: Global,
     ready: Ready,

@@ -177,9 +177,10 @@ fn decide<F: Files, S: Source, K: Sink, R: Sink>(
 ///
 /// The report closes with how the run finished, how many instructions retired, and what the registers hold; after a run
 /// of the processor the counts of its moves and the picture stand there too, and of one in rounds their number. Where
-/// nothing was run it is one line that says why, after `audit` it tells the number of moves of the trace, and after any
-/// other command that was carried out it is empty. After a report that failed nothing more is put to it, and the status
-/// is `WriteFault`.
+/// nothing was run it is one line that says why. After `audit` it tells the number of moves of the trace, after `time`
+/// it has the lines of each layout and names the first with the least time, after `debug` it has the answers to the
+/// commands, and after any other command that was carried out it is empty. After a report that failed nothing more is
+/// put to it, and the status is `WriteFault`.
 pub fn cfpp<F: Files, S: Source, K: Sink, R: Sink>(
     alloc: Global,
     words: &[String],

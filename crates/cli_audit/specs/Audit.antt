@@ -8,7 +8,7 @@ use Rattle.cf_semantics.specs.state.State.{Moment}
 use Rattle.cf_core.specs.Processors.{Processor, opened}
 use Rattle.cf_audit.specs.declared.answer.Audit.{Audit}
 use Rattle.cf_audit.specs.declared.answer.Audit.TheVariants as found
-use Rattle.cf_audit.specs.declared.answer.TraceKind.{TraceKind}
+use Rattle.cf_scripts.specs.declared.trace_refusal.TraceKind.{TraceKind}
 use Rattle.cf_audit.specs.Audits.{RetiresAs}
 use Rattle.cf_audit.specs.Traces.{IsTrace, GoesWrong, StopsAtCall}
 use Rattle.cf_texts.specs.Texts.{line}

@@ -1,7 +1,7 @@
 -- What is told of a trace (a format of this project).
 use Rattle.std.specs.Prelude.{ℕ, List, ◌++◌, codes, decimal}
-use Rattle.cf_audit.specs.declared.answer.TraceKind.{TraceKind}
-use Rattle.cf_audit.specs.declared.answer.TraceKind.TheVariants as kind
+use Rattle.cf_scripts.specs.declared.trace_refusal.TraceKind.{TraceKind}
+use Rattle.cf_scripts.specs.declared.trace_refusal.TraceKind.TheVariants as kind
 use Rattle.cf_closing.specs.Lines.{bar_text}
 use Rattle.cf_texts.specs.Texts.{line}
 use Rattle.cli_files.specs.declared.status.TraceFault.{TraceFault}

@@ -1,5 +1,5 @@
 //! The command `audit`.
-#![tactic(auto, using(cli_files::proofs::Opened::opened_cores))]
+#![tactic(auto, using(cf_run::proofs::Opened::opened_cores))]
 
 ghost use Rattle.std.specs.Prelude.{◌≡◌, ◌≤◌, length, Ok};
 ghost use Rattle.cf_io.specs.Causes.{HasCause};

@@ -1,5 +1,5 @@
 //! The command `debug`.
-#![tactic(auto, using(cli_files::proofs::Opened::opened_cores))]
+#![tactic(auto, using(cf_run::proofs::Opened::opened_cores))]
 
 ghost use Rattle.std.specs.Prelude.{◌≡◌, ◌≢◌, ◌≤◌, Ok, IfOk, IfErr};
 ghost use Rattle.cf_io.specs.Causes.{HasCause};

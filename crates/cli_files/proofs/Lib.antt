@@ -3,7 +3,6 @@ pub mod FileFronts
 pub mod Flat
 pub mod Named
 pub mod NoStreams
-pub mod Opened
 pub mod ProgramFiles
 pub mod Reading
 pub mod Segments

@@ -2,10 +2,8 @@
 
 ghost use Rattle.std.specs.Prelude.{◌≡◌};
 
-use cf_audit::TraceKind;
 use cf_bind::Bar;
-use cf_scripts::ScriptErr;
-use cf_timed::DelayErr;
+use cf_scripts::{DelayErr, ScriptErr, TraceKind};
 use elf_view::ElfErr;
 use layout_file::FileErr;
 use mem_regions::LoadErr;
@@ -82,7 +80,7 @@ pub enum Status {
     /// The script had no further move after so many that were made, and the program had not ended.
     ScriptEnd(u64),
 
-    /// A command that runs no program was carried out.
+    /// The command was carried out, and its status is not that of a run.
     Done,
 
     /// The words are not those of any command: the index of the first that has no place.
@@ -115,15 +113,15 @@ pub enum Status {
     /// The output or the report could not be written.
     WriteFault,
 
-    /// Memory was refused, before anything was written.
+    /// Memory was refused, before anything was written except, under `time`, the lines of earlier runs.
     NoMemory,
 }
 
 impl Status {
     ghost use Rattle.cli_files.specs.Codes.{code_of};
 
-    /// The status that the process ends with: a program's own, 0 after a command that runs none or at a script's end, or
-    /// one from 120 on.
+    /// The status that the process ends with: a program's own, 0 at a script's end or after a command that was carried out
+    /// and has no other, or one from 120 on.
     pub fn code(&self) -> u8
         ensures { result ≡ code_of self.now }
     {

@@ -18,7 +18,7 @@ use Rattle.cf_ledger.specs.NotedRuns.{RunsNoted}
 use Rattle.cf_ledger.specs.declared.breakdown.Breakdown.{Breakdown}
 use Rattle.cf_ledger.specs.declared.ledger.Ledger.{Ledger}
 use Rattle.cf_words.specs.declared.command.TimeOptions.{TimeOptions}
-use Rattle.cli_files.proofs.Opened.{can-run}
+use Rattle.cf_run.proofs.Opened.{can-run}
 use Rattle.cli_time.specs.Measures.{Measures, Takes, made_of, quiet}
 use Rattle.cli_time.specs.declared.measuring.Measured.{Measured}
 

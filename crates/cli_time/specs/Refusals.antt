@@ -1,9 +1,9 @@
 -- The report of a file that tells no delays (a format of this project).
 use Rattle.std.specs.Prelude.{ℕ, List, ◌++◌, codes, decimal}
 use Rattle.cf_texts.specs.Texts.{line}
-use Rattle.cf_timed.specs.declared.refusal.DelayErr.{DelayErr}
-use Rattle.cf_timed.specs.declared.refusal.DelayKind.{DelayKind}
-use Rattle.cf_timed.specs.declared.refusal.DelayKind.TheVariants.{NotAscii, UnknownKind, KindTwice, BadDelay, ExtraWords}
+use Rattle.cf_scripts.specs.declared.delay_refusal.DelayErr.{DelayErr}
+use Rattle.cf_scripts.specs.declared.delay_refusal.DelayKind.{DelayKind}
+use Rattle.cf_scripts.specs.declared.delay_refusal.DelayKind.TheVariants.{NotAscii, UnknownKind, KindTwice, BadDelay, ExtraWords}
 use Rattle.cli_files.specs.declared.status.DelaysFault.{DelaysFault}
 use Rattle.cli_files.specs.declared.status.DelaysFault.TheVariants as fault
 

@@ -103,7 +103,7 @@ fn take_sites(
 /// Loads the program anew, and runs it on the processor of a layout by the moves that are done first, over an empty input and
 /// with its output nowhere. A ledger is kept where it is shown what the time is made of. Memory may be refused, before the first
 /// move.
-#[tactic(auto, using(cli_files::proofs::Opened::opened_cores))]
+#[tactic(auto, using(cf_run::proofs::Opened::opened_cores))]
 pub(crate) fn measure(
     alloc: Global,
     image: &[u8],

@@ -1,4 +1,4 @@
-use Rattle.cli_files.proofs.Opened.{newly-opened}
+use Rattle.cf_run.proofs.Opened.{newly-opened}
 use Rattle.cfpp_cli.proofs.InRounds.{rounds-come}
 use Rattle.cfpp_cli.proofs.rounds.run_loaded.Goals as goal
 

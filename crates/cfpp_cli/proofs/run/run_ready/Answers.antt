@@ -1,6 +1,6 @@
 use Rattle.std.proofs.Common.{refl}
 use Rattle.cli_files.specs.Schedules.{schedule_view}
-use Rattle.cli_files.proofs.Opened.{can-run}
+use Rattle.cf_run.proofs.Opened.{can-run}
 use Rattle.cfpp_cli.proofs.Machines.{opened-comes, unopened-comes}
 use Rattle.cfpp_cli.proofs.run.run_ready.Goals as goal
 

@@ -1,4 +1,4 @@
-use Rattle.cli_files.proofs.Opened.{newly-opened}
+use Rattle.cf_run.proofs.Opened.{newly-opened}
 use Rattle.cli_audit.proofs.Audited.{comes}
 use Rattle.cli_audit.proofs.audit.audit_loaded.Goals as goal
 

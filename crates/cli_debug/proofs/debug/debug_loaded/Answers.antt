@@ -1,6 +1,6 @@
 use Rattle.std.proofs.Common.{inr, refl, []}
 use Rattle.cf_io.proofs.Owing.{writes-nothing}
-use Rattle.cli_files.proofs.Opened.{newly-opened}
+use Rattle.cf_run.proofs.Opened.{newly-opened}
 use Rattle.cli_debug.proofs.Debugging.{decides-session}
 use Rattle.cli_debug.proofs.debug.debug_loaded.Goals as goal
 
