@@ -2,18 +2,14 @@
 //! than its row wants.
 #![tactic(auto)]
 
-mod call;
-mod content;
-mod line_err;
-mod matching;
+mod making;
 mod report;
-mod sheet;
 mod tally;
 
 use crate::report::judge;
-use crate::sheet::Sheet;
 use crate::tally::Tally;
 use cf_io::{DirFiles, Files};
+use rows::Sheet;
 use std::process::ExitCode;
 use std::{env, io, rt, str};
 

@@ -1,8 +1,8 @@
 //! What is printed of a row.
 
-use crate::call::Outcome;
-use crate::sheet::{Sheet, Wanted};
+use crate::making::make;
 use crate::tally::Tally;
+use rows::{Outcome, Sheet, Wanted};
 use std::{io, str};
 
 /// Prints what differs, with the wanted bytes and those that came.
@@ -57,7 +57,8 @@ pub(crate) fn judge(
     if sheet.name().is_none() {
         return Ok(());
     }
-    let outcome = sheet.call()?;
+    let outcome = make(rt.alloc(), sheet.call()?)?;
+    sheet.keep(&outcome)?;
     if agrees(rt, sheet.wanted(), &outcome)? {
         tally.agree();
         return Ok(());

@@ -2,10 +2,12 @@
 
 use std::alloc::{AllocError, AllocFailed};
 
-/// Memory was refused, or the line is none of a row.
+/// Why a line is not heeded.
 #[derive(Debug, Drop)]
-pub(crate) enum LineErr {
+pub enum LineErr {
+    /// Memory was refused.
     NoMemory,
+    /// The line is none of a row.
     Unknown,
 }
 

@@ -1,11 +1,14 @@
 //! How much of a text a row wants.
 
+ghost use Rattle.std.specs.Prelude.{◌↔◌, IsTrue};
+ghost use Rattle.rows.specs.Matches.{IsAsWanted};
+
 use crate::content::number;
 use crate::line_err::LineErr;
 
 /// How the bytes that a call left and those of its row are to be alike.
 #[derive(Clone, Copy)]
-pub(crate) enum Matching {
+pub enum Matching {
     /// They are the same.
     Whole,
     /// What the call left begins with the row's.
@@ -31,7 +34,9 @@ impl Matching {
     }
 
     /// Whether the bytes that a call left are as the row wants them.
-    pub(crate) fn holds(self, left: &[u8], wanted: &[u8]) -> bool {
+    pub fn holds(self, left: &[u8], wanted: &[u8]) -> bool
+        ensures { IsTrue result ↔ IsAsWanted self left.now wanted.now }
+    {
         match self {
             Matching::Whole => left == wanted,
             Matching::Begins => left.starts_with(wanted),

@@ -20,16 +20,18 @@ enum Part {
 
 /// What a row wants of its call.
 #[derive(Drop)]
-pub(crate) struct Wanted {
+pub struct Wanted {
     /// The status that the process ends with.
-    pub(crate) status: u8,
-    pub(crate) output: (Matching, Vec<u8>),
-    pub(crate) report: (Matching, Vec<u8>),
+    pub status: u8,
+    /// The bytes of the output, and how it is to be like them.
+    pub output: (Matching, Vec<u8>),
+    /// The bytes of the report, and how it is to be like them.
+    pub report: (Matching, Vec<u8>),
 }
 
 /// The row that is being read, and what stays from one row to the next.
 #[derive(Drop)]
-pub(crate) struct Sheet {
+pub struct Sheet {
     alloc: Global,
     /// The row's name; `None` before the first.
     name: Option<String>,
@@ -59,7 +61,7 @@ fn split(line: &str) -> (&str, &str) {
 
 impl Sheet {
     /// No row yet.
-    pub(crate) fn new(alloc: Global) -> Sheet {
+    pub fn new(alloc: Global) -> Sheet {
         Sheet {
             alloc,
             name: None,
@@ -72,12 +74,12 @@ impl Sheet {
     }
 
     /// Whether a row begins with the line.
-    pub(crate) fn begins_row(line: &str) -> bool {
+    pub fn begins_row(line: &str) -> bool {
         line.starts_with("row ") || line.starts_with("again ")
     }
 
     /// The row's name; `None` before the first row.
-    pub(crate) fn name(&self) -> Option<&str> {
+    pub fn name(&self) -> Option<&str> {
         match &self.name {
             Some(name) => Some(name.as_str()),
             None => None,
@@ -85,7 +87,7 @@ impl Sheet {
     }
 
     /// What the row wants.
-    pub(crate) fn wanted(&self) -> &Wanted {
+    pub fn wanted(&self) -> &Wanted {
         &self.wanted
     }
 
@@ -104,24 +106,19 @@ impl Sheet {
         Ok(())
     }
 
-    /// Makes the row's call, and keeps its output and its report.
-    pub(crate) fn call(&mut self) -> Result<Outcome, AllocError> {
+    /// The row's call.
+    pub fn call(&mut self) -> Result<&Call, AllocError> {
         self.close()?;
+        Ok(&self.call)
+    }
+
+    /// Keeps what the row's call wrote, under the names `output` and `report`.
+    pub fn keep(&mut self, outcome: &Outcome) -> Result<(), AllocError> {
         let alloc = self.alloc;
-        let outcome = self.call.make(alloc)?;
-        keep(
-            alloc,
-            &mut self.kept,
-            "output",
-            outcome.output.as_slice().to_vec(alloc)?,
-        )?;
-        keep(
-            alloc,
-            &mut self.kept,
-            "report",
-            outcome.report.as_slice().to_vec(alloc)?,
-        )?;
-        Ok(outcome)
+        let output = outcome.output.as_slice().to_vec(alloc)?;
+        keep(alloc, &mut self.kept, "output", output)?;
+        let report = outcome.report.as_slice().to_vec(alloc)?;
+        keep(alloc, &mut self.kept, "report", report)
     }
 
     /// Begins a row with the call of the one before.
@@ -195,8 +192,8 @@ impl Sheet {
         }
     }
 
-    /// Does what the line says.
-    pub(crate) fn heed(&mut self, line: &str) -> Result<(), LineErr> {
+    /// Does what the line says. A line that is none of a row is refused.
+    pub fn heed(&mut self, line: &str) -> Result<(), LineErr> {
         let (word, rest) = split(line);
         if word.is_empty() || word.starts_with("#") || self.begin_part(word, rest)? {
             return Ok(());

@@ -1,0 +1,98 @@
+//! What the simulator is called with, and what that comes to.
+
+use std::alloc::{AllocError, Global};
+
+/// How many bytes the output takes where a row does not say it.
+const ROOM: usize = 100_000;
+
+/// A name, and the bytes that it stands for.
+pub type Named = (String, Vec<u8>);
+
+/// What the simulator is called with.
+#[derive(Drop)]
+pub struct Call {
+    /// The words of the command line.
+    pub words: Vec<String>,
+    /// The files in memory.
+    pub files: Vec<Named>,
+    /// The bytes of the input.
+    pub input: Vec<u8>,
+    /// How many bytes of the input come at once.
+    pub piece: usize,
+    /// How many bytes the output takes.
+    pub room: usize,
+    /// The numbers of the calls that fail.
+    pub fails: Fails,
+}
+
+/// The numbers of the calls that fail, counted from 1.
+#[derive(Drop)]
+pub struct Fails {
+    /// Of the reads of files.
+    pub files: Vec<u64>,
+    /// Of the takes from the input.
+    pub input: Vec<u64>,
+    /// Of the puts to the output.
+    pub output: Vec<u64>,
+    /// Of the puts to the report.
+    pub report: Vec<u64>,
+}
+
+/// What a call comes to.
+#[derive(Drop)]
+pub struct Outcome {
+    /// The status that the process ends with.
+    pub status: u8,
+    /// What was written to the output.
+    pub output: Vec<u8>,
+    /// What was written to the report.
+    pub report: Vec<u8>,
+}
+
+/// The bytes under the name, if there are any.
+pub(crate) fn find<'a>(list: &'a [Named], name: &str) -> Option<&'a [u8]> {
+    for (other, bytes) in list {
+        if other.as_str() == name {
+            return Some(bytes.as_slice());
+        }
+    }
+    None
+}
+
+/// Puts the bytes under the name, in the place of those that stood there.
+pub(crate) fn keep(
+    alloc: Global,
+    list: &mut Vec<Named>,
+    name: &str,
+    bytes: Vec<u8>,
+) -> Result<(), AllocError> {
+    list.retain(|named| named.0.as_str() != name);
+    list.push((String::from_str(alloc, name)?, bytes))?;
+    Ok(())
+}
+
+impl Fails {
+    /// No call fails.
+    pub(crate) fn new(alloc: Global) -> Fails {
+        Fails {
+            files: Vec::new(alloc),
+            input: Vec::new(alloc),
+            output: Vec::new(alloc),
+            report: Vec::new(alloc),
+        }
+    }
+}
+
+impl Call {
+    /// A call without words, files and failures.
+    pub(crate) fn new(alloc: Global) -> Call {
+        Call {
+            words: Vec::new(alloc),
+            files: Vec::new(alloc),
+            input: Vec::new(alloc),
+            piece: 1,
+            room: ROOM,
+            fails: Fails::new(alloc),
+        }
+    }
+}
