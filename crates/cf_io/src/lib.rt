@@ -13,8 +13,6 @@ mod nowhere;
 mod sink;
 mod source;
 mod standard;
-#[cfg(test)]
-mod tests;
 
 pub use directory::DirFiles;
 pub use empty::Empty;

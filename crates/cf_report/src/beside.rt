@@ -30,7 +30,7 @@ fn fetch_page(fetch: Fetch) -> Page
 }
 
 /// Puts where fetch runs, or that it waits.
-pub(crate) fn put_fetch<R: Sink>(fetch: Fetch, report: &mut R) -> Result<(), Failed>
+pub fn put_fetch<R: Sink>(fetch: Fetch, report: &mut R) -> Result<(), Failed>
     ensures { PutsText (R.written report.old) (R.written report.new)
         (R.faults report.old) (R.faults report.new) (fetch_line fetch) result }
 {
@@ -179,11 +179,7 @@ fn siding_page(siding: u32, ops: &[Option<Op>]) -> Page
 }
 
 /// Puts the line of a siding with its cells, at most eight, and nothing of one without an operation.
-pub(crate) fn put_siding<R: Sink>(
-    siding: u32,
-    ops: &[Option<Op>],
-    report: &mut R,
-) -> Result<(), Failed>
+pub fn put_siding<R: Sink>(siding: u32, ops: &[Option<Op>], report: &mut R) -> Result<(), Failed>
     requires { length ops.now ≤ 8 }
     ensures { PutsText (R.written report.old) (R.written report.new)
         (R.faults report.old) (R.faults report.new) (siding_line siding ops.now) result }

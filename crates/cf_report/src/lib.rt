@@ -9,9 +9,8 @@ mod putting;
 mod stages;
 mod tally;
 
+pub use beside::{put_fetch, put_siding};
 pub use lines::{move_number, put_move, put_registers, put_retired, put_tally};
 pub use picture::put_picture;
+pub use stages::put_stage;
 pub use tally::Tally;
-
-#[cfg(test)]
-mod tests;

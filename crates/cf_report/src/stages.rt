@@ -95,7 +95,7 @@ fn stage_page(stage: u32, cell: &Cell) -> Page
 }
 
 /// Puts the line of a stage, and nothing of an empty one.
-pub(crate) fn put_stage<R: Sink>(stage: u32, cell: &Cell, report: &mut R) -> Result<(), Failed>
+pub fn put_stage<R: Sink>(stage: u32, cell: &Cell, report: &mut R) -> Result<(), Failed>
     ensures { PutsText (R.written report.old) (R.written report.new)
         (R.faults report.old) (R.faults report.new) (stage_line stage cell.now) result }
 {

@@ -1,5 +1,5 @@
-//! Tests of public calls of the processor, its candidates, schedules and delays, and the debugger, a file for each subject:
-//! a crate that has tests of its own is proved a second time with them.
+//! Tests of public calls of the processor, its candidates, schedules and delays, reports, and the debugger, a file for each
+//! subject: a crate that has tests of its own is proved a second time with them.
 #![tactic(auto)]
 
 #[cfg(test)]
@@ -9,7 +9,11 @@ mod delays;
 #[cfg(test)]
 mod drains;
 #[cfg(test)]
+mod first_lines;
+#[cfg(test)]
 mod processors;
+#[cfg(test)]
+mod report_lines;
 #[cfg(test)]
 mod schedules;
 #[cfg(test)]

@@ -1,9 +1,7 @@
 //! Lines of reports that were worked by hand, and the forms that these do not have.
-use super::*;
-use crate::beside::{put_fetch, put_siding};
-use crate::stages::put_stage;
 use cf_bind::{Binding, Cell, End, Fetch, Guess, Move, Op, Packet, Passenger};
 use cf_io::MemSink;
+use cf_report::{Tally, put_fetch, put_move, put_retired, put_siding, put_stage, put_tally};
 use rv_inst::{Instr, LoadKind, decode};
 use rv_machine::Retired;
 use std::process::Abort;

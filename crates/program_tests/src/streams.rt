@@ -1,5 +1,8 @@
-//! What no clause says: that streams and files can be read and written, and that the definitions mean what is wanted.
-use super::*;
+//! Streams and files, in memory and real: what no clause says is that they can be read and written.
+use cf_io::{
+    DirFiles, Empty, Failed, Files, FilesErr, MemFiles, MemSink, MemSource, Nowhere, Sink, Source,
+    StdSink, StdSource, put_all, take_all,
+};
 use std::alloc::Global;
 use std::io::{self, Read};
 use std::test::Fail;

@@ -1,0 +1,99 @@
+//! How a run finished, what bars a move and why a line tells none, as the tables of reports have it.
+use cf_bind::Bar;
+use cf_closing::{push_bar, push_script, run_line};
+use cf_run::Ran;
+use cf_scripts::ScriptKind;
+use cf_texts::Page;
+use std::alloc::AllocError;
+use std::test::Fail;
+
+/// Each way in which a run finishes of itself.
+const ENDS: [Ran; 7] = [
+    Ran::Exit(0),
+    Ran::Exit(255),
+    Ran::Trap {
+        cause: 4,
+        pc: 0x1_0004,
+        detail: 0x7f0f_fffe,
+    },
+    Ran::Limit,
+    Ran::ReadFault,
+    Ran::WriteFault,
+    Ran::ReportFault,
+];
+
+/// Why a line of a script tells no move.
+const KINDS: [ScriptKind; 4] = [
+    ScriptKind::UnknownMove,
+    ScriptKind::BadNumber,
+    ScriptKind::ExtraWords,
+    ScriptKind::NotAscii,
+];
+
+/// Each bar; that of a missing source with a register of one digit, and with one of two.
+const BARS: [Bar; 21] = [
+    Bar::Halted,
+    Bar::Failed,
+    Bar::NoSuchSite,
+    Bar::NoPassenger,
+    Bar::NoPacket,
+    Bar::Occupied,
+    Bar::NotMet,
+    Bar::AlreadyMet,
+    Bar::SourceMissing(5),
+    Bar::SourceMissing(31),
+    Bar::NoUnit,
+    Bar::NotDone,
+    Bar::Owes,
+    Bar::OwesNothing,
+    Bar::OpNotThere,
+    Bar::LaneFull,
+    Bar::LaneEmpty,
+    Bar::FetchWaiting,
+    Bar::BadGuess,
+    Bar::Dead,
+    Bar::AlreadyDone,
+];
+
+/// The lines of the ends under a limit of 500, of which a report that failed has none, the names of the bars, and those of the
+/// kinds.
+const TEXTS: &str = "exit 0
+exit 255
+trap 4 at 00010004 detail 7f0ffffe
+limit 500
+read fault input
+write fault output
+Halted Failed NoSuchSite NoPassenger NoPacket Occupied NotMet AlreadyMet SourceMissing x05 SourceMissing x31 NoUnit NotDone Owes \
+OwesNothing OpNotThere LaneFull LaneEmpty FetchWaiting BadGuess Dead AlreadyDone UnknownMove BadNumber ExtraWords NotAscii ";
+
+/// Adds the name of a bar, and a space.
+fn add_bar(texts: &mut Vec<u8>, bar: Bar) -> Result<(), AllocError> {
+    let mut page = Page::new();
+    push_bar(&mut page, bar);
+    page.push(b" ");
+    texts.extend_from_slice(page.bytes())
+}
+
+/// Adds why a line of a script tells no move, and a space.
+fn add_kind(texts: &mut Vec<u8>, kind: ScriptKind) -> Result<(), AllocError> {
+    let mut page = Page::new();
+    push_script(&mut page, kind);
+    page.push(b" ");
+    texts.extend_from_slice(page.bytes())
+}
+
+#[test]
+fn ends_bars_and_kinds(rt: HostRuntime) -> Result<(), Fail> {
+    let mut lines = Vec::new(rt.alloc());
+    for answer in &ENDS {
+        lines.extend_from_slice(run_line(500, *answer).bytes())?;
+    }
+    for bar in &BARS {
+        add_bar(&mut lines, *bar)?;
+    }
+    for kind in &KINDS {
+        add_kind(&mut lines, *kind)?;
+    }
+    assert_eq!(rt; lines.as_slice(), TEXTS.as_bytes());
+    Ok(())
+}
