@@ -1,37 +1,69 @@
 //! Which values stand for an instruction of the machine.
-ghost use Rattle.std.specs.Prelude.{◌↔◌, IsTrue};
-ghost use Rattle.rv_inst.specs.Ranges.{Fits};
+ghost use Rattle.std.specs.Prelude.{◌↔◌, ◌^◌, IsTrue};
+ghost use Rattle.rv_inst.specs.Ranges.{Fits, IsAmount, IsEven, IsRegister, IsWithin};
 
 use crate::instruction::{ImmOp, Instr};
+
+fn is_register(number: u8) -> bool
+    ensures { IsTrue result ↔ IsRegister number }
+{
+    number < 32
+}
+
+/// Whether it is a signed number of 12 bits.
+fn is_short(imm: i32) -> bool
+    ensures { IsTrue result ↔ IsWithin (2 ^ 11) imm }
+{
+    -0x800 <= imm && imm < 0x800
+}
+
+/// Whether it is a shift amount.
+fn is_amount(imm: i32) -> bool
+    ensures { IsTrue result ↔ IsAmount imm }
+{
+    0 <= imm && imm < 32
+}
+
+/// Whether a branch goes so far.
+fn is_branch_distance(imm: i32) -> bool
+    ensures { IsTrue result ↔ IsWithin (2 ^ 12) imm × IsEven imm }
+{
+    -0x1000 <= imm && imm < 0x1000 && imm.unsigned_abs() % 2 == 0
+}
+
+/// Whether a jump goes so far.
+fn is_jump_distance(imm: i32) -> bool
+    ensures { IsTrue result ↔ IsWithin (2 ^ 20) imm × IsEven imm }
+{
+    -0x10_0000 <= imm && imm < 0x10_0000 && imm.unsigned_abs() % 2 == 0
+}
 
 /// Whether all fields are in range: registers below 32, and each immediate in the range of its format.
 pub fn fits(i: Instr) -> bool
     ensures { IsTrue result ↔ Fits i }
 {
     match i {
-        Instr::Lui { rd, imm } | Instr::Auipc { rd, imm } => rd < 32 && imm < 0x10_0000,
-        Instr::Jal { rd, imm } => {
-            rd < 32 && -0x10_0000 <= imm && imm < 0x10_0000 && imm.unsigned_abs() % 2 == 0
-        }
+        Instr::Lui { rd, imm } | Instr::Auipc { rd, imm } => is_register(rd) && imm < 0x10_0000,
+        Instr::Jal { rd, imm } => is_register(rd) && is_jump_distance(imm),
         Instr::Jalr { rd, rs1, imm } | Instr::Load { rd, rs1, imm, .. } => {
-            rd < 32 && rs1 < 32 && -0x800 <= imm && imm < 0x800
+            is_register(rd) && is_register(rs1) && is_short(imm)
         }
         Instr::Branch { rs1, rs2, imm, .. } => {
-            rs1 < 32 && rs2 < 32 && -0x1000 <= imm && imm < 0x1000 && imm.unsigned_abs() % 2 == 0
+            is_register(rs1) && is_register(rs2) && is_branch_distance(imm)
         }
-        Instr::Store { rs1, rs2, imm, .. } => rs1 < 32 && rs2 < 32 && -0x800 <= imm && imm < 0x800,
+        Instr::Store { rs1, rs2, imm, .. } => is_register(rs1) && is_register(rs2) && is_short(imm),
         Instr::OpImm {
             op: ImmOp::Sll | ImmOp::Srl | ImmOp::Sra,
             rd,
             rs1,
             imm,
-        } => rd < 32 && rs1 < 32 && 0 <= imm && imm < 32,
-        Instr::OpImm { rd, rs1, imm, .. } => rd < 32 && rs1 < 32 && -0x800 <= imm && imm < 0x800,
+        } => is_register(rd) && is_register(rs1) && is_amount(imm),
+        Instr::OpImm { rd, rs1, imm, .. } => is_register(rd) && is_register(rs1) && is_short(imm),
         Instr::Op { rd, rs1, rs2, .. } | Instr::Mul { rd, rs1, rs2, .. } => {
-            rd < 32 && rs1 < 32 && rs2 < 32
+            is_register(rd) && is_register(rs1) && is_register(rs2)
         }
         Instr::Fence { rd, rs1, imm } | Instr::FenceI { rd, rs1, imm } => {
-            rd < 32 && rs1 < 32 && imm < 0x1000
+            is_register(rd) && is_register(rs1) && imm < 0x1000
         }
         Instr::Ecall | Instr::Ebreak => true,
     }
