@@ -1,34 +1,16 @@
 -- What a document asks for names computed classes alone.
-use Rattle.std.proofs.Common.{ℕ, ℤ, List, [], ◌∷◌, ◌++◌, All, Bool, true, false, cond, Option, Some, None, codes, arith}
-use Rattle.std.specs.Prelude.{unwrap_or, ◌&&◌}
+use Rattle.std.proofs.Common.{ℤ, List, [], ◌∷◌, ◌++◌, All, Bool, true, Option, Some, None, codes}
+use Rattle.std.specs.Prelude.{unwrap_or}
 use Rattle.std.proofs.lemmas.List.Elements.{All-cons, All-nil}
 use Rattle.toml.specs.Data.{Data, Items, no_items, item, Members, get_member, as_table}
 use Rattle.rv_inst.specs.declared.classes.Class.{Class}
-use Rattle.rv_inst.specs.declared.classes.Class.TheVariants.{Add, Logic, Shift, Compare, Branch, Jump, Memory, Mul, Div}
+use Rattle.rv_inst.specs.declared.classes.Class.TheVariants.{Add}
 use Rattle.cf_layout.specs.declared.parts.Siding.{Siding}
 use Rattle.cf_layout.specs.Layout.{computed_classes}
 use Rattle.cf_layout.specs.Acceptable.{IsComputed, AreComputed}
-use Rattle.layout_file.specs.Names.{class_name, same_text, class_of}
+use Rattle.layout_file.specs.Names.{class_name, class_of}
 use Rattle.layout_file.specs.Reading.{classes_of, items_at, members_at, unit_in, units_among, siding_in, sidings_of, sidings_in, parts_in, text_in, integers_of, items_in}
-
--- a class, or what is behind it, is computed where both are
-either : (b : Bool) (c : Class) (rest : Option Class) → IsComputed c → IsComputed (unwrap_or rest Add) → IsComputed (unwrap_or (cond b (Some c) rest) Add)
-either true c rest here behind = here
-either false c rest here behind = behind
-
--- each word names a computed class
-word_computed : (second : Bool) (word : List ℕ) → IsComputed (unwrap_or (class_of second word) Add)
-unfolding class_of
-word_computed second word =
-    either (same_text word (codes "add")) Add _ (omega arith)
-    (either (same_text word (codes "logic")) Logic _ (omega arith)
-    (either (same_text word (codes "shift")) Shift _ (omega arith)
-    (either (same_text word (codes "compare")) Compare _ (omega arith)
-    (either (same_text word (codes "branch")) Branch _ (omega arith)
-    (either (same_text word (codes "jump")) Jump _ (omega arith)
-    (either (same_text word (codes "memory")) Memory _ (omega arith)
-    (either (second && same_text word (codes "mul")) Mul _ (omega arith)
-    (either (second && same_text word (codes "div")) Div None (omega arith) (omega arith)))))))))
+use Rattle.layout_file.proofs.Words.{AllSmall, all_small, word_computed}
 
 -- so does each text of an array
 classes_computed : (second : Bool) (ds : Items) → All IsComputed (classes_of second ds)
@@ -39,10 +21,6 @@ classes_computed second (item d ds) = All-cons IsComputed (unwrap_or (class_of s
 entry_computed : (c : Class) (o : Option Data) (rest : List (Class × List ℤ)) → IsComputed c → All (λ (unit : Class × List ℤ). IsComputed unit.0) rest → All (λ (unit : Class × List ℤ). IsComputed unit.0) (unit_in c o ++ rest)
 entry_computed c None rest here all = all
 entry_computed c (Some d) rest here all = All-cons (λ (unit : Class × List ℤ). IsComputed unit.0) (c, integers_of (items_in d)) rest here all
-
-abbrev AllSmall : List Class → Type 0
-AllSmall [] = Unit {0}
-AllSmall (c ∷ cs) = IsComputed c × AllSmall cs
 
 units_computed : (cs : List Class) (ms : Members) → AllSmall cs → All (λ (unit : Class × List ℤ). IsComputed unit.0) (units_among cs ms)
 units_computed [] ms small = All-nil (λ (unit : Class × List ℤ). IsComputed unit.0)
@@ -68,6 +46,6 @@ sidings_computed second (item d ds) = sidings_step second (as_table d) (sidings_
 pub asked_computed : (second : Bool) (ms : Members) → AreComputed (parts_in second ms)
 unfolding parts_in
 asked_computed second ms = record {
-  units = units_computed computed_classes (members_at (codes "units") ms) (omega arith, (omega arith, (omega arith, (omega arith, (omega arith, (omega arith, (omega arith, (omega arith, (omega arith, tt)))))))));
+  units = units_computed computed_classes (members_at (codes "units") ms) (all_small true);
   sidings = sidings_computed second (items_at (codes "siding") ms);
 }

@@ -1,4 +1,5 @@
 pub mod Views
+pub mod Words
 pub mod Computed
 pub mod Lines
 pub mod Unsorted

@@ -53,15 +53,24 @@ NeedsSecond second c = ((c ≡ Mul) → second ≡ true) × ((c ≡ Div) → sec
 
 word_of : (second : Bool) (c : Class) → IsComputed c → NeedsSecond second c → IsWord second c
 unfolding class_of
-word_of second Add small needs = refl
-word_of second Logic small needs = refl
-word_of second Shift small needs = refl
-word_of second Compare small needs = refl
-word_of second Branch small needs = refl
-word_of second Jump small needs = refl
-word_of second Memory small needs = refl
-word_of second Mul small needs = rw (needs.0 refl) refl
-word_of second Div small needs = rw (needs.1 refl) refl
+word_of true Add small needs = refl
+word_of true Logic small needs = refl
+word_of true Shift small needs = refl
+word_of true Compare small needs = refl
+word_of true Branch small needs = refl
+word_of true Jump small needs = refl
+word_of true Memory small needs = refl
+word_of true Mul small needs = refl
+word_of true Div small needs = refl
+word_of false Add small needs = refl
+word_of false Logic small needs = refl
+word_of false Shift small needs = refl
+word_of false Compare small needs = refl
+word_of false Branch small needs = refl
+word_of false Jump small needs = refl
+word_of false Memory small needs = refl
+word_of false Mul small needs = absurd (cc (needs.0 refl))
+word_of false Div small needs = absurd (cc (needs.1 refl))
 word_of second Serial small needs = absurd (omega arith)
 word_of second Free small needs = absurd (omega arith)
 

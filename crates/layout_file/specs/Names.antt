@@ -1,7 +1,8 @@
 -- The words that a layout file has for the classes of instructions.
-use Rattle.std.specs.Prelude.{ℕ, nat_eq, List, codes, Bool, ◌&&◌, if◌then◌else◌, Option, Some, None}
+use Rattle.std.specs.Prelude.{ℕ, nat_eq, List, codes, take, find, Bool, if◌then◌else◌, Option}
 use lib.Pointwise.{pointwise}
 use Rattle.rv_inst.specs.declared.classes.Class.{Class}
+use Rattle.cf_layout.specs.Layout.{computed_classes}
 use Rattle.rv_inst.specs.declared.classes.Class.TheVariants.{Add, Logic, Shift, Compare, Branch, Jump, Memory, Serial, Free, Mul, Div}
 
 -- the word of a class
@@ -22,16 +23,14 @@ class_name Div = codes "div"
 abbrev pub same_text : List ℕ → List ℕ → Bool
 same_text s t = pointwise nat_eq s t
 
--- the class of a word: `mul` and `div` are words of format 2 alone
+-- the class of these with this word
+abbrev pub class_among : List Class → List ℕ → Option Class
+class_among classes word = find (λ c. same_text (class_name c) word) classes
+
+-- the classes that a file may name: `mul` and `div` in format 2 alone
+abbrev pub classes_in : Bool → List Class
+classes_in second = if second then computed_classes else take 7 computed_classes
+
+-- the class of a word
 unfoldable pub class_of : Bool → List ℕ → Option Class
-class_of second word =
-    if same_text word (codes "add") then Some Add
-    else if same_text word (codes "logic") then Some Logic
-    else if same_text word (codes "shift") then Some Shift
-    else if same_text word (codes "compare") then Some Compare
-    else if same_text word (codes "branch") then Some Branch
-    else if same_text word (codes "jump") then Some Jump
-    else if same_text word (codes "memory") then Some Memory
-    else if second && same_text word (codes "mul") then Some Mul
-    else if second && same_text word (codes "div") then Some Div
-    else None
+class_of second word = class_among (classes_in second) word

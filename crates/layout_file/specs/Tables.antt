@@ -1,5 +1,6 @@
 -- The tables of a layout file: which keys each may have and has to have, and of which types the values are. What TOML is, is what the crate `toml` reads: TOML 1.1.
 use Rattle.std.specs.Prelude.{ℕ, suc, nat_le, List, [], ◌∷◌, codes, Bool, true, false, ◌||◌, ◌&&◌, if◌then◌else◌, Option, Some, None, is_some, option_map}
+use Rattle.std.specs.List.{list_any}
 use Rattle.std.specs.Option.{option_or}
 use Rattle.toml.specs.Data.{Data, Items, no_items, item, Members, no_members, member, get_member, as_integer, as_str, as_bool, as_array, as_table}
 use Rattle.layout_file.specs.declared.form.Form.{Form}
@@ -10,11 +11,22 @@ use Rattle.layout_file.specs.declared.fault.FileErr.{FileErr}
 use Rattle.layout_file.specs.declared.fault.FileErr.TheVariants.{UnknownKey, MissingKey, WrongType, UnknownClass}
 use Rattle.layout_file.specs.Names.{same_text, class_of}
 
+-- the key is one of these
+abbrev pub is_among : List ℕ → List (List ℕ) → Bool
+is_among k keys = list_any (λ known. same_text known k) keys
+
+-- the keys that the document may have in both formats, and those of a siding
+abbrev pub top_keys : List (List ℕ)
+top_keys = codes "format" ∷ codes "stages" ∷ codes "lane" ∷ codes "units" ∷ codes "siding" ∷ []
+
+abbrev pub siding_keys : List (List ℕ)
+siding_keys = codes "classes" ∷ codes "launch" ∷ codes "recover" ∷ codes "cells" ∷ []
+
 -- the keys that a table may have: `cache` stands in format 2 alone
 unfoldable pub knows : Form → List ℕ → Bool
-knows (Top second) k = ((((same_text k (codes "format") || same_text k (codes "stages")) || same_text k (codes "lane")) || same_text k (codes "units")) || same_text k (codes "siding")) || (second && same_text k (codes "cache"))
+knows (Top second) k = is_among k top_keys || (second && same_text k (codes "cache"))
 knows (Units second) k = is_some (class_of second k)
-knows Siding k = ((same_text k (codes "classes") || same_text k (codes "launch")) || same_text k (codes "recover")) || same_text k (codes "cells")
+knows Siding k = is_among k siding_keys
 
 -- the keys that a table has to have, in byte order
 abbrev pub needed : Form → List (List ℕ)

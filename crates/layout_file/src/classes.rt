@@ -1,9 +1,10 @@
 //! The words of classes.
 
 ghost use Rattle.std.specs.Prelude.{◌≡◌, IfSome};
-ghost use Rattle.layout_file.specs.Names.{class_name, class_of};
+ghost use Rattle.layout_file.specs.Names.{class_name, class_among, class_of};
 ghost use Rattle.cf_layout.specs.Acceptable.{IsComputed};
 
+use cf_layout::CLASSES;
 use rv_inst::Class;
 
 /// The word that a file has for the class.
@@ -25,31 +26,28 @@ pub fn class_name(class: Class) -> &'static str
     }
 }
 
+/// The class of these with this word.
+fn class_among(classes: &[Class], word: &str) -> Option<Class>
+    ensures { result ≡ class_among classes.now word.now }
+{
+    classes
+        .iter()
+        .copied()
+        .find(|class| class_name(*class) == word)
+}
+
+/// How many of the classes in class order a file of format 1 may name: `mul` and `div` stand behind them.
+const FIRST_FORMAT: usize = 7;
+
 /// The class of a word, in a file of format 2 or of format 1.
 #[tactic(auto, unfolding(crate::specs::Names::class_of))]
 pub(crate) fn class_of(second: bool, word: &str) -> Option<Class>
     ensures class { result ≡ class_of second word.now }
     ensures computed { IfSome result (λ c. IsComputed c) }
 {
-    if word == "add" {
-        Some(Class::Add)
-    } else if word == "logic" {
-        Some(Class::Logic)
-    } else if word == "shift" {
-        Some(Class::Shift)
-    } else if word == "compare" {
-        Some(Class::Compare)
-    } else if word == "branch" {
-        Some(Class::Branch)
-    } else if word == "jump" {
-        Some(Class::Jump)
-    } else if word == "memory" {
-        Some(Class::Memory)
-    } else if second && word == "mul" {
-        Some(Class::Mul)
-    } else if second && word == "div" {
-        Some(Class::Div)
+    if second {
+        class_among(&CLASSES, word)
     } else {
-        None
+        class_among(&CLASSES[..FIRST_FORMAT], word)
     }
 }

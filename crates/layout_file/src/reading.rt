@@ -1,13 +1,13 @@
 //! Reading a layout file.
 
-ghost use Rattle.std.specs.Prelude.{◌≡◌, ◌++◌, ◌≤◌, All, IfOk, IfErr, Some, None, codes, option_map, unwrap_or};
+ghost use Rattle.std.specs.Prelude.{◌≡◌, ◌++◌, ◌≤◌, ◌⊎◌, All, IfOk, IfErr, Some, None, codes, option_map, unwrap_or};
 ghost use Rattle.std.specs.Option.{option_or};
-ghost use Rattle.layout_file.specs.Names.{class_name};
+ghost use Rattle.layout_file.specs.Names.{class_name, class_of};
 ghost use Rattle.layout_file.specs.Tables.{form_fault};
-ghost use Rattle.layout_file.specs.Reading.{integer_at, truth_at, items_in, items_at, members_at, integers_of, classes_of, first_nameless, unit_in, units_among, siding_fault, siding_in, sidings_fault, sidings_in, is_second, format_fault, tables_fault, parts_in, asked_by, fault_of};
+ghost use Rattle.layout_file.specs.Reading.{integer_in, text_in, integer_at, truth_at, items_in, items_at, members_at, integers_of, classes_of, first_nameless, unit_in, units_among, siding_fault, siding_in, sidings_fault, sidings_in, is_second, format_fault, tables_fault, parts_in, asked_by, fault_of};
 ghost use Rattle.layout_file.specs.Answers.{Tells, Fails, Describes};
 ghost use Rattle.layout_file.specs.declared.form.Form.TheVariants.{Units as TheUnits};
-ghost use Rattle.layout_file.specs.declared.fault.FileErr.TheVariants.{UnknownClass as NoClass};
+ghost use Rattle.layout_file.specs.declared.fault.FileErr.TheVariants.{UnknownClass as NoClass, NoMemory as OutOfMemory};
 ghost use Rattle.cf_layout.specs.Layout.{computed_classes};
 ghost use Rattle.cf_layout.specs.Asked.{plan_of};
 ghost use Rattle.cf_layout.specs.Acceptable.{IsComputed, AreComputed};
@@ -24,12 +24,19 @@ use rv_inst::Class;
 use std::alloc::{AllocError, Global};
 use toml::{Table, Value};
 
+/// The integer that a value is.
+fn integer_in(value: &Value) -> i64
+    ensures { result ≡ integer_in (view value.now) }
+{
+    value.as_integer().unwrap_or(0)
+}
+
 /// The integer at a key.
 fn integer_at(table: &Table, key: &str) -> i64
     ensures { result ≡ integer_at key.now (table_view table.now) }
 {
     match value_at(table, key) {
-        Some(value) => value.as_integer().unwrap_or(0),
+        Some(value) => integer_in(value),
         None => 0,
     }
 }
@@ -80,9 +87,27 @@ fn integers(alloc: Global, array: &[Value]) -> Result<Vec<i64>, AllocError>
 {
     let mut list = Vec::new(alloc);
     for value in array {
-        list.push(value.as_integer().unwrap_or(0))?;
+        list.push(integer_in(value))?;
     }
     Ok(list)
+}
+
+/// The text that a value is.
+fn text_in(value: &Value) -> &str
+    ensures { result.now ≡ text_in (view value.now) }
+{
+    value.as_str().unwrap_or("")
+}
+
+/// The class that a word names.
+fn class_named(alloc: Global, second: bool, word: &str) -> Result<Class, FileErr>
+    ensures class { IfOk result (λ class. class_of second word.now ≡ Some class) }
+    ensures refused { IfErr result (λ error. (error ≡ OutOfMemory) ⊎ ((class_of second word.now ≡ None) × (error ≡ NoClass word.now))) }
+{
+    match class_of(second, word) {
+        Some(class) => Ok(class),
+        None => Err(FileErr::UnknownClass(Name::new(String::from_str(alloc, word)?))),
+    }
 }
 
 /// The classes that an array names.
@@ -93,11 +118,7 @@ fn class_list(alloc: Global, second: bool, array: &[Value]) -> Result<Vec<Class>
 {
     let mut list = Vec::new(alloc);
     for value in array {
-        let word = value.as_str().unwrap_or("");
-        match class_of(second, word) {
-            Some(class) => list.push(class)?,
-            None => return Err(FileErr::UnknownClass(Name::new(String::from_str(alloc, word)?))),
-        }
+        list.push(class_named(alloc, second, text_in(value))?)?;
     }
     Ok(list)
 }

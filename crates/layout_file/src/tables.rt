@@ -3,7 +3,8 @@
 ghost use Rattle.std.specs.Prelude.{◌≡◌, ◌∷◌, [], IfOk, IfErr, Some, None, codes, option_map, find, not, string_bytes};
 ghost use Rattle.std.specs.Option.{option_copied};
 ghost use Rattle.std.specs.BTreeMap.{keys};
-ghost use Rattle.std.specs.List.{list_all};
+ghost use Rattle.std.specs.List.{list_all, list_any};
+ghost use Rattle.layout_file.specs.Names.{same_text};
 ghost use Rattle.layout_file.specs.Tables.{knows, needed, fits, has_shape, is_list_of, all_have, first_unknown, first_absent, first_misfit, form_fault};
 ghost use Rattle.layout_file.specs.Answers.{Tells};
 ghost use Rattle.toml.specs.Data.{get_member};
@@ -15,20 +16,28 @@ use crate::{FileErr, Name};
 use std::alloc::Global;
 use toml::{Table, Value};
 
+/// The keys that the document may have in both formats.
+const TOP_KEYS: [&str; 5] = ["format", "stages", "lane", "units", "siding"];
+
+/// The keys that a siding may have.
+const SIDING_KEYS: [&str; 4] = ["classes", "launch", "recover", "cells"];
+
+/// Whether the key is one of these.
+fn is_among(key: &str, keys: &[&str]) -> bool
+    ensures { result ≡ list_any (λ known. same_text known.now key.now) keys.now }
+{
+    keys.iter().copied().any(|known| known == key)
+}
+
 /// Whether the table may have the key.
 #[tactic(auto, unfolding(crate::specs::Tables::knows))]
 fn is_known(form: Form, key: &str) -> bool
     ensures { result ≡ knows form key.now }
 {
     match form {
-        Form::Top(second) => key == "format"
-            || key == "stages"
-            || key == "lane"
-            || key == "units"
-            || key == "siding"
-            || (second && key == "cache"),
+        Form::Top(second) => is_among(key, &TOP_KEYS) || (second && key == "cache"),
         Form::Units(second) => class_of(second, key).is_some(),
-        Form::Siding => key == "classes" || key == "launch" || key == "recover" || key == "cells",
+        Form::Siding => is_among(key, &SIDING_KEYS),
     }
 }
 

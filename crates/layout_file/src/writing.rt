@@ -53,12 +53,24 @@ fn push_numbers(text: &mut String, numbers: &[u32]) -> Result<(), AllocError>
     }
 }
 
+/// Adds a text between two others.
+fn push_between(
+    text: &mut String,
+    before: &str,
+    between: &str,
+    after: &str,
+) -> Result<(), AllocError>
+    ensures { IfOk result (λ done. string_bytes text.new ≡ string_bytes text.old ++ (before.now ++ (between.now ++ after.now))) }
+{
+    text.push_str(before)?;
+    text.push_str(between)?;
+    text.push_str(after)
+}
+
 fn push_name(text: &mut String, class: Class) -> Result<(), AllocError>
     ensures { IfOk result (λ done. string_bytes text.new ≡ string_bytes text.old ++ quoted_name class) }
 {
-    text.push_str("\"")?;
-    text.push_str(class_name(class))?;
-    text.push_str("\"")
+    push_between(text, "\"", class_name(class), "\"")
 }
 
 fn push_more_names(text: &mut String, classes: &[Class]) -> Result<(), AllocError>
@@ -165,6 +177,7 @@ fn push_sidings(text: &mut String, alloc: Global, layout: &Layout) -> Result<(),
     Ok(())
 }
 
+#[tactic(auto, unfolding(crate::specs::Text::pair_line))]
 fn push_format(text: &mut String, second: bool) -> Result<(), AllocError>
     ensures { IfOk result (λ done. string_bytes text.new ≡ string_bytes text.old ++ pair_line (codes "format") (format_text second)) }
 {
@@ -175,6 +188,7 @@ fn push_format(text: &mut String, second: bool) -> Result<(), AllocError>
     }
 }
 
+#[tactic(auto, unfolding(crate::specs::Text::pair_line))]
 fn push_cache(text: &mut String, second: bool, cache: bool) -> Result<(), AllocError>
     ensures { IfOk result (λ done. string_bytes text.new ≡ string_bytes text.old ++ cache_line second cache) }
 {

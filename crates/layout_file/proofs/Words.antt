@@ -1,0 +1,40 @@
+-- Each word of a class names a class that units or sidings compute.
+use Rattle.std.proofs.Common.{ℕ, List, [], ◌∷◌, Bool, true, false, cond, Option, Some, None, arith}
+use Rattle.std.specs.Prelude.{unwrap_or, IfSome}
+use Rattle.rv_inst.specs.declared.classes.Class.{Class}
+use Rattle.rv_inst.specs.declared.classes.Class.TheVariants.{Add}
+use Rattle.cf_layout.specs.Acceptable.{IsComputed}
+use Rattle.layout_file.specs.Names.{class_among, class_name, same_text, classes_in, class_of}
+
+-- all of these classes are computed
+abbrev pub AllSmall : List Class → Type 0
+AllSmall [] = Unit {0}
+AllSmall (c ∷ cs) = IsComputed c × AllSmall cs
+
+-- a class, or what is behind it, is computed where both are
+either : (b : Bool) (c : Class) (rest : Option Class) → IsComputed c → IfSome rest IsComputed → IfSome (cond b (Some c) rest) IsComputed
+either true c rest here behind = here
+either false c rest here behind = behind
+
+-- so is what is found among them
+pub found_computed : (classes : List Class) (word : List ℕ) → AllSmall classes → IfSome (class_among classes word) IsComputed
+found_computed [] word small = tt
+found_computed (c ∷ cs) word small = either (same_text (class_name c) word) c _ small.0 (found_computed cs word small.1)
+
+-- all classes that a file may name
+pub all_small : (second : Bool) → AllSmall (classes_in second)
+all_small true = (omega arith, (omega arith, (omega arith, (omega arith, (omega arith, (omega arith, (omega arith, (omega arith, (omega arith, tt)))))))))
+all_small false = (omega arith, (omega arith, (omega arith, (omega arith, (omega arith, (omega arith, (omega arith, tt)))))))
+
+-- each word names a computed class
+pub class_computed : (second : Bool) (word : List ℕ) → IfSome (class_of second word) IsComputed
+unfolding class_of
+class_computed second word = found_computed (classes_in second) word (all_small second)
+
+-- where it names none, `add` is one too
+or_add : (o : Option Class) → IfSome o IsComputed → IsComputed (unwrap_or o Add)
+or_add None h = omega arith
+or_add (Some c) h = h
+
+pub word_computed : (second : Bool) (word : List ℕ) → IsComputed (unwrap_or (class_of second word) Add)
+word_computed second word = or_add (class_of second word) (class_computed second word)
