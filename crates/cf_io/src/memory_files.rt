@@ -1,6 +1,6 @@
 //! Files in memory, for tests and for callers that have the bytes.
 
-ghost use Rattle.std.specs.Prelude.{◌≡◌, ◌<◌, ◌≤◌, [], ◌∷◌, ◌++◌, Some, None, map, take, IfSome, IfNone, IfOk, IfErr};
+ghost use Rattle.std.specs.Prelude.{◌≡◌, ◌<◌, ◌≤◌, [], ◌∷◌, ◌++◌, Some, None, map, take, IfSome, IfNone, IfOk, IfErr, string_bytes};
 ghost use Rattle.std.specs.Prelude.{vec_len, vec_capacity};
 ghost use Rattle.cf_io.specs.Causes.{raised};
 ghost use Rattle.cf_io.specs.Reads.{Reads, HasReadCause};
@@ -84,6 +84,29 @@ fn front_of(alloc: Global, bytes: &[u8], most: u64) -> Result<Vec<u8>, FilesErr>
     }
 }
 
+/// The name for each of two lists, which have room for it then and keep what they hold.
+fn names_for(
+    alloc: Global,
+    name: &str,
+    read: &mut Vec<String>,
+    failed: &mut Vec<String>,
+) -> Option<(String, String)>
+    ensures names { IfSome result (λ names. (string_bytes names.0 ≡ name.now) × (string_bytes names.1 ≡ name.now)) }
+    ensures room { IfSome result (λ names. (vec_len read.new < vec_capacity read.new) × (vec_len failed.new < vec_capacity failed.new)) }
+    ensures read { read.new.items ≡ read.old.items }
+    ensures failed { failed.new.items ≡ failed.old.items }
+{
+    match (
+        String::from_str(alloc, name),
+        String::from_str(alloc, name),
+        read.reserve(1),
+        failed.reserve(1),
+    ) {
+        (Ok(first), Ok(second), Ok(()), Ok(())) => Some((first, second)),
+        _ => None,
+    }
+}
+
 /// Appends a name to a list that has room for it.
 fn append(names: &mut Vec<String>, name: String)
     requires { vec_len names.old < vec_capacity names.old }
@@ -123,15 +146,9 @@ impl Files for MemFiles {
         ensures exact { ReadsCounted self.old self.new name.now result }
     {
         let fails = self.calls.next();
-        let Ok(read) = String::from_str(alloc, name) else {
+        let Some((read, failed)) = names_for(alloc, name, &mut self.read, &mut self.failed) else {
             return Err(self.refuse_memory());
         };
-        let Ok(failed) = String::from_str(alloc, name) else {
-            return Err(self.refuse_memory());
-        };
-        if self.read.reserve(1).is_err() || self.failed.reserve(1).is_err() {
-            return Err(self.refuse_memory());
-        }
         match find_content(self.files.as_slice(), name) {
             Some(bytes) if !fails => match front_of(alloc, bytes, most) {
                 Ok(front) => {
