@@ -4,3 +4,4 @@ pub mod Bounds
 pub mod OneWord
 pub mod Packed
 pub mod Reading
+pub mod Destinations

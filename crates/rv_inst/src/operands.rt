@@ -39,12 +39,10 @@ pub fn sources(i: Instr) -> (u8, u8)
     }
 }
 
-/// The number of the destination register, 0 where there is none. An environment call answers in x10. It is below 32
-/// where the fields are in range.
+/// The number of the destination register, 0 where there is none.
 #[inline(always)]
-pub fn dest(i: Instr) -> u8
-    ensures exact { result ≡ dest_of i }
-    ensures register { Fits i → IsRegister result }
+fn destination(i: Instr) -> u8
+    ensures { result ≡ dest_of i }
 {
     match i {
         Instr::Lui { rd, .. }
@@ -58,4 +56,15 @@ pub fn dest(i: Instr) -> u8
         Instr::Ecall => 10,
         _ => 0,
     }
+}
+
+/// The number of the destination register, 0 where there is none. An environment call answers in x10. It is below 32
+/// where the fields are in range.
+#[inline(always)]
+#[tactic(auto, using(crate::proofs::Destinations::dest_fits))]
+pub fn dest(i: Instr) -> u8
+    ensures exact { result ≡ dest_of i }
+    ensures register { Fits i → IsRegister result }
+{
+    destination(i)
 }
