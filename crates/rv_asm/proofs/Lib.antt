@@ -5,6 +5,7 @@ pub mod Statements
 pub mod Found
 pub mod Spelt
 pub mod Names
+pub mod Chars
 pub mod Filled
 pub mod Passing
 pub mod Sized

@@ -1,6 +1,7 @@
 -- How a string is written: between `"`, with escapes (GNU as, "Strings").
 use Rattle.std.specs.Prelude.{ℕ, ◌==◌, Bool, true, false, Option, Some, None, List, [], ◌∷◌, length, drop, codes, nat_eq, if◌then◌else◌}
 use Rattle.std.specs.List.{starts_with}
+use Rattle.std.specs.Str.{bytes_eq}
 
 -- the byte that `\` and this byte stand for: `\n`, `\t`, `\\`, `\"` and `\0`
 abbrev pub escapes : ℕ → Option ℕ
@@ -25,6 +26,10 @@ string_from false (byte ∷ rest) =
     if byte == 92 then string_from true rest
     else if byte == 34 then if length rest == 0 then Some [] else None
     else onto (Some byte) (string_from false rest)
+
+-- the bytes of a string of which none is left before its last `"`, at the end of the text
+abbrev pub ended : List ℕ → Option (List ℕ)
+ended text = if bytes_eq text (codes "\"") then Some [] else None
 
 -- the bytes of the string that a text is
 unfoldable pub string_of : List ℕ → Option (List ℕ)

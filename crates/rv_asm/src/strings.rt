@@ -1,9 +1,9 @@
 //! How a string is written.
 #![tactic(auto, unfolding(crate::specs::Strings::string_of))]
 
-ghost use Rattle.std.specs.Prelude.{◌≡◌, ◌≤◌, false, [], Some, None, ◌++◌, IfSome, IsSome, IfOk, OnOk, length, unwrap_or, if◌then◌else◌};
+ghost use Rattle.std.specs.Prelude.{◌≡◌, ◌≤◌, ◌<◌, true, false, [], Some, None, ◌++◌, IfSome, IsSome, IfOk, OnOk, MatchOption, length, unwrap_or, if◌then◌else◌};
 ghost use Rattle.std.specs.Option.{option_map};
-ghost use Rattle.rv_asm.specs.Strings.{escapes, string_from, string_of};
+ghost use Rattle.rv_asm.specs.Strings.{escapes, onto, ended, string_from, string_of};
 
 use std::alloc::AllocError;
 
@@ -21,32 +21,50 @@ fn escape(byte: u8) -> Option<u8>
     }
 }
 
-/// How many bytes stand in the string that is open at the front of a text and closed at its end.
+/// The byte that the front of a text stands for behind a `\` in a string, and the text behind it.
 #[tactic(auto)]
+fn cut_escaped(text: &[u8]) -> Option<(u8, &[u8])>
+    ensures cut { MatchOption result (string_from true text.now ≡ None)
+        (λ cut. string_from true text.now ≡ onto (Some cut.0) (string_from false cut.1.now)) }
+    ensures shorter { IfSome result (λ cut. length cut.1.now < length text.now) }
+{
+    match text {
+        [byte, behind @ ..] => Some((escape(*byte)?, behind)),
+        [] => None,
+    }
+}
+
+/// The byte of an open string that the front of a text stands for, and the text behind it; or `None` where no byte of the
+/// string stands there.
+#[tactic(auto, using(crate::proofs::Chars::quote_alone))]
+fn cut_char(text: &[u8]) -> Option<(u8, &[u8])>
+    ensures cut { MatchOption result (string_from false text.now ≡ ended text.now)
+        (λ cut. string_from false text.now ≡ onto (Some cut.0) (string_from false cut.1.now)) }
+    ensures shorter { IfSome result (λ cut. length cut.1.now < length text.now) }
+{
+    match text {
+        [byte, behind @ ..] => match *byte {
+            b'"' => None,
+            b'\\' => cut_escaped(behind),
+            plain => Some((plain, behind)),
+        },
+        [] => None,
+    }
+}
+
+/// How many bytes stand in the string that is open at the front of a text and closed at its end.
+#[tactic(auto, using(crate::proofs::Chars::counts))]
 fn open_string_len(text: &[u8]) -> Option<usize>
     ensures length { result ≡ option_map (λ bytes. length bytes) (string_from false text.now) }
     ensures within { IfSome result (λ count. count ≤ length text.now) }
 {
     let mut count = 0;
-    let mut escaped = false;
-    for (index, byte) in text.iter().enumerate() {
-        if escaped {
-            escape(*byte)?;
-            count += 1;
-            escaped = false;
-        } else if *byte == b'\\' {
-            escaped = true;
-        } else if *byte == b'"' {
-            return if index + 1 == text.len() {
-                Some(count)
-            } else {
-                None
-            };
-        } else {
-            count += 1;
-        }
+    let mut rest = text;
+    while let Some((_, behind)) = cut_char(rest) {
+        count += 1;
+        rest = behind;
     }
-    None
+    (rest == b"\"".as_slice()).then_some(count)
 }
 
 /// How many bytes the string has that a text is, or `None` where it is no string.
@@ -59,28 +77,17 @@ pub fn string_len(text: &[u8]) -> Option<usize>
 
 /// Puts the bytes of the string that is open at the front of a text behind the others, and says
 /// whether the string is closed at the text's end and has no other escapes.
-#[tactic(auto)]
+#[tactic(auto, using(crate::proofs::Chars::chars))]
 fn push_open_string(bytes: &mut Vec<u8>, text: &[u8]) -> Result<bool, AllocError>
     ensures { IfOk result (λ whole. option_map (λ string. bytes.old.items ++ string) (string_from false text.now)
         ≡ (if whole then Some bytes.new.items else None)) }
 {
-    let mut escaped = false;
-    for (index, byte) in text.iter().enumerate() {
-        if escaped {
-            match escape(*byte) {
-                Some(meant) => bytes.push(meant)?,
-                None => return Ok(false),
-            }
-            escaped = false;
-        } else if *byte == b'\\' {
-            escaped = true;
-        } else if *byte == b'"' {
-            return Ok(index + 1 == text.len());
-        } else {
-            bytes.push(*byte)?;
-        }
+    let mut rest = text;
+    while let Some((byte, behind)) = cut_char(rest) {
+        bytes.push(byte)?;
+        rest = behind;
     }
-    Ok(false)
+    Ok(rest == b"\"".as_slice())
 }
 
 /// Puts the bytes of the string that a text is behind the others.

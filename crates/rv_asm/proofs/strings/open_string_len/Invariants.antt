@@ -1,11 +1,14 @@
-use Rattle.std.proofs.Common.{◌≡◌, ◌≤◌, ◌+◌, drop, length}
+use Rattle.std.proofs.Common.{◌≡◌, ◌≤◌, ◌+◌, length}
 use Rattle.std.specs.Prelude.{option_map, false}
 use Rattle.rv_asm.specs.Strings.{string_from}
 use Rattle.rv_asm.proofs.strings.open_string_len.Given as goal
 
-abbrev pub invariant-loop-index : goal.invariant-loop-index
-invariant-loop-index l = record {
-  within : l.count ≤ l.index;
-  same : option_map (λ bytes. l.count + length bytes) (string_from l.escaped (drop l.index l.text))
+abbrev pub invariant-loop-behind : goal.invariant-loop-behind
+invariant-loop-behind l = record {
+  within : l.count + length l.rest ≤ length l.text;
+  same : option_map (λ bytes. l.count + length bytes) (string_from false l.rest)
       ≡ option_map (λ bytes. length bytes) (string_from false l.text);
 }
+
+abbrev pub decreases-loop-behind : goal.decreases-loop-behind
+decreases-loop-behind l = length l.rest
