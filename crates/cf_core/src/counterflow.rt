@@ -30,8 +30,8 @@ use std::alloc::{AllocError, Global};
 use std::marker::Model;
 
 /// A counterflow pipeline processor (Sproull, Sutherland and Molnar, "Counterflow Pipeline Processor Architecture", 1994),
-/// seen as its layout and its state. It changes by `make` and `step` alone, one local move at a time; no call but `new`
-/// takes memory.
+/// seen as its layout and its state. It changes by `make`, `step` and `back` alone: one local move is made, or taken back.
+/// No call but `new` takes memory.
 ///
 /// Of every processor it holds that each instruction in the pipes is one of its instruction set, that one without an
 /// instruction has ended the program, that each operation in a siding is of a class of the siding, and that memory permits
