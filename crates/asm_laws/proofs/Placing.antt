@@ -1,4 +1,4 @@
--- The pieces of placed items stand one behind the other in their sections.
+-- The pieces of placed items stand one after the other in their sections.
 use Rattle.std.proofs.Common.{◌≡◌, ℕ, ◌+◌, ◌≤◌, Bool, true, false, List, [], ◌∷◌, ◌++◌, length, take, drop, refl, sym, ◌∙◌, ap, subst, cond, arith, append_assoc, append-nil, length-append}
 use Rattle.std.proofs.Math.Seq.{drop-append_seam, take-append_seam}
 use Rattle.std.specs.Prelude.{Ok}
@@ -23,7 +23,7 @@ abbrev pub data_pieces : List Placed → List Piece
 data_pieces [] = []
 data_pieces (p ∷ ps) = cond p.place.in_text [] p.pieces ++ data_pieces ps
 
--- bytes that spell two lists of pieces are those of one and of the other
+-- bytes that spell two lists of pieces are those of the first, and after them those of the second
 record SpellsBoth (ps qs : List Piece) (bytes : List ℕ) : Type 0 where
   front : List ℕ
   back : List ℕ
@@ -43,7 +43,7 @@ split (p ∷ ps) qs bytes h =
       others = rest.others;
     }
 
--- pieces in the middle are spelt behind those in front
+-- pieces in the middle are spelt after those in front
 pub middle : (front ps behind : List Piece) (bytes : List ℕ) (at : ℕ) → Spells (front ++ (ps ++ behind)) bytes → pieces_size front ≡ at
     → Spells ps (take (pieces_size ps) (drop at bytes))
 middle front ps behind bytes at h e =

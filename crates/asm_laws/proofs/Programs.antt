@@ -24,7 +24,7 @@ use Rattle.asm_laws.specs.Programs.{Placed, Stands, AllStand, label_of, labels_o
 use Rattle.asm_laws.proofs.Values.{SameValues, same-values, then-same, marked-same, pieces-same}
 use Rattle.asm_laws.proofs.Placing.{text_pieces, data_pieces, AreAbove, all-there}
 
--- the items of lines, behind sections that hold some already
+-- the items of lines, added to sections that already hold some
 record ItemsOf (s t : Sections) (lines : List (List ℕ)) : Type 0 where
   items : List Placed
   stand : AllStand t.labels s.place lines items t.place
@@ -68,7 +68,7 @@ items-of above s t (line ∷ lines) e =
       labels = labels;
     }
 
--- the label of a line is put behind the others
+-- the label of a line is put after the others
 labelled-by : (twice : Bool) (more next : List Named) (answer : Result (List Named) AsmKind)
     → answer ≡ cond twice (Err LabelTwice) (Ok more) → answer ≡ Ok next → next ≡ more
 labelled-by true more next answer e h = absurd (cc)

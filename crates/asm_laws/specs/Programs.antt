@@ -22,7 +22,7 @@ pub record Stands (labels : List Named) (here : Place) (line : List ℕ) (placed
   pub item : item_at here (statement_in (said line)) ≡ Ok placed.item
   pub pieces : pieces_of labels (address_of here) placed.item ≡ Ok placed.pieces
 
--- each line stands for its item, the next behind the one before; the last item ends at this place
+-- each line stands for its item, which is placed after the item before it; the last item ends at this place
 abbrev pub AllStand : List Named → Place → List (List ℕ) → List Placed → Place → Type 0
 AllStand labels place [] [] end = place ≡ end
 AllStand labels place [] (p ∷ ps) end = ⊥

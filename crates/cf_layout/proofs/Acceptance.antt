@@ -31,7 +31,7 @@ needed_by parts all Free n = cc
 needed_by parts all Mul n = cc
 needed_by parts all Div n = cc
 
--- a number that is tested not to be above is not
+-- a number that the test does not find above another is not above it
 not_above : (a b : ℕ) → nat_lt a b ≡ false → b ≤ a
 not_above a b e = grind (arith, nat_tests)
 
@@ -46,7 +46,7 @@ pair_asked true false p q = cc
 pair_asked false true p q = cc
 pair_asked false false p q = refl
 
--- nothing is above
+-- no stage is above
 none_above : (c : Class) (launch : ℕ) (o : Option ℕ) → above c launch o ≡ None → o ≡ None
 none_above c launch None e = refl
 none_above c launch (Some stage) e = cc

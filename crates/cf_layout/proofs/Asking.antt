@@ -25,7 +25,7 @@ use Rattle.cf_layout.proofs.Control.{launch_given}
 use Rattle.cf_layout.proofs.Unrefused.{not_refused}
 use Rattle.cf_layout.proofs.Ordered.{Rises, rises_from, not_among, few_stages, ascending_same, in_order_same, has_place, places_same}
 
--- the entry of a class: none where it has no stage
+-- the entry of a class: no entry where it has no stage
 abbrev pub unit_for : Class → List ℕ → List (Class × List ℤ)
 unit_for c [] = []
 unit_for c (i ∷ is) = (c, map (λ n. pos n) (i ∷ is)) ∷ []
@@ -66,7 +66,7 @@ listed_among : (stages : Class → List ℕ) (c : Class) (cs : List Class) → s
 listed_among stages c [] = refl
 listed_among stages c (d ∷ ds) = listed_by c d (same_class c d) (names ds c) (stages c) (stages d) (units_for stages ds) refl (λ same. ap stages (same_true c d same)) (listed_among stages c ds)
 
--- a computed class is one of them
+-- a computed class is one of the computed classes
 one_of_them : (c : Class) → IsComputed c → names computed_classes c ≡ true
 one_of_them Add small = refl
 one_of_them Logic small = refl
@@ -80,7 +80,7 @@ one_of_them Div small = refl
 one_of_them Serial small = absurd (omega arith)
 one_of_them Free small = absurd (omega arith)
 
--- what is listed for a computed class are its stages
+-- the stages that are listed for a computed class are its stages
 asked_stages : (plan : Plan) (c : Class) → IsComputed c → listed (units_for (stages_of plan) computed_classes) c ≡ map (λ n. pos n) (stages_of plan c)
 unfolding listed
 asked_stages plan c small = listed_among (stages_of plan) c computed_classes ∙ ap (λ (b : Bool). cond b (map (λ n. pos n) (stages_of plan c)) []) (one_of_them c small)
@@ -109,7 +109,7 @@ class_stages_few plan a c =
     let few = a.stages.1 in
     few_stages (stages_of plan c) w.0 (λ k d within. (w.1 k d within).0) (λ k d within. let i = (w.1 k d within).1 in omega arith)
 
--- nine lists at their places are the nine
+-- nine lists, each taken at its place, are the nine
 nine_places : (units : List (List ℕ)) → length units ≡ 9 → map (λ c. unwrap_or (slice_get units (place_of c)) []) computed_classes ≡ units
 nine_places (a ∷ b ∷ c ∷ d ∷ e ∷ f ∷ g ∷ h ∷ i ∷ []) nine = refl
 nine_places [] nine = absurd (omega arith)
@@ -123,7 +123,7 @@ nine_places (a ∷ b ∷ c ∷ d ∷ e ∷ f ∷ g ∷ []) nine = absurd (omega 
 nine_places (a ∷ b ∷ c ∷ d ∷ e ∷ f ∷ g ∷ h ∷ []) nine = absurd (omega arith)
 nine_places (a ∷ b ∷ c ∷ d ∷ e ∷ f ∷ g ∷ h ∷ i ∷ j ∷ rest) nine = absurd (omega arith)
 
--- what is the same at each computed class
+-- what is the same at each computed class gives the same list
 same_at : (f g : Class → List ℕ) → ((c : Class) → IsComputed c → f c ≡ g c) → map f computed_classes ≡ map g computed_classes
 same_at f g same = rw (same Add (omega arith), same Logic (omega arith), same Shift (omega arith), same Compare (omega arith), same Branch (omega arith), same Jump (omega arith), same Memory (omega arith), same Mul (omega arith), same Div (omega arith)) refl
 
@@ -145,7 +145,7 @@ pub plan_back : (plan : Plan) → IsAccepted plan → plan_of (asking plan) ≡ 
 unfolding plan_of
 plan_back plan a = rw (units_back plan a, sidings_back plan plan.sidings a.sidings) refl
 
--- how often a class stands in the entries, with one more
+-- how often a class is in the entries, with one more entry
 none_more : (b : Bool) (t : ℕ) → t ≡ cond b 0 0 + t
 none_more true t = omega arith
 none_more false t = omega arith
@@ -170,7 +170,7 @@ units_times stages c (d ∷ ds) n e one =
     entry_times c d (stages d) (units_for stages ds)
     ∙ times_step (same_class c d) (unit_homes (stages c)) (unit_homes (stages d)) (times ds c) (times (map (λ unit. unit.0) (units_for stages ds)) c) n (λ same. ap (λ k. unit_homes (stages k)) (same_true c d same)) t one (units_times stages c ds (times ds c) refl (omega arith))
 
--- a class stands once among the computed ones, or not at all
+-- a class is once among the computed ones, or not at all
 computed_times : (c : Class) → times computed_classes c ≡ cond (nat_lt (place_of c) 9) 1 0
 unfolding times
 computed_times Add = refl
@@ -185,7 +185,7 @@ computed_times Div = refl
 computed_times Serial = refl
 computed_times Free = refl
 
--- how often a class stands in a list of classes that ascends
+-- how often a class is in a list of classes that ascends
 rise_step : (same rest : Bool) (t : ℕ) → (same ≡ true → rest ≡ false) → t ≡ cond rest 1 0 → cond same 1 0 + t ≡ cond (same || rest) 1 0
 rise_step true rest t alone e = let none = alone refl in let z = rw none at e in omega arith
 rise_step false rest t alone e = omega arith
@@ -201,7 +201,7 @@ class_times : (plan : Plan) (siding : SidingPlan) (c : Class) → accepted.IsSid
 unfolding serves
 class_times plan siding c s = rise_times 0 siding.classes c (rises_from 0 (map place_of siding.classes) s.ordered (λ k d within. omega arith))
 
--- how often it stands in the sidings
+-- how often it is in the sidings
 kept_more : (served : Bool) (siding : SidingPlan) (kept : List SidingPlan) (t r : ℕ) → t ≡ cond served 1 0 → r ≡ length kept → t + r ≡ length (cond served (siding ∷ kept) kept)
 kept_more true siding kept t r e f = omega arith
 kept_more false siding kept t r e f = omega arith
@@ -212,7 +212,7 @@ sided_times plan (s ∷ ss) c all =
     times_append s.classes (sided_classes (map asking_siding ss)) c
     ∙ kept_more (serves s c) s (filter (λ siding. serves siding c) ss) (times s.classes c) (times (sided_classes (map asking_siding ss)) c) (class_times plan s c (all 0 s (omega arith))) (sided_times plan ss c (All-tail (accepted.IsSiding plan) s ss all))
 
--- so it stands in all parts as often as it has homes, where it is computed
+-- so it is in all parts as often as it has homes, where it is computed
 both_times : (plan : Plan) → IsAccepted plan → (c : Class) (n : ℕ) → times computed_classes c ≡ n → n ≤ 1 → times (asked_classes (asking plan)) c ≡ cond (nat_lt 0 n) (unit_homes (stages_of plan c)) 0 + length (filter (λ siding. serves siding c) plan.sidings)
 both_times plan a c n e one =
     times_append (map (λ unit. unit.0) (asking plan).units) (sided_classes (asking plan).sidings) c
@@ -232,7 +232,7 @@ one_at_most : (b : Bool) → cond b 1 0 ≤ 1
 one_at_most true = omega arith
 one_at_most false = omega arith
 
--- and no class stands twice
+-- and no class is listed twice
 asked_once : (plan : Plan) → IsAccepted plan → (c : Class) → times (asked_classes (asking plan)) c ≤ 1
 unfolding homes
 asked_once plan a c =
@@ -246,7 +246,7 @@ is_asked_homed plan a c small = is_asked_times (asking plan) c ∙ ap (λ (n : �
 needed_asked : (plan : Plan) → IsAccepted plan → (c : Class) → is_needed c ≡ true → is_asked (asking plan) c ≡ true
 needed_asked plan a c n = is_asked_homed plan a c (needed_computed c n) ∙ ap (λ (h : ℕ). nat_lt 0 h) (a.needed c n)
 
--- a number within bounds is tested to be
+-- a number within bounds passes the test of them
 within_test : (least most n : ℕ) → least ≤ n → n ≤ most → is_within least most (pos n) ≡ true
 within_test least most n low high = grind (arith, nat_tests)
 
@@ -340,7 +340,7 @@ control_right plan a c turns =
     rw (← launch_back plan a, stages_back plan a c (needed_computed c (control_needed c turns)), asked_siding plan.sidings c)
     (turns_right (stages_of plan c) (find (λ s. serves s c) plan.sidings) (memory_launch plan) (units_low plan a c turns) (λ s e. found_holds (λ t. t.recover ≤ memory_launch plan) (λ t. serves t c) plan.sidings s (a.control_sidings c turns) e))
 
--- all that asks for an accepted layout is acceptable
+-- what asks for an accepted layout is acceptable
 pub asking_acceptable : (plan : Plan) → IsAccepted plan → IsAcceptable (asking plan)
 asking_acceptable plan a = record {
   stages = within_test 2 32 plan.stages a.stages.0 a.stages.1;

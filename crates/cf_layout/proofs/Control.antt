@@ -26,12 +26,12 @@ found_step : (here there : Bool) (siding : asked.Siding) (rest : Option asked.Si
 found_step here true siding rest found e later = rw e refl
 found_step here false siding rest found e later = rw e later
 
--- the siding that serves a class is found where the one is that names it
+-- the siding that serves a class is found where the siding that names it is
 found_plan : (sidings : List asked.Siding) (c : Class) → IsComputed c → find (λ s. serves s c) (map siding_plan sidings) ≡ option_map siding_plan (find (λ s. names s.classes c) sidings)
 found_plan [] c small = refl
 found_plan (siding ∷ sidings) c small = found_step (serves (siding_plan siding) c) (names siding.classes c) siding (find (λ s. names s.classes c) sidings) (find (λ s. serves s c) (map siding_plan sidings)) (serves_named siding c small) (found_plan sidings c small)
 
--- behind its end a list has nothing
+-- past its end a list has nothing
 behind_end : (sidings : List SidingPlan) (k : ℕ) → length sidings ≤ k → slice_get sidings k ≡ None
 behind_end [] k behind = refl
 behind_end (siding ∷ sidings) zero behind = absurd (omega arith)
@@ -56,7 +56,7 @@ some_found : {X : Type 0} (test : X → Bool) (xs : List X) → list_any test xs
 some_found test [] e = cc
 some_found test (x ∷ xs) e = some_found_step (test x) (list_any test xs) x (find test xs) e (λ later. some_found test xs later)
 
--- where none passes nothing is
+-- where no element passes nothing is found
 none_found_step : {X : Type 0} (here rest : Bool) (x : X) (found : Option X) → (here || rest) ≡ false → (rest ≡ false → found ≡ None) → cond here (Some x) found ≡ None
 none_found_step true rest x found e later = cc
 none_found_step false rest x found e later = later e
@@ -69,7 +69,7 @@ none_found test (x ∷ xs) e = none_found_step (test x) (list_any test xs) x (fi
 serving : (sidings : List asked.Siding) (siding : asked.Siding) (c : Class) → IsComputed c → find (λ s. names s.classes c) sidings ≡ Some siding → find (λ s. serves s c) (map siding_plan sidings) ≡ Some (siding_plan siding)
 serving sidings siding c small e = found_plan sidings c small ∙ ap (λ (o : Option asked.Siding). option_map siding_plan o) e
 
--- the stage from which the siding launches that is asked for
+-- the stage from which the siding that is asked for launches
 launch_of : (o : Option asked.Siding) (siding : asked.Siding) → o ≡ Some siding → launch_in o ≡ (siding_plan siding).launch
 unfolding siding_plan
 launch_of o siding e = rw e refl
@@ -99,7 +99,7 @@ unfolding siding_plan
 recover_low None siding stages launch e all = cc
 recover_low (Some s) siding stages launch e all = let same = same_Some _ _ e in rw same (all 0 0 (omega arith))
 
--- control turns low at each siding that serves it
+-- control turns low at each siding that serves the class
 sidings_low : (sidings : List asked.Siding) (c : Class) (stages : List ℕ) (launch : ℕ) → IsComputed c → times (sided_classes sidings) c ≤ 1 → All (λ stage. stage ≤ launch) (turns_in stages (siding_for sidings c)) → All (λ siding. serves siding c ≡ true → siding.recover ≤ launch) (map siding_plan sidings)
 unfolding siding_for
 sidings_low sidings c stages launch small once all =
@@ -130,7 +130,7 @@ units_low parts c launch i true e once all at =
     any_all launch i (ascending (listed parts.units c)) low at
 units_low parts c launch i false e once all at = let n = listed_none parts.units c e in let f = rw (n, ascending_none) at at in cc
 
--- a class of which some or none stand in units, and which is asked for
+-- a class that is in no unit but is asked for is in a siding
 sided_where : (u t : ℕ) → nat_lt 0 u ≡ false → nat_lt 0 (u + t) ≡ true → nat_lt 0 t ≡ true
 sided_where u t e f = grind (arith, nat_tests)
 

@@ -1,4 +1,4 @@
--- How often a class stands in a list.
+-- How often a class is in a list.
 use Rattle.std.proofs.Common.{◌≡◌, ℕ, ℤ, ◌+◌, List, [], ◌∷◌, ◌++◌, Bool, true, false, cond, get_or, length, map, length-append, sym, refl, ap, arith, ◌∙◌}
 use Rattle.std.specs.Prelude.{filter, nat_lt, ◌||◌}
 use Rattle.std.specs.List.{list_any}
@@ -31,11 +31,11 @@ class_back Free = refl
 class_back Mul = refl
 class_back Div = refl
 
--- two classes with one place are one class
+-- two classes with the same place are the same class
 pub same_place : (c d : Class) → place_of c ≡ place_of d → c ≡ d
 same_place c d e = sym (class_back c) ∙ ap class_at e ∙ class_back d
 
--- two that are tested to be one class are
+-- two classes that the test finds the same are the same
 pub same_true : (c d : Class) → same_class c d ≡ true → c ≡ d
 same_true c d e = same_place c d (grind (arith, nat_tests))
 
@@ -43,17 +43,17 @@ same_true c d e = same_place c d (grind (arith, nat_tests))
 pub same_self : (c : Class) → same_class c c ≡ true
 same_self c = grind (arith, nat_tests)
 
--- one element more, where it is kept
+-- one more element, where it is kept
 any_here : {X : Type 0} (passes : Bool) (x : X) (kept : List X) (rest : Bool) → rest ≡ nat_lt 0 (length kept) → (passes || rest) ≡ nat_lt 0 (length (cond passes (x ∷ kept) kept))
 any_here true x kept rest e = grind (arith, nat_tests)
 any_here false x kept rest e = e
 
--- one more than none is some
+-- with one more counted, there are some where it passes or there were some already
 more_than_none : (b : Bool) (n : ℕ) → (b || nat_lt 0 n) ≡ nat_lt 0 (cond b 1 0 + n)
 more_than_none true n = grind (arith, nat_tests)
 more_than_none false n = grind (arith, nat_tests)
 
--- of two numbers some are there where either has some
+-- a sum is above 0 where either number is
 either : (m n : ℕ) → (nat_lt 0 m || nat_lt 0 n) ≡ nat_lt 0 (m + n)
 either m n = grind (arith, nat_tests)
 
@@ -62,42 +62,42 @@ pub any_kept : {X : Type 0} (test : X → Bool) (xs : List X) → list_any test 
 any_kept test [] = refl
 any_kept test (x ∷ xs) = any_here (test x) x (filter test xs) (list_any test xs) (any_kept test xs)
 
--- a list names a class where the class stands in it
+-- a list names a class where the class is in it
 pub names_times : (classes : List Class) (c : Class) → names classes c ≡ nat_lt 0 (times classes c)
 unfolding times
 names_times classes c = any_kept (same_class c) classes
 
--- in two lists it stands as often as in both together
+-- in two lists joined it is as often as in both together
 pub times_append : (xs ys : List Class) (c : Class) → times (xs ++ ys) c ≡ times xs c + times ys c
 unfolding times
 times_append xs ys c = rw (filter-append, length-append) refl
 
--- how many are kept with one element more
+-- how many are kept with one more element
 pub kept_cons : {X : Type 0} (passes : Bool) (x : X) (kept : List X) → length (cond passes (x ∷ kept) kept) ≡ cond passes 1 0 + length kept
 kept_cons true x kept = omega arith
 kept_cons false x kept = omega arith
 
--- a class more
+-- one more class
 pub times_cons : (x : Class) (xs : List Class) (c : Class) → times (x ∷ xs) c ≡ cond (same_class c x) 1 0 + times xs c
 unfolding times
 times_cons x xs c = kept_cons (same_class c x) x (filter (same_class c) xs)
 
--- no class stands in an empty list
+-- no class is in an empty list
 pub times_nil : (c : Class) → times [] c ≡ 0
 unfolding times
 times_nil c = refl
 
--- a class stands in a unit where it stands among the classes of the units
+-- a class is in a unit where it is among the classes of the units
 pub is_unit_times : (units : List (Class × List ℤ)) (c : Class) → is_unit units c ≡ nat_lt 0 (times (map (λ unit. unit.0) units) c)
 is_unit_times [] c = rw (times_nil c) refl
 is_unit_times (unit ∷ units) c = rw (times_cons, is_unit_times units c) (more_than_none (same_class c unit.0) (times (map (λ u. u.0) units) c))
 
--- a class stands in a siding where it stands among the classes of the sidings
+-- a class is in a siding where it is among the classes of the sidings
 pub is_sided_times : (sidings : List Siding) (c : Class) → is_sided sidings c ≡ nat_lt 0 (times (sided_classes sidings) c)
 is_sided_times [] c = rw (times_nil c) refl
 is_sided_times (siding ∷ sidings) c = rw (times_append siding.classes (sided_classes sidings) c, is_sided_times sidings c, names_times siding.classes c) (either (times siding.classes c) (times (sided_classes sidings) c))
 
--- a class is asked for where it stands among all classes
+-- a class is asked for where it is among all classes
 pub is_asked_times : (parts : Parts) (c : Class) → is_asked parts c ≡ nat_lt 0 (times (asked_classes parts) c)
 unfolding is_asked
 is_asked_times parts c = rw (times_append (map (λ u. u.0) parts.units) (sided_classes parts.sidings) c, is_unit_times parts.units c, is_sided_times parts.sidings c) (either (times (map (λ u. u.0) parts.units) c) (times (sided_classes parts.sidings) c))

@@ -23,7 +23,7 @@ use Rattle.cf_layout.specs.Accepted as accepted
 use Rattle.cf_layout.specs.Asked.{natural, is_within, is_number, names, stage_numbers, ascending, in_class_order, siding_plan, units_plan, is_unit, is_asked, listed, stages_in, plan_of}
 use Rattle.cf_layout.specs.Acceptable.{IsComputed, asked_classes, sided_classes, times, IsUnit, IsSiding}
 
--- numbers one after the other ascend
+-- consecutive numbers ascend
 range_rises : (n a : ℕ) → IsStrictlyIncreasing (range_with_len a n)
 range_rises n a = λ k below.
     let l : length (range_with_len a n) ≡ n = length-range_with_len a n in
@@ -39,7 +39,7 @@ pub ascending_rises : (stages : List ℤ) → IsStrictlyIncreasing (ascending st
 unfolding ascending
 ascending_rises stages = IsStrictlyIncreasing-filter (λ i. list_any (is_number i) stages) stage_numbers stage_numbers_rise
 
--- the places of the classes that are kept, by whether the first is
+-- the places of the classes that are kept, by whether the first is kept
 places_step : (kept : Bool) (c : Class) (cs : List Class) (rest : List ℕ) → map place_of cs ≡ rest → map place_of (cond kept (c ∷ cs) cs) ≡ cond kept (place_of c ∷ rest) rest
 places_step true c cs rest e = rw e refl
 places_step false c cs rest e = e
@@ -53,7 +53,7 @@ places_kept q (c ∷ cs) = places_step (q (place_of c)) c (filter (λ d. q (plac
 placed : List Class → ℕ → Bool
 placed classes n = list_any (λ d. nat_eq n (place_of d)) classes
 
--- classes that are kept of such as ascend ascend
+-- classes that are kept from some that ascend ascend
 kept_rise : (classes cs : List Class) → IsStrictlyIncreasing (map place_of cs) → IsStrictlyIncreasing (map place_of (filter (names classes) cs))
 unfolding placed
 kept_rise classes cs rise = rw (places_kept (placed classes) cs) (IsStrictlyIncreasing-filter (placed classes) (map place_of cs) rise)
@@ -107,7 +107,7 @@ in_order_names classes c small =
     any-filter_same (same_class c) (names classes) (names classes c) (λ d e. ap (names classes) (sym (same_true c d e))) computed_classes
     ∙ (ap (λ (b : Bool). names classes c && b) (is_computed c small) ∙ and-true (names classes c))
 
--- the classes of a list that is not empty are some in class order
+-- a list of classes that is not empty has some in class order
 in_order_some : (classes : List Class) → 0 < length classes → All IsComputed classes → 0 < length (in_class_order classes)
 unfolding in_class_order
 in_order_some [] some all = absurd (omega arith)
@@ -136,7 +136,7 @@ natural_order n (pos a) (pos b) e f o = omega (arith, ints)
 natural_order n (pos a) (negsuc b) e f o = cc
 natural_order n (negsuc a) z e f o = cc
 
--- a list with one element that names Memory is that of Memory alone
+-- a list with one element that names Memory is the list of Memory alone
 memory_only : (classes : List Class) → names classes Memory ≡ true → length classes ≡ 1 → classes ≡ Memory ∷ []
 memory_only [] named one = cc
 memory_only (c ∷ []) named one = let e = same_true Memory c (sym (or-false (same_class Memory c)) ∙ named) in rw (← e) refl
@@ -203,7 +203,7 @@ number_self : (n : ℕ) (z : ℤ) → is_within 1 n z ≡ true → is_number (na
 number_self n (pos m) e = grind (arith, nat_tests)
 number_self n (negsuc m) e = cc
 
--- where a stage is listed there is one
+-- where a stage is listed, the ascending stages have one
 ascending_some : (n : ℕ) (stages : List ℤ) → n ≤ 32 → 0 < length stages → All (λ z. is_within 1 n z ≡ true) stages → 0 < length (ascending stages)
 unfolding ascending
 ascending_some n [] few some all = absurd (omega arith)
@@ -251,22 +251,22 @@ one_home : (stages : List ℕ) → 0 < length stages → unit_homes stages ≡ 1
 one_home [] some = absurd (omega arith)
 one_home (i ∷ is) some = refl
 
--- the home that units are, by whether there are any
+-- the home that units give, by whether there are any
 unit_home_by : (n : ℕ) (units : List (Class × List ℤ)) (c : Class) (some : Bool) → n ≤ 32 → All (IsUnit n) units → is_unit units c ≡ some → unit_homes (ascending (listed units c)) ≡ cond some 1 0
 unit_home_by n units c true few all e = let l = listed_some n units c all e in one_home _ (ascending_some n (listed units c) few l.0 l.1)
 unit_home_by n units c false few all e = rw (listed_none units c e, ascending_none) refl
 
--- how many sidings of those that are described serve a class, with one more
+-- how many of the sidings that are described serve a class, with one more siding
 served_step : (t : ℕ) (named : Bool) (siding : SidingPlan) (kept : List SidingPlan) (rest : ℕ) → named ≡ nat_lt 0 t → t + rest ≤ 1 → length kept ≡ rest → length (cond named (siding ∷ kept) kept) ≡ t + rest
 served_step t true siding kept rest e once same = let some : 0 < t = lt_true 0 t (sym e) in omega arith
 served_step t false siding kept rest e once same = let none : t ≡ 0 = grind (arith, nat_tests) in omega arith
 
--- a siding that is described serves a class where it is asked for it
+-- a siding that is described serves a class where the siding that is asked for names it
 pub serves_named : (siding : asked.Siding) (c : Class) → IsComputed c → serves (siding_plan siding) c ≡ names siding.classes c
 unfolding serves siding_plan
 serves_named siding c small = in_order_names siding.classes c small
 
--- the sidings with one more
+-- the sidings with one more siding
 served_more : (c : Class) (siding : asked.Siding) (sidings : List asked.Siding) → serves (siding_plan siding) c ≡ nat_lt 0 (times siding.classes c) → times (siding.classes ++ sided_classes sidings) c ≡ times siding.classes c + times (sided_classes sidings) c → times siding.classes c + times (sided_classes sidings) c ≤ 1 → length (filter (λ s. serves s c) (map siding_plan sidings)) ≡ times (sided_classes sidings) c → length (filter (λ s. serves s c) (map siding_plan (siding ∷ sidings))) ≡ times (siding.classes ++ sided_classes sidings) c
 served_more c siding sidings named e once same = rw e (served_step (times siding.classes c) (serves (siding_plan siding) c) (siding_plan siding) (filter (λ s. serves s c) (map siding_plan sidings)) (times (sided_classes sidings) c) named once same)
 
@@ -283,12 +283,12 @@ described_served : (parts : Parts) (c : Class) → IsComputed c → times (sided
 unfolding plan_of
 described_served parts c small once = served_times parts.sidings c small once
 
--- a number that is at most one is what its test says
+-- a number that is at most 1 is 1 where it is above 0, and else 0
 at_most_one : (n : ℕ) → n ≤ 1 → cond (nat_lt 0 n) 1 0 ≡ n
 at_most_one zero le = refl
 at_most_one (suc n) le = let e : suc n ≡ 1 = omega arith in rw e refl
 
--- in a layout that is described a class has as many homes as it is asked for
+-- in a layout that is described a class has as many homes as the number of times that it is asked for
 pub homes_times : (parts : Parts) (c : Class) → IsComputed c → natural parts.stages ≤ 32 → All (IsUnit (natural parts.stages)) parts.units → times (asked_classes parts) c ≤ 1 → homes (plan_of parts) c ≡ times (asked_classes parts) c
 unfolding homes
 homes_times parts c small few units once =
@@ -304,7 +304,7 @@ one_where_asked parts c small few units once e =
     let some : 0 < times (asked_classes parts) c = lt_true 0 _ (sym (is_asked_times parts c) ∙ e) in
     homes_times parts c small few units once ∙ omega arith
 
--- two classes of which both or neither are asked for have as many homes
+-- two classes, both or neither of which are asked for, have the same number of homes
 pub same_homes : (parts : Parts) (c d : Class) → IsComputed c → IsComputed d → natural parts.stages ≤ 32 → All (IsUnit (natural parts.stages)) parts.units → ((k : Class) → times (asked_classes parts) k ≤ 1) → is_asked parts c ≡ is_asked parts d → homes (plan_of parts) c ≡ homes (plan_of parts) d
 same_homes parts c d small small' few units once e =
     let t : nat_lt 0 (times (asked_classes parts) c) ≡ nat_lt 0 (times (asked_classes parts) d) = sym (is_asked_times parts c) ∙ (e ∙ is_asked_times parts d) in
@@ -357,12 +357,12 @@ pub units_rise : (units : List (Class × List ℤ)) → All IsStrictlyIncreasing
 unfolding units_plan
 units_rise units = All-map IsStrictlyIncreasing (λ c. ascending (listed units c)) computed_classes (λ k d within. ascending_rises (listed units (get_or computed_classes k d)))
 
--- what is listed for a class is of the pipeline
+-- what is listed for a class are stages of the pipeline
 listed_by : (n : ℕ) (units : List (Class × List ℤ)) (c : Class) (some : Bool) → All (IsUnit n) units → is_unit units c ≡ some → All (λ i. (1 ≤ i) × (i ≤ n)) (ascending (listed units c))
 listed_by n units c true all e = ascending_within n (listed units c) (listed_some n units c all e).1
 listed_by n units c false all e = rw (listed_none units c e, ascending_none) (All-nil (λ i. (1 ≤ i) × (i ≤ n)))
 
--- the stages of all units are of the pipeline
+-- the stages of all units are stages of the pipeline
 pub units_within : (n : ℕ) (units : List (Class × List ℤ)) → All (IsUnit n) units → All (All (λ i. (1 ≤ i) × (i ≤ n))) (units_plan units)
 unfolding units_plan
 units_within n units all = All-map (All (λ i. (1 ≤ i) × (i ≤ n))) (λ c. ascending (listed units c)) computed_classes (λ k d within. listed_by n units (get_or computed_classes k d) (is_unit units (get_or computed_classes k d)) all refl)

@@ -1,4 +1,4 @@
--- What follows of an accepted layout, in the form in which the rules of the moves need it.
+-- What follows where a layout is accepted, in the form in which the rules of the moves need it.
 use Rattle.std.proofs.Common.{◌≡◌, ◌⊎◌, inl, inr, ℕ, zero, suc, ◌<◌, ◌≤◌, List, [], ◌∷◌, All, Bool, true, false, Option, Some, None, length, get_or, refl, ap, subst, arith, ◌∙◌, sym}
 use Rattle.std.specs.Prelude.{◌||◌, filter, position, slice_get, nat_eq, is_some, unwrap_or}
 use Rattle.std.specs.List.{list_any}
@@ -29,7 +29,7 @@ siding_found plan c k e =
     let within : k < length plan.sidings = p.0 in
     (within, ap (λ (s : SidingPlan). serves s c) (read_at plan.sidings k within) ∙ p.1)
 
--- what holds of each siding holds of the one of a class
+-- what holds of each siding holds of a class's siding
 pub siding_rules : (plan : Plan) → IsAccepted plan → (c : Class) (k : ℕ) → siding_of plan c ≡ Some k → IsSiding plan (siding_at plan k)
 siding_rules plan a c k e =
     let f = siding_found plan c k e in
@@ -45,7 +45,7 @@ pub has_cells : (plan : Plan) → IsAccepted plan → (c : Class) (k : ℕ) → 
 unfolding cells_of
 has_cells plan a c k e = (siding_rules plan a c k e).cells
 
--- some stage is in a list that is not empty
+-- a list with some stage in it is one home
 some_stage : (i : ℕ) (stages : List ℕ) → list_any (nat_eq i) stages ≡ true → unit_homes stages ≡ 1
 some_stage i [] e = cc
 some_stage i (j ∷ js) e = refl
@@ -57,7 +57,7 @@ some_kept test sidings k e =
     let within : k < length sidings = p.0 in
     lt_true 0 _ (sym (any_kept test sidings) ∙ list_any_at test sidings k no_siding within p.1)
 
--- a class with one home at most and a unit has no siding
+-- a class with at most one home and with a unit has no siding
 no_siding_beside : (plan : Plan) (c : Class) (i : ℕ) (o : Option ℕ) → homes plan c ≤ 1 → unit_at plan c i ≡ true → siding_of plan c ≡ o → o ≡ None
 unfolding homes unit_at siding_of
 no_siding_beside plan c i None one at e = refl
@@ -66,7 +66,7 @@ no_siding_beside plan c i (Some k) one at e =
     let s = some_kept (λ siding. serves siding c) plan.sidings k e in
     absurd (omega arith)
 
--- a list of computed classes names no other
+-- a list of computed classes names no other class
 unnamed_step : (c d : Class) (same rest : Bool) → same_class c d ≡ same → 9 ≤ place_of c → place_of d < 9 → rest ≡ false → (same || rest) ≡ false
 unnamed_step c d true rest e high low r = absurd (grind (arith, nat_tests))
 unnamed_step c d false rest e high low r = r
@@ -81,7 +81,7 @@ unfolding serves
 unserved plan [] c high all = refl
 unserved plan (s ∷ ss) c high all = let off = unnamed s.classes c high (all 0 s (omega arith)).computed in rw off (unserved plan ss c high (All-tail (IsSiding plan) s ss all))
 
--- the stages at a place behind the lists
+-- at a place after the lists there are no stages
 behind_end : (units : List (List ℕ)) (place : ℕ) → length units ≤ place → unwrap_or (slice_get units place) [] ≡ []
 behind_end [] place behind = refl
 behind_end (stages ∷ units) zero behind = absurd (omega arith)
@@ -95,7 +95,7 @@ no_home plan a c high =
     let n = unserved plan plan.sidings c high a.sidings in
     rw (s, n) (omega arith)
 
--- each class has one home at most
+-- each class has at most one home
 pub one_home : (plan : Plan) → IsAccepted plan → (c : Class) → homes plan c ≤ 1
 one_home plan a Add = omega (arith, a.needed Add refl)
 one_home plan a Logic = omega (arith, a.needed Logic refl)
@@ -148,7 +148,7 @@ in_list : (P : ℕ → Type 0) (i : ℕ) (stages : List ℕ) → All P stages �
 in_list P i [] all e = cc
 in_list P i (j ∷ js) all e = in_list_step P i j (nat_eq i j) (list_any (nat_eq i) js) refl e (all 0 0 (omega arith)) (λ later. in_list P i js (All-tail P j js all) later)
 
--- each list of stages, and the one that stands for none, is of the pipeline's
+-- each list of stages, and the empty list in place of one that does not exist, has stages of the pipeline
 lists_within : (plan : Plan) (units : List (List ℕ)) (place : ℕ) → All (All (IsStage plan)) units → All (IsStage plan) (unwrap_or (slice_get units place) [])
 lists_within plan [] place all = All-nil (IsStage plan)
 lists_within plan (stages ∷ units) zero all = all 0 [] (omega arith)

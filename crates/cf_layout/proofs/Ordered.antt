@@ -21,7 +21,7 @@ abbrev AreBelow : ℕ → List ℕ → Type 0
 AreBelow bound [] = Unit {0}
 AreBelow bound (x ∷ xs) = (x < bound) × AreBelow bound xs
 
--- what is behind the first ascends
+-- what follows the first ascends
 rises_tail : (x : ℕ) (xs : List ℕ) → IsStrictlyIncreasing (x ∷ xs) → IsStrictlyIncreasing xs
 rises_tail x xs rise = λ k below. let e : suc k + 1 ≡ suc (k + 1) = omega arith in let more = rise (suc k) (omega arith) in rw e at more
 
@@ -29,7 +29,7 @@ rises_behind : (x : ℕ) (xs : List ℕ) → IsStrictlyIncreasing (x ∷ xs) →
 rises_behind x [] rise = tt
 rises_behind x (y ∷ ys) rise = let more : x < y = rise 0 (omega arith) in (omega arith, rises_behind y ys (rises_tail x (y ∷ ys) rise))
 
--- numbers that ascend ascend from a bound on that none is below
+-- numbers that ascend, none of which is below a bound, ascend from that bound on
 pub rises_from : (k : ℕ) (xs : List ℕ) → IsStrictlyIncreasing xs → All (λ x. k ≤ x) xs → Rises k xs
 rises_from k [] rise low = tt
 rises_from k (x ∷ xs) rise low = (low 0 0 (omega arith), rises_behind x xs rise)
@@ -77,7 +77,7 @@ kept_by test n k x xs false e rise low same later =
     first_lost test k _ (x ∷ xs) (same k (omega arith) ∙ not_among k (k + 1) (x ∷ xs) (omega arith) (omega arith, rise.1))
     (later (x ∷ xs) (omega arith, rise.1) (subst (λ (b : ℕ). AreBelow b (x ∷ xs)) bound low) (λ i high. same i (omega arith)))
 
--- of the numbers from k on those are kept that the test finds in the list
+-- of the numbers from k on, those are kept that the test finds in the list
 kept_same : (test : ℕ → Bool) (n k : ℕ) (xs : List ℕ) → Rises k xs → AreBelow (k + n) xs → ((i : ℕ) → k ≤ i → test i ≡ list_any (nat_eq i) xs) → filter test (range_with_len k n) ≡ xs
 kept_same test zero k [] rise low same = refl
 kept_same test zero k (x ∷ xs) rise low same = let from = rise.0 in let below = low.0 in absurd (omega arith)
@@ -98,7 +98,7 @@ numbers_same : (i : ℕ) (stages : List ℕ) → list_any (is_number i) (map (λ
 numbers_same i [] = refl
 numbers_same i (x ∷ xs) = ap (λ (b : Bool). nat_eq i x || b) (numbers_same i xs)
 
--- stages that ascend from 1 to 32 are those that are asked for by them
+-- stages from 1 to 32 that ascend are what comes back where they are asked for
 pub ascending_same : (stages : List ℕ) → IsStrictlyIncreasing stages → All (λ i. 1 ≤ i) stages → All (λ i. i < 33) stages → ascending (map (λ n. pos n) stages) ≡ stages
 unfolding ascending stage_numbers
 ascending_same stages rise low high = kept_same (λ i. list_any (is_number i) (map (λ n. pos n) stages)) 32 1 stages (rises_from 1 stages rise low) (below_from 33 stages high) (λ i from. numbers_same i stages)
@@ -116,7 +116,7 @@ kept_places : (test : ℕ → Bool) (cs : List Class) → map place_of (filter (
 kept_places test [] = refl
 kept_places test (c ∷ cs) = kept_step (test (place_of c)) c (filter (λ d. test (place_of d)) cs) (filter test (map place_of cs)) (kept_places test cs)
 
--- a list of classes has a place
+-- a list of classes has one at a place
 unfoldable pub has_place : List Class → ℕ → Bool
 has_place classes n = list_any (λ d. nat_eq n (place_of d)) classes
 
@@ -135,7 +135,7 @@ same_places [] (d ∷ ds) e = cc
 same_places (c ∷ cs) [] e = cc
 same_places (c ∷ cs) (d ∷ ds) e = let p = one_place (place_of c) (place_of d) (map place_of cs) (map place_of ds) e in rw (same_place c d p.0, same_places cs ds p.1) refl
 
--- computed classes that ascend are those that are asked for by them, in class order
+-- computed classes that ascend are what comes back where they are asked for
 order_places : (classes : List Class) → map place_of (in_class_order classes) ≡ filter (has_place classes) (range_with_len 0 9)
 unfolding in_class_order has_place
 order_places classes = kept_places (λ n. list_any (λ d. nat_eq n (place_of d)) classes) computed_classes

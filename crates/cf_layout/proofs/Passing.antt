@@ -32,17 +32,17 @@ pub next_passes : (a b : Option LayoutErr) → or_else a b ≡ None → b ≡ No
 next_passes None b e = e
 next_passes (Some x) b e = cc
 
--- a test that fails not holds
+-- what is not true is false
 pub not_true : (b : Bool) → not b ≡ true → b ≡ false
 not_true true e = sym e
 not_true false e = refl
 
--- a test whose failure fails holds
+-- what is not false is true
 pub not_false : (b : Bool) → not b ≡ false → b ≡ true
 not_false true e = refl
 not_false false e = sym e
 
--- none of the list fails, by whether the first does
+-- no element of the list fails, by whether the first does
 none_step : {X : Type 0} (P : X → Type 0) (fails : Bool) (x : X) (rest : Option X) → (fails ≡ false → P x) → cond fails (Some x) rest ≡ None → P x × (rest ≡ None)
 none_step P true x rest here e = cc
 none_step P false x rest here e = (here refl, e)
@@ -58,7 +58,7 @@ all_fail test (x ∷ xs) e =
 pub none_found : {X : Type 0} (test : X → Bool) (xs : List X) → find (λ x. not (test x)) xs ≡ None → All (λ x. test x ≡ true) xs
 none_found test xs e = λ k d within. not_false _ (all_fail (λ x. not (test x)) xs e k d within)
 
--- a number within bounds is one of 32 bits where the bounds are
+-- a number within bounds fits 32 bits where the bounds do
 pub within_word : (z : ℤ) (least most : ℕ) → is_within least most z ≡ true → most ≤ 4294967295 → is_within 0 4294967295 z ≡ true
 within_word (pos n) least most e small = grind (arith, nat_tests)
 within_word (negsuc n) least most e small = cc
@@ -85,7 +85,7 @@ none_outside : (c : Class) (o : Option ℤ) → outside c o ≡ None → o ≡ N
 none_outside c None e = refl
 none_outside c (Some z) e = cc
 
--- a class that is tested not to be Memory is not
+-- a class that passes the test of not being Memory is not Memory
 not_memory : (c : Class) → not (same_class c Memory) ≡ true → c ≢ Memory
 not_memory c t = λ e. let s : same_class c Memory ≡ true = rw e refl in cc
 
@@ -112,7 +112,7 @@ units_hold n before (unit ∷ units) e = All-cons (IsUnit n) unit units (unit_ho
 int_order : (y z : ℤ) → int_lt y z ≡ true → y <ℤ z
 int_order y z e = grind (arith, ints)
 
--- the stages of a siding
+-- the cells and the stages of a siding
 stages_hold : (n : ℕ) (siding : asked.Siding) (first : Class) → stages_refusal n siding first ≡ None → (is_within 1 8 siding.cells ≡ true) × (is_within 1 n siding.launch ≡ true) × (is_within 1 n siding.recover ≡ true) × (siding.launch <ℤ siding.recover)
 unfolding stages_refusal
 stages_hold n siding first e =
@@ -163,7 +163,7 @@ small_siding n siding few s = record {
   cells = within_word siding.cells 1 8 s.cells (omega arith);
 }
 
--- all sidings that are not refused have
+-- so have all sidings that are not refused
 pub small_sidings : (n : ℕ) (units : List (Class × List ℤ)) (sidings : List asked.Siding) → sidings_refusal n units [] sidings ≡ None → n ≤ 32 → All IsSmall sidings
 small_sidings n units sidings e few = λ k d within. small_siding n _ few (sidings_hold n units [] sidings e k d within)
 
@@ -172,11 +172,11 @@ pub told_small : (n : ℕ) (units : List (Class × List ℤ)) (sidings : List as
 told_small n units sidings None e few = small_sidings n units sidings e few
 told_small n units sidings (Some x) e few = tt
 
--- where a class stands in a list that is taken together with another
+-- whether a list names a class, with one more class in it
 pub seen_more : (seen : List Class) (x c : Class) → names (seen ++ x ∷ []) c ≡ (names seen c || same_class c x)
 seen_more seen x c = rw (list_any-append (same_class c) seen (x ∷ [])) (ap (λ (b : Bool). names seen c || b) (or-false (same_class c x)))
 
--- a class more that stands nowhere else
+-- one more class, which is nowhere else
 once_same : (rest : ℕ) (off seen : Bool) → (off || seen) ≡ false → rest + cond (off || (seen || true)) 1 0 ≤ 1 → 1 + rest + cond (off || seen) 1 0 ≤ 1
 once_same rest true seen e le = cc
 once_same rest false true e le = cc
@@ -187,7 +187,7 @@ once_other : (rest : ℕ) (off seen : Bool) → rest + cond (off || (seen || fal
 once_other rest off true le = omega arith
 once_other rest off false le = omega arith
 
--- a class that is tested not to stand before it stands at most once
+-- a class that is not found earlier or elsewhere is there at most once
 once_step : (off seen same : Bool) (rest : ℕ) → (same ≡ true → (off || seen) ≡ false) → rest + cond (off || (seen || same)) 1 0 ≤ 1 → cond same 1 0 + rest + cond (off || seen) 1 0 ≤ 1
 once_step off seen true rest free le = once_same rest off seen (free refl) le
 once_step off seen false rest free le = once_other rest off seen le
@@ -197,17 +197,17 @@ first_alone : (b : Bool) (x : Class) (rest : Option Class) → cond b (Some x) r
 first_alone true x rest e = cc
 first_alone false x rest e = refl
 
--- and tells what those behind it tell
+-- and the test of those after it lets them pass
 rest_alone : (b : Bool) (x : Class) (rest : Option Class) → cond b (Some x) rest ≡ None → rest ≡ None
 rest_alone true x rest e = cc
 rest_alone false x rest e = e
 
--- nothing and one more
+-- nothing and one more is at most one
 one_at_most : (b : Bool) → 0 + cond b 1 0 ≤ 1
 one_at_most true = omega arith
 one_at_most false = omega arith
 
--- classes of which none stands before itself, here or elsewhere, stand at most once, counting elsewhere
+-- classes that are not repeated, here or elsewhere, are there at most once, counting elsewhere
 repeated_once : (elsewhere : Class → Bool) (seen classes : List Class) → first_repeated elsewhere seen classes ≡ None → (c : Class) → times classes c + cond (elsewhere c || names seen c) 1 0 ≤ 1
 repeated_once elsewhere seen [] e c = rw (times_nil c) (one_at_most (elsewhere c || names seen c))
 repeated_once elsewhere seen (x ∷ xs) e c =
@@ -215,7 +215,7 @@ repeated_once elsewhere seen (x ∷ xs) e c =
     let l = rw (seen_more seen x c) at r in
     rw (times_cons x xs c) (once_step (elsewhere c) (names seen c) (same_class c x) (times xs c) (λ same. subst (λ (k : Class). (elsewhere k || names seen k) ≡ false) (sym (same_true c x same)) (first_alone _ _ _ e)) l)
 
--- no class stands twice
+-- no class is listed twice
 none_twice : (o : Option Class) → twice o ≡ None → o ≡ None
 none_twice None e = refl
 none_twice (Some c) e = cc
@@ -225,7 +225,7 @@ or_regroup : (a b c : Bool) → (a || (b || c)) ≡ ((a || b) || c)
 or_regroup true b c = refl
 or_regroup false b c = refl
 
--- a siding that has the class, or has not
+-- a siding that has the class, or does not have it
 sided_by : (t r : ℕ) (some : Bool) → nat_lt 0 t ≡ some → t + 0 ≤ 1 → r + cond (false || some) 1 0 ≤ 1 → t + r + 0 ≤ 1
 sided_by t r true e one rest = omega arith
 sided_by t r false e one rest = let none : t ≡ 0 = grind (arith, nat_tests) in omega arith
@@ -239,11 +239,11 @@ both_by u t false e one rest = let none : u ≡ 0 = grind (arith, nat_tests) in 
 both_once : (u t : ℕ) → u + 0 ≤ 1 → t + cond (nat_lt 0 u) 1 0 ≤ 1 → u + t ≤ 1
 both_once u t one rest = both_by u t (nat_lt 0 u) refl one rest
 
--- a class among units that are taken together with another
+-- a class among units, with one more unit
 pub unit_more : (before : List (Class × List ℤ)) (unit : Class × List ℤ) (c : Class) → is_unit (before ++ unit ∷ []) c ≡ (is_unit before c || same_class c unit.0)
 unit_more before unit c = rw (list_any-append (λ (u : Class × List ℤ). same_class c u.0) before (unit ∷ [])) (ap (λ (b : Bool). is_unit before c || b) (or-false (same_class c unit.0)))
 
--- a class among units and sidings, with a siding more
+-- a class among units and sidings, with one more siding
 pub sided_more : (units : List (Class × List ℤ)) (before : List asked.Siding) (siding : asked.Siding) (c : Class) → (is_unit units c || is_sided (before ++ siding ∷ []) c) ≡ ((is_unit units c || is_sided before c) || nat_lt 0 (times siding.classes c))
 sided_more units before siding c = rw (list_any-append (λ (s : asked.Siding). names s.classes c) before (siding ∷ []), or-false (names siding.classes c), names_times siding.classes c) (or_regroup (is_unit units c) (is_sided before c) (nat_lt 0 (times siding.classes c)))
 
@@ -257,7 +257,7 @@ filled_once : (n : ℕ) (elsewhere : Class → Bool) (index : ℕ) (siding : ask
 filled_once n elsewhere index siding [] e c = cc
 filled_once n elsewhere index siding (first ∷ rest) e c = classes_once elsewhere (first ∷ rest) (next_passes _ _ e) c
 
--- the classes of units that none of them repeats stand at most once, counting those before
+-- the classes of units, none of which is repeated, are there at most once, counting those before
 units_once : (n : ℕ) (before units : List (Class × List ℤ)) → units_refusal n before units ≡ None → (c : Class) → times (map (λ unit. unit.0) units) c + cond (is_unit before c) 1 0 ≤ 1
 units_once n before [] e c = rw (times_nil c) (one_at_most (is_unit before c))
 units_once n before (unit ∷ units) e c =
@@ -266,17 +266,17 @@ units_once n before (unit ∷ units) e c =
     let alone = (unit_holds n before unit (first_passes _ _ e)).1 in
     rw (times_cons unit.0 (map (λ u. u.0) units) c) (once_step false (is_unit before c) (same_class c unit.0) (times (map (λ u. u.0) units) c) (λ same. subst (λ (k : Class). is_unit before k ≡ false) (sym (same_true c unit.0 same)) alone) l)
 
--- classes of a siding, of which none is repeated
+-- classes of a siding, none of which is repeated
 siding_once : (n : ℕ) (units : List (Class × List ℤ)) (before : List asked.Siding) (siding : asked.Siding) → siding_refusal n units before siding ≡ None → (c : Class) → times siding.classes c + cond (is_unit units c || is_sided before c) 1 0 ≤ 1
 unfolding siding_refusal
 siding_once n units before siding e c = filled_once n (λ k. is_unit units k || is_sided before k) (length before) siding siding.classes e c
 
--- of a siding more and those behind it
+-- of one more siding and those after it
 sided_step : (t r : ℕ) (w : Bool) → t + cond w 1 0 ≤ 1 → r + cond (w || nat_lt 0 t) 1 0 ≤ 1 → t + r + cond w 1 0 ≤ 1
 sided_step t r true one rest = omega arith
 sided_step t r false one rest = sided_by t r (nat_lt 0 t) refl one rest
 
--- the classes of sidings that none of them repeats stand at most once, counting units and the sidings before
+-- the classes of sidings, none of which is repeated, are there at most once, counting units and the sidings before
 sidings_once : (n : ℕ) (units : List (Class × List ℤ)) (before sidings : List asked.Siding) → sidings_refusal n units before sidings ≡ None → (c : Class) → times (sided_classes sidings) c + cond (is_unit units c || is_sided before c) 1 0 ≤ 1
 sidings_once n units before [] e c = rw (times_nil c) (one_at_most (is_unit units c || is_sided before c))
 sidings_once n units before (siding ∷ sidings) e c =

@@ -4,7 +4,7 @@ use Rattle.std.specs.Prelude.{slice_set}
 use Rattle.std.proofs.Math.Seq.{take-suc, set-append_seam}
 use Rattle.std.proofs.lemmas.List.{map-append, length-map, length-take-le}
 
--- one place more is taken
+-- one more place is taken
 place_next : {X Y : Type 0} (f : X → Y) (xs : List X) (i : ℕ) (d : X) (none : Y) → i < length xs → length xs ≤ 8 → slice_set (map f (take i xs) ++ replicate (8 - i) none) i (f (get_or xs i d)) ≡ map f (take (suc i) xs) ++ replicate (8 - suc i) none
 place_next f xs i d none within few =
     let e : 8 - i ≡ suc (8 - suc i) = omega arith in

@@ -46,7 +46,7 @@ plain_homes Free e = cc
 plain_homes Mul e = cc
 plain_homes Div e = cc
 
--- neither multiplication nor division has
+-- neither multiplication nor division has one
 plain_pair : (homes plain Mul ≡ 0) × (homes plain Div ≡ 0)
 unfolding homes stages_of serves
 plain_pair = (refl, refl)

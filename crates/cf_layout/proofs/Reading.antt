@@ -13,7 +13,7 @@ at_place [] place within = absurd (omega arith)
 at_place (stages ∷ units) zero within = refl
 at_place (stages ∷ units) (suc place) within = at_place units place (omega arith)
 
--- behind its end there are none
+-- past its end there are no stages
 behind_end : (units : List (List ℕ)) (place : ℕ) → length units ≤ place → unwrap_or (slice_get units place) [] ≡ []
 behind_end [] place behind = refl
 behind_end (stages ∷ units) zero behind = absurd (omega arith)
@@ -24,7 +24,7 @@ pub stages_within : (plan : Plan) (c : Class) (d : List ℕ) → place_of c < le
 unfolding stages_of
 stages_within plan c d within = at_place plan.units (place_of c) within ∙ get_or_default plan.units (place_of c) [] d within
 
--- and of one that has none
+-- and of one that has no place
 pub stages_without : (plan : Plan) (c : Class) → length plan.units ≤ place_of c → stages_of plan c ≡ []
 unfolding stages_of
 stages_without plan c behind = behind_end plan.units (place_of c) behind

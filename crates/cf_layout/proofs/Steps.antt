@@ -1,4 +1,4 @@
--- What the tests of a layout tell, one step at a time.
+-- What the tests of a layout say, one step at a time.
 use Rattle.std.proofs.Common.{◌≡◌, ℕ, ℤ, ◌+◌, ◌<◌, List, [], ◌∷◌, All, Bool, true, false, sym, find, subst, arith, Option, Some, cond, length, get_or, take, drop, refl, add-one, drop-cons}
 use Rattle.std.specs.Prelude.{◌||◌}
 use Rattle.std.proofs.Math.Seq.{take-suc}
@@ -9,7 +9,7 @@ use Rattle.cf_layout.specs.declared.parts.Siding.{Siding}
 use Rattle.cf_layout.specs.Asked.{IsSmall, names}
 use Rattle.cf_layout.specs.Refusal.{siding_for, or_else, unit_refusal, units_refusal, siding_refusal, sidings_refusal, first_repeated}
 
--- the units from one on are refused for that one, or else for those behind it
+-- the units from one unit on are refused for that unit, or else for those after it
 pub units_step : (n : ℕ) (units : List (Class × List ℤ)) (i : ℕ) (d : Class × List ℤ) → i < length units → units_refusal n (take i units) (drop i units) ≡ or_else (unit_refusal n (take i units) (get_or units i d)) (units_refusal n (take (i + 1) units) (drop (i + 1) units))
 units_step n units i d within = rw (drop-cons units i d, add-one, take-suc units i d) refl
 
@@ -17,11 +17,11 @@ units_step n units i d within = rw (drop-cons units i d, add-one, take-suc units
 pub sidings_step : (n : ℕ) (units : List (Class × List ℤ)) (sidings : List Siding) (i : ℕ) (d : Siding) → i < length sidings → sidings_refusal n units (take i sidings) (drop i sidings) ≡ or_else (siding_refusal n units (take i sidings) (get_or sidings i d)) (sidings_refusal n units (take (i + 1) sidings) (drop (i + 1) sidings))
 sidings_step n units sidings i d within = rw (drop-cons sidings i d, add-one, take-suc sidings i d) refl
 
--- the first class that stands before it is the next, or else one behind it
+-- the first repeated class is the next one, or else one after it
 pub repeated_step : (elsewhere : Class → Bool) (classes : List Class) (i : ℕ) (d : Class) → i < length classes → first_repeated elsewhere (take i classes) (drop i classes) ≡ cond (elsewhere (get_or classes i d) || names (take i classes) (get_or classes i d)) (Some (get_or classes i d)) (first_repeated elsewhere (take (i + 1) classes) (drop (i + 1) classes))
 repeated_step elsewhere classes i d within = rw (drop-cons classes i d, add-one, take-suc classes i d) refl
 
--- a class that does not stand before it is passed over
+-- a class that is not repeated is passed over
 pub repeated_on : (elsewhere : Class → Bool) (classes : List Class) (i : ℕ) (d : Class) → i < length classes → (elsewhere (get_or classes i d) || names (take i classes) (get_or classes i d)) ≡ false → first_repeated elsewhere (take (i + 1) classes) (drop (i + 1) classes) ≡ first_repeated elsewhere (take i classes) (drop i classes)
 repeated_on elsewhere classes i d within alone = sym (rw alone at (repeated_step elsewhere classes i d within))
 

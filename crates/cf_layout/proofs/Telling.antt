@@ -1,4 +1,4 @@
--- Each refusal says the truth.
+-- Each refusal is true.
 use Rattle.std.proofs.Common.{◌≡◌, Result, Ok, Err, IfOk, IfErr, ◌⊎◌, inl, inr, ℕ, ℤ, ◌≤ℤ◌, suc, ◌+◌, ◌<◌, List, [], ◌∷◌, ◌++◌, All, Bool, true, false, cond, Option, Some, None, length, min, map, refl, subst, arith, ◌∙◌, sym, append_assoc}
 use Rattle.std.specs.Prelude.{find, not, nat_lt, nat_le, int_lt, slice_get, ◌||◌, ◌&&◌}
 use Rattle.std.specs.List.{Any, Contains}
@@ -52,7 +52,7 @@ one_only true d e = cc
 one_only false true e = (refl, refl)
 one_only false false e = cc
 
--- counts with a class more
+-- counts with one more class
 more_before : (off seen same : Bool) (rest : ℕ) → 1 < rest + cond (off || (seen || same)) 1 0 → 1 < cond same 1 0 + rest + cond (off || seen) 1 0
 more_before true seen same rest le = omega arith
 more_before false true same rest le = omega arith
@@ -71,13 +71,13 @@ Says : Parts → Option LayoutErr → Type 0
 Says parts None = Unit {0}
 Says parts (Some e) = IsCause parts e
 
--- of two tests that say the truth the first that fails does
+-- where the refusals of two tests are true, so is the first of them
 says_first : (parts : Parts) (a b : Option LayoutErr) → Says parts a → Says parts b → Says parts (or_else a b)
 unfolding Says
 says_first parts None b s t = t
 says_first parts (Some e) b s t = s
 
--- a test says the truth where its failure is a cause
+-- the refusal of a test is true where the test's failure is a cause
 says_unless : (parts : Parts) (holds : Bool) (e : LayoutErr) → (holds ≡ false → IsCause parts e) → Says parts (unless holds e)
 unfolding Says
 says_unless parts true e cause = tt
@@ -100,16 +100,16 @@ found_in : {X : Type 0} (test : X → Bool) (xs : List X) (y : X) → find test 
 found_in test [] y e = cc
 found_in test (x ∷ xs) y e = found_here test (test x) x y xs refl e (λ later. found_in test xs y later)
 
--- an element behind others is in the list
+-- an element after others is in the list
 behind : {X : Type 0} (P : X → Type 0) (before : List X) (x : X) (rest : List X) → P x → Any P (before ++ x ∷ rest)
 behind P [] x rest p = (0, x, omega arith, refl, p)
 behind P (y ∷ ys) x rest p = let b = behind P ys x rest p in (suc b.0, b.1, omega arith, b.3, b.4)
 
--- the list with an element taken over to those before it stays
+-- the list stays the same when an element is moved over to those before it
 taken : {X : Type 0} (before : List X) (x : X) (rest : List X) → (before ++ x ∷ []) ++ rest ≡ before ++ x ∷ rest
 taken before x rest = append_assoc before (x ∷ []) rest
 
--- a class that stands before a unit and in it stands twice
+-- the class of a unit that is also in a unit before it is listed twice
 unit_twice : (before : List (Class × List ℤ)) (unit : Class × List ℤ) (rest : List (Class × List ℤ)) → is_unit before unit.0 ≡ true → 1 < times (map (λ u. u.0) (before ++ unit ∷ rest)) unit.0
 unit_twice before unit rest e =
     let b : 0 < times (map (λ u. u.0) before) unit.0 = lt_true 0 _ (sym (is_unit_times before unit.0) ∙ e) in
@@ -122,13 +122,13 @@ memory_unit : (before : List (Class × List ℤ)) (unit : Class × List ℤ) (re
 memory_unit [] unit rest e = rw e refl
 memory_unit (u ∷ us) unit rest e = rw (memory_unit us unit rest e) (or-true (same_class Memory u.0))
 
--- so it stands twice among all classes
+-- so it is listed twice among all classes
 unit_more_often : (parts : Parts) (before : List (Class × List ℤ)) (unit : Class × List ℤ) (rest : List (Class × List ℤ)) → parts.units ≡ before ++ unit ∷ rest → is_unit before unit.0 ≡ true → 1 < times (asked_classes parts) unit.0
 unit_more_often parts before unit rest whole e =
     let t = unit_twice before unit rest e in
     rw (times_append (map (λ u. u.0) parts.units) (sided_classes parts.sidings) unit.0, whole) (omega (arith, t))
 
--- a stage that the pipeline has not
+-- a stage that the pipeline does not have
 says_outside : (parts : Parts) (before : List (Class × List ℤ)) (unit : Class × List ℤ) (rest : List (Class × List ℤ)) → parts.units ≡ before ++ unit ∷ rest → (o : Option ℤ) → find (λ stage. not (is_within 1 (natural parts.stages) stage)) unit.1 ≡ o → Says parts (outside unit.0 o)
 unfolding Says
 says_outside parts before unit rest whole None e = tt
@@ -155,7 +155,7 @@ says_units parts before (unit ∷ units) whole = says_first parts _ _ (says_unit
 sided : (P : asked.Siding → Type 0) (parts : Parts) (before : List asked.Siding) (siding : asked.Siding) (rest : List asked.Siding) → parts.sidings ≡ before ++ siding ∷ rest → P siding → Any P parts.sidings
 sided P parts before siding rest whole p = rw whole (behind P before siding rest p)
 
--- the stages of a siding with a first class
+-- the cells and the stages of a siding with a first class
 says_stages : (parts : Parts) (before : List asked.Siding) (siding : asked.Siding) (rest : List asked.Siding) (first : Class) → parts.sidings ≡ before ++ siding ∷ rest → Contains siding.classes first → Says parts (stages_refusal (natural parts.stages) siding first)
 unfolding stages_refusal
 says_stages parts before siding rest first whole has =
@@ -164,7 +164,7 @@ says_stages parts before siding rest first whole has =
     (says_first parts _ _ (says_unless parts (is_within 1 (natural parts.stages) siding.recover) (StageOutOfRange first siding.recover) (λ off. (off, inr (sided (λ (s : asked.Siding). Contains s.classes first × ((s.launch ≡ siding.recover) ⊎ (s.recover ≡ siding.recover))) parts before siding rest whole (has, inr refl)))))
     (says_unless parts (int_lt siding.launch siding.recover) (SidingOrder siding.launch siding.recover) (λ off. (not_lower _ _ off, sided (λ (s : asked.Siding). (s.launch ≡ siding.launch) × (s.recover ≡ siding.recover)) parts before siding rest whole (refl, refl))))))
 
--- a class that is repeated stands once more than elsewhere and before
+-- a class that is repeated is there more than once, counting elsewhere and before
 repeated_here : (elsewhere : Class → Bool) (seen : List Class) (here : Bool) (x c : Class) (xs : List Class) (rest : Option Class) → (elsewhere x || names seen x) ≡ here → cond here (Some x) rest ≡ Some c → (rest ≡ Some c → 1 < times xs c + cond (elsewhere c || names (seen ++ x ∷ []) c) 1 0) → 1 < times (x ∷ xs) c + cond (elsewhere c || names seen c) 1 0
 repeated_here elsewhere seen true x c xs rest at e later =
     let same = same_Some x c e in
@@ -184,7 +184,7 @@ sided_append : (xs ys : List asked.Siding) → sided_classes (xs ++ ys) ≡ side
 sided_append [] ys = refl
 sided_append (s ∷ ss) ys = rw (sided_append ss ys) (sym (append_assoc s.classes (sided_classes ss) (sided_classes ys)))
 
--- a class of a siding that is repeated stands twice among all classes
+-- a class of a siding that is repeated is listed twice among all classes
 says_twice : (parts : Parts) (before : List asked.Siding) (siding : asked.Siding) (rest : List asked.Siding) → parts.sidings ≡ before ++ siding ∷ rest → (o : Option Class) → first_repeated (λ c. is_unit parts.units c || is_sided before c) [] siding.classes ≡ o → Says parts (twice o)
 unfolding Says
 says_twice parts before siding rest whole None e = tt
@@ -199,7 +199,7 @@ says_classes parts before siding rest whole =
     says_first parts _ _ (says_twice parts before siding rest whole (first_repeated (λ c. is_unit parts.units c || is_sided before c) [] siding.classes) refl)
     (says_unless parts (not (names siding.classes Memory && nat_lt 1 (length siding.classes))) MemorySharesSiding (λ off. let b = both_true _ _ (not_off _ off) in sided (λ (s : asked.Siding). (names s.classes Memory ≡ true) × (1 < length s.classes)) parts before siding rest whole (b.0, lt_true 1 _ b.1)))
 
--- the siding behind others is the one of their number
+-- the siding after others has their number as its index
 number_of : (before : List asked.Siding) (siding : asked.Siding) (rest : List asked.Siding) → slice_get (before ++ siding ∷ rest) (length before) ≡ Some siding
 number_of [] siding rest = refl
 number_of (s ∷ ss) siding rest = number_of ss siding rest
@@ -268,27 +268,27 @@ says_all parts =
     (says_first parts _ _ (says_sidings parts [] parts.sidings refl)
     (says_first parts _ _ (says_missing parts) (says_control parts))))
 
--- what is told is a cause
+-- what is answered is a cause
 told_cause : (parts : Parts) (o : Option LayoutErr) (e : LayoutErr) → Says parts o → o ≡ Some e → IsCause parts e
 unfolding Says
 told_cause parts None e said at = cc
 told_cause parts (Some f) e said at = subst (IsCause parts) (same_Some f e at) said
 
--- each refusal says the truth
+-- each refusal is true
 pub causes : (parts : Parts) (e : LayoutErr) → refusal parts ≡ Some e → IsCause parts e
 causes parts e at = told_cause parts (refusal parts) e (says_all parts) at
 
--- an answer that refuses says the truth
+-- an answer that refuses is true
 pub refused_cause : {T : Type 0} (parts : Parts) (r : Result T LayoutErr) → IfErr r (λ e. refusal parts ≡ Some e) → IfErr r (λ e. IsCause parts e)
 refused_cause parts (Ok x) h = tt
 refused_cause parts (Err e) h = causes parts e h
 
--- and comes for no acceptable parts
+-- and is given for no acceptable parts
 pub refused_unacceptable : {T : Type 0} (parts : Parts) (r : Result T LayoutErr) → IfErr r (λ e. refusal parts ≡ Some e) → IfErr r (λ e. ¬ IsAcceptable parts)
 refused_unacceptable parts (Ok x) h = tt
 refused_unacceptable parts (Err e) h = λ a. let n = not_refused parts a in cc
 
--- one that accepts comes for acceptable ones alone
+-- an answer that accepts is given for acceptable parts alone
 pub accepted_acceptable : {T : Type 0} (parts : Parts) (r : Result T LayoutErr) → IfOk r (λ x. refusal parts ≡ None) → IfOk r (λ x. IsAcceptable parts)
 accepted_acceptable parts (Ok x) h = acceptable parts h
 accepted_acceptable parts (Err e) h = tt

@@ -50,7 +50,7 @@ low_test a b le = grind (arith, nat_tests)
 lower_test : (y z : ℤ) → y <ℤ z → int_lt y z ≡ true
 lower_test y z lt = grind (arith, ints)
 
--- a class other than Memory is tested to be
+-- a class other than Memory passes the test for that
 other_by : (c : Class) (same : Bool) → same_class c Memory ≡ same → c ≢ Memory → not same ≡ true
 other_by c true e off = absurd (off (same_true c Memory e))
 other_by c false e off = refl
@@ -89,12 +89,12 @@ unit_pass n before unit u alone =
     (both _ _ (passes _ _ (lt_test _ _ u.some))
     (both _ _ (ap (outside unit.0) (none_outside (is_within 1 n) unit.1 u.stages)) (passes _ _ (ap not alone))))
 
--- a class that stands once does not stand before
+-- a class that is there once is not there before
 alone_before : (seen : Bool) (rest : ℕ) → 1 + rest + cond seen 1 0 ≤ 1 → seen ≡ false
 alone_before true rest le = absurd (omega arith)
 alone_before false rest le = refl
 
--- and is counted once for those behind it
+-- and is counted once for those after it
 once_more : (seen same : Bool) (rest : ℕ) → cond same 1 0 + rest + cond seen 1 0 ≤ 1 → rest + cond (seen || same) 1 0 ≤ 1
 once_more true same rest le = omega arith
 once_more false true rest le = omega arith
@@ -108,7 +108,7 @@ units_pass n before (unit ∷ units) all once =
     both _ _ (unit_pass n before unit (all 0 unit (omega arith)) (alone_before _ _ here))
     (units_pass n (before ++ unit ∷ []) units (All-tail (IsUnit n) unit units all) (λ c. rw (unit_more before unit c) (once_more (is_unit before c) (same_class c unit.0) _ (rw (times_cons unit.0 (map (λ u. u.0) units) c) at (once c)))))
 
--- classes of which none is repeated
+-- classes none of which is repeated
 repeated_pass : (elsewhere : Class → Bool) (seen classes : List Class) → ((c : Class) → times classes c + cond (elsewhere c || names seen c) 1 0 ≤ 1) → first_repeated elsewhere seen classes ≡ None
 repeated_pass elsewhere seen [] once = refl
 repeated_pass elsewhere seen (x ∷ xs) once =
@@ -116,12 +116,12 @@ repeated_pass elsewhere seen (x ∷ xs) once =
     none_step (elsewhere x || names seen x) x _ (alone_before _ _ here)
     (repeated_pass elsewhere (seen ++ x ∷ []) xs (λ c. rw (seen_more seen x c, or_regroup (elsewhere c) (names seen c) (same_class c x)) (once_more (elsewhere c || names seen c) (same_class c x) _ (rw (times_cons x xs c) at (once c)))))
 
--- the stages of a siding
+-- the cells and the stages of a siding
 stages_pass : (n : ℕ) (siding : asked.Siding) (first : Class) → IsSiding n siding → stages_refusal n siding first ≡ None
 unfolding stages_refusal
 stages_pass n siding first s = both _ _ (passes _ _ s.cells) (both _ _ (passes _ _ s.launch) (both _ _ (passes _ _ s.recover) (passes _ _ (lower_test _ _ s.order))))
 
--- Memory stands beside no other class
+-- Memory shares its siding with no other class
 alone_pass : (named : Bool) (n : ℕ) → (named ≡ true → n ≡ 1) → not (named && nat_lt 1 n) ≡ true
 alone_pass true n one = let e = one refl in rw e refl
 alone_pass false n one = refl
@@ -141,7 +141,7 @@ siding_pass : (n : ℕ) (units : List (Class × List ℤ)) (before : List asked.
 unfolding siding_refusal
 siding_pass n units before siding s once = filled_pass n (λ c. is_unit units c || is_sided before c) (length before) siding siding.classes refl s once
 
--- once in one siding and in those behind it
+-- once in one siding and in those after it
 once_here : (t r : ℕ) (w : Bool) → t + r + cond w 1 0 ≤ 1 → t + cond w 1 0 ≤ 1
 once_here t r w le = omega arith
 

@@ -21,17 +21,17 @@ use Rattle.cf_layout.specs.Asked.{stage_numbers}
 use Rattle.cf_layout.specs.Kept.{stages_kept}
 use Rattle.cf_layout.specs.Words.{has_bit, members, word_of, bit_of, stages_of_word, classes_of_word}
 
--- one bit more in a word, by whether it is the one that is asked for
+-- one more bit in a word, by whether it is the one that is asked for
 set_bit_case : (w k i : ℕ) (same : Bool) → nat_eq i k ≡ same → k < 32 → has_bit (bit_or w (1 * 2 ^ k % 2 ^ 32)) i ≡ (same || has_bit w i)
 unfolding has_bit
 set_bit_case w k i true e small = let at : i ≡ k = grind (arith, nat_tests) in rw at (let s = bit_at_set_same w32 w k small in rw s refl)
 set_bit_case w k i false e small = let off : i ≢ k = grind (arith, nat_tests) in let s = bit_at_set_other w32 w k small i off in rw s refl
 
--- one bit more in a word
+-- one more bit in a word
 pub set_bit : (w k i : ℕ) → k < 32 → has_bit (bit_or w (1 * 2 ^ k % 2 ^ 32)) i ≡ (nat_eq i k || has_bit w i)
 set_bit w k i small = set_bit_case w k i (nat_eq i k) refl small
 
--- a bit more below a power of two leaves a word below it
+-- one more bit below a power of two leaves a word below that power
 pub set_small : (w k n : ℕ) → k < 32 → k < n → w < 2 ^ n → bit_or w (1 * 2 ^ k % 2 ^ 32) < 2 ^ n
 set_small w k n small below less = let e : 1 * 2 ^ k % 2 ^ 32 ≡ 2 ^ k = one_shl k 32 small in rw e (or_lt n w (2 ^ k) less (pow-lt below))
 
@@ -63,7 +63,7 @@ stage_below w s low = let e = any_stage w s in grind (arith, nat_tests)
 pub stage_above : (w s : ℕ) → 32 < s → list_any (nat_eq s) (stages_of_word w) ≡ false
 stage_above w s high = let e = any_stage w s in grind (arith, nat_tests)
 
--- the stages of a word from one on
+-- the stages of a word from a given stage on
 pub stages_from : ℕ → ℕ → List ℕ
 stages_from w s = members bit_of (range_with_len s (33 - s)) w
 
@@ -72,7 +72,7 @@ pub from_next : (w s : ℕ) → 1 ≤ s → s < 33 → stages_from w s ≡ cond 
 unfolding stages_from members
 from_next w s low high = let e : 33 - s ≡ suc (33 - (s + 1)) = omega arith in rw e refl
 
--- what is found first in a list that may begin with one number more
+-- what is found first in a list that may begin with one more number
 found : (has : Bool) (test : ℕ → Bool) (s : ℕ) (ss : List ℕ) → find test (cond has (s ∷ ss) ss) ≡ cond (test s && has) (Some s) (find test ss)
 found true test s ss = rw (and-true (test s)) refl
 found false test s ss = rw (and-false (test s)) refl
@@ -81,7 +81,7 @@ found false test s ss = rw (and-false (test s)) refl
 pub find_next : (w other s : ℕ) → 1 ≤ s → s < 33 → find (nat_lt other) (stages_from w s) ≡ cond (nat_lt other s && has_bit w (s - 1)) (Some s) (find (nat_lt other) (stages_from w (s + 1)))
 find_next w other s low high = let e = from_next w s low high in rw e (found (has_bit w (s - 1)) (nat_lt other) s (stages_from w (s + 1)))
 
--- the next is passed over where it is not above the number, or no stage of the word
+-- the next is passed over where it is not above the number, or is no stage of the word
 pub find_on : (w other s : ℕ) → 1 ≤ s → s < 33 → (nat_lt other s && has_bit w (s - 1)) ≡ false → find (nat_lt other) (stages_from w (s + 1)) ≡ find (nat_lt other) (stages_from w s)
 find_on w other s low high off = sym (rw off at (find_next w other s low high))
 
@@ -90,7 +90,7 @@ pub from_first : (w : ℕ) → stages_from w 1 ≡ stages_of_word w
 unfolding stages_from stage_numbers
 from_first w = refl
 
--- there is none behind the last
+-- there are no stages after the last
 pub from_end : (w : ℕ) → stages_from w 33 ≡ []
 unfolding stages_from members
 from_end w = refl
@@ -119,11 +119,11 @@ pub stages_by : (w n : ℕ) (stages : List ℤ) → length stages ≤ n → ((i 
 unfolding ascending stage_numbers
 stages_by w n stages all same = stages_agree w (λ i. list_any (is_number i) stages) 32 0 (λ i below. rw (take_all n stages all) at (same i below))
 
--- the bits of two classes are one where they are one class
+-- a word with the bit of one more class has the bits of the same classes and of that class
 pub class_bit : (w v : ℕ) (class c : Class) → ((k : ℕ) → has_bit v k ≡ (nat_eq k (place_of class) || has_bit w k)) → has_bit v (place_of c) ≡ (has_bit w (place_of c) || same_class c class)
 class_bit w v class c new = let h = new (place_of c) in grind (arith, nat_tests, h)
 
--- a class that has no bit is none of those that have one
+-- a class that has no bit is not one of those that have one
 pub no_class_bit : (class c : Class) → 9 ≤ place_of class → place_of c < 9 → same_class c class ≡ false
 no_class_bit class c high low = grind (arith, nat_tests)
 
@@ -132,7 +132,7 @@ classes_agree : (w : ℕ) (classes : List Class) → ((c : Class) → place_of c
 unfolding in_class_order
 classes_agree w classes same = members_by place_of (names classes) w computed_classes (same Add (omega arith), (same Logic (omega arith), (same Shift (omega arith), (same Compare (omega arith), (same Branch (omega arith), (same Jump (omega arith), (same Memory (omega arith), (same Mul (omega arith), (same Div (omega arith), tt)))))))))
 
--- the same where all classes of the list were gone over
+-- the same where all classes of the list have been gone through
 pub classes_by : (w n : ℕ) (classes : List Class) → length classes ≤ n → ((c : Class) → place_of c < 9 → has_bit w (place_of c) ≡ names (take n classes) c) → classes_of_word w ≡ in_class_order classes
 classes_by w n classes all same = classes_agree w classes (rw (take_all n classes all) at same)
 
@@ -199,7 +199,7 @@ pub members_next : {X : Type 0} (bit : X → ℕ) (w : ℕ) (xs : List X) (i : �
 unfolding members
 members_next bit w xs i d within = rw (drop-cons xs i d, add-one) refl
 
--- a list that may begin with one element more
+-- a list that may begin with one more element
 split : {X : Type 0} (has : Bool) (x : X) (xs : List X) → cond has (x ∷ xs) xs ≡ cond has (x ∷ []) [] ++ xs
 split true x xs = refl
 split false x xs = refl

@@ -13,7 +13,7 @@ use Rattle.cf_layout.specs.Refusal.{siding_for, turns_in, memory_launch_in}
 abbrev pub IsComputed : Class → Type 0
 IsComputed c = place_of c < 9
 
--- each class that the parts name is such a one
+-- each class that the parts name is one that units or sidings can compute
 pub record AreComputed (parts : Parts) : Type 0 where
   pub units : All (λ unit. IsComputed unit.0) parts.units
   pub sidings : All (λ siding. All IsComputed siding.classes) parts.sidings
@@ -27,7 +27,7 @@ sided_classes (siding ∷ sidings) = siding.classes ++ sided_classes sidings
 abbrev pub asked_classes : Parts → List Class
 asked_classes parts = map (λ unit. unit.0) parts.units ++ sided_classes parts.sidings
 
--- how often a class stands in a list
+-- how often a class is in a list
 unfoldable pub times : List Class → Class → ℕ
 times classes c = length (filter (same_class c) classes)
 
@@ -41,7 +41,7 @@ pub record IsUnit (n : ℕ) (unit : Class × List ℤ) : Type 0 where
 
 -- what has to hold of a siding
 pub record IsSiding (n : ℕ) (siding : Siding) : Type 0 where
-  -- it is for a class at least
+  -- it is for at least one class
   pub some : 0 < length siding.classes
   pub cells : is_within 1 8 siding.cells ≡ true
   -- it launches from a stage of the pipeline, and recovers at a higher one
@@ -58,10 +58,10 @@ pub record IsAcceptable (parts : Parts) : Type 0 where
   pub few_sidings : length parts.sidings ≤ 8
   pub units : All (IsUnit (natural parts.stages)) parts.units
   pub sidings : All (IsSiding (natural parts.stages)) parts.sidings
-  -- no class stands twice, be it in units or in sidings
+  -- no class is listed twice, whether in units or in sidings
   pub once : (c : Class) → times (asked_classes parts) c ≤ 1
   -- each class that every processor computes is there, and of multiplication and division both or neither
   pub needed : (c : Class) → is_needed c ≡ true → is_asked parts c ≡ true
   pub pair : is_asked parts Mul ≡ is_asked parts Div
-  -- control turns at or below the stage from which memory is reached, be it at a unit or at a recovery
+  -- control turns at or below the stage from which memory is reached, whether at a unit or at a recovery
   pub control : (c : Class) → is_control c ≡ true → All (λ stage. stage ≤ memory_launch_in parts.sidings) (turns_in (ascending (listed parts.units c)) (siding_for parts.sidings c))

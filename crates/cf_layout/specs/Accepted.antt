@@ -56,11 +56,11 @@ pub record IsAccepted (plan : Plan) : Type 0 where
   pub sidings : All (IsSiding plan) plan.sidings
   -- each class that every processor computes has either units or one siding
   pub needed : (c : Class) → is_needed c ≡ true → homes plan c ≡ 1
-  -- multiplication and division have a home each, or neither has
+  -- multiplication and division have a home each, or neither has one
   pub pair : homes plan Mul ≡ homes plan Div
   pub pair_once : homes plan Mul ≤ 1
   -- memory is reached through a siding
   pub memory : stages_of plan Memory ≡ []
-  -- control turns at or below the stage from which memory is reached, be it at a unit or at a recovery
+  -- control turns at or below the stage from which memory is reached, whether at a unit or at a recovery
   pub control_units : (c : Class) (i : ℕ) → is_control c ≡ true → unit_at plan c i ≡ true → i ≤ memory_launch plan
   pub control_sidings : (c : Class) → is_control c ≡ true → All (λ siding. serves siding c ≡ true → siding.recover ≤ memory_launch plan) plan.sidings

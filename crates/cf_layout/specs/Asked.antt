@@ -6,7 +6,7 @@ use Rattle.cf_layout.specs.declared.parts.Siding.{Siding}
 use Rattle.cf_layout.specs.declared.parts.Parts.{Parts}
 use Rattle.cf_layout.specs.Layout.{SidingPlan, Plan, computed_classes, same_class}
 
--- the number, or 0 for one below 0
+-- the number, or 0 where it is below 0
 abbrev pub natural : ℤ → ℕ
 natural (pos n) = n
 natural (negsuc n) = 0

@@ -20,7 +20,7 @@ ListsStage parts c z = Any (λ (unit : Class × List ℤ). (unit.0 ≡ c) × Con
 abbrev pub SidesAt : Parts → Class → ℤ → Type 0
 SidesAt parts c z = Any (λ (siding : Siding). Contains siding.classes c × ((siding.launch ≡ z) ⊎ (siding.recover ≡ z))) parts.sidings
 
--- the class is needed by every processor, or by what another class is there for
+-- every processor needs the class, or it is one of multiplication and division and the other is asked for
 abbrev pub IsWanted : Parts → Class → Type 0
 IsWanted parts c = (is_needed c ≡ true) ⊎ (((c ≡ Mul) × (is_asked parts Div ≡ true)) ⊎ ((c ≡ Div) × (is_asked parts Mul ≡ true)))
 

@@ -1,9 +1,9 @@
--- How a layout is held: eight places for sidings, of which the first are taken.
+-- How a layout is held: eight places for sidings, the first of which are taken.
 use Rattle.std.proofs.Common.{arith, length-take-le, take-append-drop}
 use Rattle.std.specs.Prelude.{◌≡◌, ℕ, ◌-◌, ◌≤◌, List, ◌++◌, length, take, drop, replicate}
 use Rattle.cf_layout.specs.Layout.{SidingPlan, no_siding}
 
--- the places behind the sidings hold none
+-- the places after the sidings hold no siding
 pub record AreHeld (count : ℕ) (places : List SidingPlan) : Type 0 where
   pub room : length places ≡ 8
   pub few : count ≤ 8

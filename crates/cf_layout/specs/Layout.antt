@@ -19,7 +19,7 @@ pub record Plan : Type 0 where
   pub units : List (List ℕ)
   pub sidings : List SidingPlan
 
--- where a class stands in class order: behind the nine that units or sidings compute stand the two that have neither
+-- where a class stands in class order: after the nine that units or sidings compute come the two that have neither
 abbrev pub place_of : Class → ℕ
 place_of Add = 0
 place_of Logic = 1
@@ -37,7 +37,7 @@ place_of Free = 10
 abbrev pub computed_classes : List Class
 computed_classes = Add ∷ Logic ∷ Shift ∷ Compare ∷ Branch ∷ Jump ∷ Memory ∷ Mul ∷ Div ∷ []
 
--- the two are one class
+-- the two are the same class
 abbrev pub same_class : Class → Class → Bool
 same_class c d = nat_eq (place_of c) (place_of d)
 
@@ -57,11 +57,11 @@ serves siding c = list_any (same_class c) siding.classes
 unfoldable pub siding_of : Plan → Class → Option ℕ
 siding_of plan c = position (λ siding. serves siding c) plan.sidings
 
--- what stands in place of a siding that there is not
+-- what takes the place of a siding that does not exist
 abbrev pub no_siding : SidingPlan
 no_siding = record { classes = []; launch = 0; recover = 0; cells = 0 }
 
--- the siding of that number
+-- the siding with that number
 abbrev pub siding_at : Plan → ℕ → SidingPlan
 siding_at plan k = unwrap_or (slice_get plan.sidings k) no_siding
 
@@ -77,7 +77,7 @@ recover_stage plan k = (siding_at plan k).recover
 unfoldable pub cells_of : Plan → ℕ → ℕ
 cells_of plan k = (siding_at plan k).cells
 
--- units at any number of stages are one home
+-- units, at however many stages, are one home
 abbrev pub unit_homes : List ℕ → ℕ
 unit_homes [] = 0
 unit_homes (stage ∷ stages) = 1
@@ -86,7 +86,7 @@ unit_homes (stage ∷ stages) = 1
 unfoldable pub homes : Plan → Class → ℕ
 homes plan c = unit_homes (stages_of plan c) + length (filter (λ siding. serves siding c) plan.sidings)
 
--- whether it has any
+-- whether the class has any home
 abbrev pub is_homed : Plan → Class → Bool
 is_homed plan c = nat_lt 0 (homes plan c)
 
@@ -99,7 +99,7 @@ abbrev pub recovers_by : Plan → Option ℕ → ℕ
 recovers_by plan None = plan.stages
 recovers_by plan (Some k) = recover_stage plan k
 
--- the last of the stages, or else the other one
+-- the last of the stages, or else the other number
 abbrev pub last_of : List ℕ → ℕ → ℕ
 last_of [] other = other
 last_of (stage ∷ stages) other = last_of stages stage

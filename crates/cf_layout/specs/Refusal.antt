@@ -1,4 +1,4 @@
--- Why a layout is refused: the first failing test, in the order in which they stand here.
+-- Why a layout is refused: the first test that fails, in the order in which the tests stand here.
 use Rattle.std.specs.Prelude.{ℕ, min, ℤ, List, [], ◌∷◌, ◌++◌, length, find, nat_le, nat_lt, int_lt, Bool, not, ◌||◌, ◌&&◌, if◌then◌else◌, Option, Some, None, Result, Ok, Err}
 use Rattle.rv_inst.specs.declared.classes.Class.{Class}
 use Rattle.rv_inst.specs.declared.classes.Class.TheVariants.{Add, Logic, Shift, Compare, Branch, Jump, Memory, Mul, Div}
@@ -13,7 +13,7 @@ use Rattle.cf_layout.specs.Asked.{natural, is_within, names, is_unit, is_sided, 
 abbrev pub unless : Bool → LayoutErr → Option LayoutErr
 unless holds e = if holds then None else Some e
 
--- the first refusal, or else the next
+-- the first refusal, or else the second
 abbrev pub or_else : Option LayoutErr → Option LayoutErr → Option LayoutErr
 or_else None next = next
 or_else (Some e) next = Some e
@@ -25,17 +25,17 @@ limits_refusal parts =
     (or_else (unless (is_within 2 64 parts.lane) (LaneOutOfRange parts.lane))
     (unless (nat_le (length parts.sidings) 8) (TooManySidings (min (length parts.sidings) 4294967295))))
 
--- the class's first stage that the pipeline has not
+-- the class's first stage that the pipeline does not have
 abbrev pub outside : Class → Option ℤ → Option LayoutErr
 outside c None = None
 outside c (Some stage) = Some (StageOutOfRange c stage)
 
--- the class that stands a second time
+-- the class that is listed a second time
 abbrev pub twice : Option Class → Option LayoutErr
 twice None = None
 twice (Some c) = Some (ClassTwice c)
 
--- a unit, in a pipeline of n stages and behind the units `before`
+-- a unit, in a pipeline of n stages and after the units `before`
 unfoldable pub unit_refusal : ℕ → List (Class × List ℤ) → Class × List ℤ → Option LayoutErr
 unit_refusal n before unit =
     or_else (unless (not (same_class unit.0 Memory)) MemoryNotSiding)
@@ -48,12 +48,12 @@ abbrev pub units_refusal : ℕ → List (Class × List ℤ) → List (Class × L
 units_refusal n before [] = None
 units_refusal n before (unit ∷ units) = or_else (unit_refusal n before unit) (units_refusal n (before ++ unit ∷ []) units)
 
--- the first of the classes that stands before it, be it among them or elsewhere
+-- the first of the classes that is listed earlier among them, or elsewhere
 abbrev pub first_repeated : (Class → Bool) → List Class → List Class → Option Class
 first_repeated elsewhere before [] = None
 first_repeated elsewhere before (c ∷ cs) = if elsewhere c || names before c then Some c else first_repeated elsewhere (before ++ c ∷ []) cs
 
--- the stages of a siding whose first class this is
+-- the cells and the stages of a siding whose first class this is
 unfoldable pub stages_refusal : ℕ → Siding → Class → Option LayoutErr
 stages_refusal n siding first =
     or_else (unless (is_within 1 8 siding.cells) (CellsOutOfRange siding.cells))
@@ -61,18 +61,18 @@ stages_refusal n siding first =
     (or_else (unless (is_within 1 n siding.recover) (StageOutOfRange first siding.recover))
     (unless (int_lt siding.launch siding.recover) (SidingOrder siding.launch siding.recover))))
 
--- the classes of a siding behind those that stand elsewhere; Memory stands beside no other
+-- the classes of a siding, given those that are listed elsewhere; Memory shares its siding with no other class
 unfoldable pub classes_refusal : (Class → Bool) → List Class → Option LayoutErr
 classes_refusal elsewhere classes =
     or_else (twice (first_repeated elsewhere [] classes))
     (unless (not (names classes Memory && nat_lt 1 (length classes))) MemorySharesSiding)
 
--- a siding, given what of its classes stands elsewhere
+-- a siding, given which classes are listed elsewhere
 abbrev pub filled_refusal : ℕ → (Class → Bool) → ℕ → Siding → List Class → Option LayoutErr
 filled_refusal n elsewhere index siding [] = Some (EmptySiding index)
 filled_refusal n elsewhere index siding (first ∷ rest) = or_else (stages_refusal n siding first) (classes_refusal elsewhere (first ∷ rest))
 
--- a siding, behind the units and the sidings `before`
+-- a siding, after the units and the sidings `before`
 unfoldable pub siding_refusal : ℕ → List (Class × List ℤ) → List Siding → Siding → Option LayoutErr
 siding_refusal n units before siding = filled_refusal n (λ c. is_unit units c || is_sided before c) (length before) siding siding.classes
 
@@ -120,11 +120,11 @@ abbrev pub above : Class → ℕ → Option ℕ → Option LayoutErr
 above c launch None = None
 above c launch (Some stage) = Some (ControlAboveMemory c stage launch)
 
--- no control turns above the stage from which memory is reached: the lowest stage where it does
+-- control turns nowhere above the stage from which memory is reached, or else the lowest stage where it does
 unfoldable pub turn_refusal : Parts → Class → Option LayoutErr
 turn_refusal parts c = above c (memory_launch_in parts.sidings) (find (nat_lt (memory_launch_in parts.sidings)) (turns_in (ascending (listed parts.units c)) (siding_for parts.sidings c)))
 
--- of branches, then of jumps
+-- for branches, then for jumps
 unfoldable pub control_refusal : Parts → Option LayoutErr
 control_refusal parts = or_else (turn_refusal parts Branch) (turn_refusal parts Jump)
 

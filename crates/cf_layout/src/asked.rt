@@ -17,7 +17,7 @@ pub(crate) fn is_within(least: u32, most: u32, number: i64) -> bool
     i64::from(least) <= number && number <= i64::from(most)
 }
 
-/// The number, which is one of 32 bits.
+/// The number, which fits 32 bits.
 pub(crate) fn natural(number: i64) -> u32
     requires { is_within 0 4294967295 number ≡ true }
     ensures { result ≡ natural number }

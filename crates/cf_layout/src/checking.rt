@@ -15,7 +15,7 @@ use crate::stage_set::StageSet;
 use crate::{Layout, LayoutErr, Listed, Parts, Siding};
 use rv_inst::Class;
 
-/// How many classes every processor computes: those in front of class order, all but multiplication and division.
+/// How many classes every processor computes: those at the front of class order, all but multiplication and division.
 const NEEDED: usize = 7;
 
 /// The refusal, unless the test holds.
@@ -56,7 +56,7 @@ fn check_stages(most: u32, class: Class, stages: &[i64]) -> Result<(), LayoutErr
     }
 }
 
-/// Tests a unit behind the others.
+/// Tests a unit, given the units before it.
 #[tactic(auto, unfolding(crate::specs::Refusal::unit_refusal))]
 fn check_unit(
     most: u32,
@@ -96,7 +96,7 @@ fn stands_before(
     is_unit(units, class) || is_sided(before, class) || names(earlier, class)
 }
 
-/// The first of the classes that stands before it, in a unit, in one of the sidings or among them.
+/// The first of the classes that is listed in a unit, in one of the sidings or earlier among them.
 #[tactic(auto, using(crate::proofs::Steps::repeated_step))]
 fn first_repeated(
     units: &[(Class, Listed<i64>)],
@@ -136,7 +136,7 @@ fn check_siding_stages(most: u32, siding: &Siding, first: Class) -> Result<(), L
     )
 }
 
-/// Tests the classes of a siding behind the units and the other sidings.
+/// Tests the classes of a siding, given the units and the sidings before it.
 #[tactic(auto, unfolding(crate::specs::Refusal::classes_refusal))]
 fn check_siding_classes(
     units: &[(Class, Listed<i64>)],
@@ -154,7 +154,7 @@ fn check_siding_classes(
     )
 }
 
-/// Tests a siding behind the units and the other sidings.
+/// Tests a siding, given the units and the sidings before it.
 #[tactic(auto, unfolding(crate::specs::Refusal::siding_refusal))]
 fn check_siding(
     most: u32,
@@ -256,7 +256,7 @@ fn memory_launch(sidings: &[Siding]) -> u32
     }
 }
 
-/// The lowest stage above the other one where the class can turn control.
+/// The lowest stage above the given one where the class can turn control.
 fn turn_above(
     units: &[(Class, Listed<i64>)],
     sidings: &[Siding],
@@ -309,7 +309,7 @@ fn count_stages(parts: &Parts) -> u32
     natural(parts.stages)
 }
 
-/// The layout that the parts describe, if they pass the tests, and else the first that they fail.
+/// The layout that the parts describe, if they pass the tests, or else the first test that they fail.
 #[tactic(auto, using(crate::proofs::Acceptance::accepted), unfolding(crate::specs::Refusal::refusal))]
 fn lay_out(parts: &Parts) -> Result<Layout, LayoutErr>
     requires { AreComputed parts.now }
@@ -328,7 +328,7 @@ fn lay_out(parts: &Parts) -> Result<Layout, LayoutErr>
     Ok(Layout::lay(parts))
 }
 
-/// The layout that the parts describe, if that is accepted, and else the first test that they fail.
+/// The layout that the parts describe, if that is accepted, or else the first test that they fail.
 ///
 /// The tests are, in this order: the number of stages, of entries in the lane and of sidings; each unit; each siding;
 /// that no class is missing; and that control turns at or below the stage from which memory is reached. Each entry

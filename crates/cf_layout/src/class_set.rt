@@ -36,7 +36,7 @@ impl Model for ClassSet {
     ghost inverse_ok = { λ s h i. record { word = classes_kept s.word h i } };
 }
 
-/// The word with the bit of the class, if that has one.
+/// The word with the bit of the class, if the class has one.
 #[tactic(auto, using(crate::proofs::Words::class_bit, crate::proofs::Words::no_class_bit))]
 fn with_class(word: u32, class: Class) -> u32
     ensures small { word < 2 ^ 9 → result < 2 ^ 9 }
@@ -60,7 +60,7 @@ fn add_class(list: &mut Vec<Class>, word: u32, class: Class) -> Result<(), Alloc
 }
 
 impl ClassSet {
-    /// No class.
+    /// No classes.
     #[tactic(auto, using(crate::proofs::Words::no_classes))]
     pub(crate) fn empty() -> ClassSet
         ensures { result ≡ [] }
@@ -88,7 +88,7 @@ impl ClassSet {
         self.word == other.word
     }
 
-    /// Whether the class is one of the set.
+    /// Whether the class is in the set.
     #[inline(always)]
     #[tactic(auto, using(crate::proofs::Words::class_in))]
     pub(crate) fn has(self, class: Class) -> bool

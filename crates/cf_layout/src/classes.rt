@@ -18,7 +18,7 @@ pub const CLASSES: [Class; 9] = [
     Class::Div,
 ];
 
-/// Where the class stands in class order; what neither units nor sidings compute stands behind the others.
+/// Where the class stands in class order; what neither units nor sidings compute comes after the others.
 #[inline(always)]
 pub(crate) fn place(class: Class) -> usize
     ensures { result ≡ place_of class }
@@ -38,7 +38,7 @@ pub(crate) fn place(class: Class) -> usize
     }
 }
 
-/// Whether the two are one class.
+/// Whether the two are the same class.
 pub(crate) fn is_same(a: Class, b: Class) -> bool
     ensures { result ≡ same_class a b }
 {

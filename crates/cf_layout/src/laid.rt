@@ -26,7 +26,7 @@ impl Model for Laid {
 }
 
 impl Laid {
-    /// Whether the two sidings have the same classes, stand in the same place and have as many cells.
+    /// Whether the two sidings have the same classes, stand in the same place and have equally many cells.
     pub(crate) fn same(&self, other: &Laid) -> bool
         ensures { IsTrue result ↔ (self.now ≡ other.now) }
     {

@@ -25,7 +25,7 @@ pub(crate) fn no_siding() -> Laid
     }
 }
 
-/// The units that are asked for: for each class in class order their stages.
+/// The units that are asked for: for each class in class order, their stages.
 #[tactic(auto, unfolding(crate::specs::Asked::units_plan))]
 pub(crate) fn lay_units(units: &[(Class, Listed<i64>)]) -> [StageSet; 9]
     ensures { result ≡ units_plan units.now }

@@ -117,7 +117,7 @@ impl Layout {
         &self.sidings[..self.count as usize]
     }
 
-    /// The siding of that number.
+    /// The siding with that number.
     #[inline(always)]
     fn siding(&self, siding: u32) -> &Laid
         requires { siding < length self.now.sidings }
@@ -150,7 +150,7 @@ impl Layout {
         }
     }
 
-    /// Whether the class goes through the siding of that number.
+    /// Whether the class goes through the siding with that number.
     #[tactic(auto, unfolding(crate::specs::Layout::serves))]
     pub fn serves(&self, siding: u32, class: Class) -> bool
         requires { siding < length self.now.sidings }
@@ -159,7 +159,7 @@ impl Layout {
         self.siding(siding).classes.has(class)
     }
 
-    /// The classes that go through the siding of that number, in class order.
+    /// The classes that go through the siding with that number, in class order.
     pub fn siding_classes(&self, alloc: Global, siding: u32) -> Result<Vec<Class>, AllocError>
         requires { siding < length self.now.sidings }
         ensures { IfOk result (λ list. list.items ≡ (siding_at self.now siding).classes) }
@@ -167,7 +167,7 @@ impl Layout {
         self.siding(siding).classes.list(alloc)
     }
 
-    /// The stage from which the siding of that number launches.
+    /// The stage from which the siding with that number launches.
     #[inline(always)]
     #[tactic(auto, unfolding(crate::specs::Layout::launch_stage))]
     pub fn launch_stage(&self, siding: u32) -> u32
@@ -177,7 +177,7 @@ impl Layout {
         self.siding(siding).launch
     }
 
-    /// The stage at which the siding of that number recovers.
+    /// The stage at which the siding with that number recovers.
     #[inline(always)]
     #[tactic(auto, unfolding(crate::specs::Layout::recover_stage))]
     pub fn recover_stage(&self, siding: u32) -> u32
@@ -187,7 +187,7 @@ impl Layout {
         self.siding(siding).recover
     }
 
-    /// How many cells the siding of that number has: 1 to 8.
+    /// How many cells the siding with that number has: 1 to 8.
     #[inline(always)]
     #[tactic(auto, unfolding(crate::specs::Layout::cells_of))]
     pub fn cells_of(&self, siding: u32) -> u32
@@ -197,7 +197,7 @@ impl Layout {
         self.siding(siding).cells
     }
 
-    /// The last stage of a class whose siding recovers at the stage, or which has no siding where that is the last one.
+    /// The last stage of a class, given the stage at which its siding recovers, or the pipeline's last if it has none.
     #[inline(always)]
     #[tactic(auto, unfolding(crate::specs::Layout::last_stage))]
     fn last_before(&self, class: Class, recovery: u32) -> u32
@@ -221,7 +221,7 @@ impl Layout {
         self.last_before(class, self.recovers_by(class))
     }
 
-    /// The same of a class without a siding, for which none is asked again.
+    /// The same for a class that has no siding, so that no siding is looked for again.
     #[inline(always)]
     pub fn last_unit_stage(&self, class: Class) -> u32
         requires { siding_of self.now class ≡ None }

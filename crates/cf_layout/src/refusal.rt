@@ -5,13 +5,13 @@ use rv_inst::Class;
 /// Why a layout is refused.
 #[derive(Clone, Copy, PartialEq, Eq)]
 pub enum LayoutErr {
-    /// The pipeline has not 2 to 32 stages: how many were asked for.
+    /// The pipeline does not have 2 to 32 stages: how many were asked for.
     StagesOutOfRange(i64),
-    /// The request lane has not 2 to 64 entries: how many were asked for.
+    /// The request lane does not have 2 to 64 entries: how many were asked for.
     LaneOutOfRange(i64),
-    /// The class has a unit or a siding at a stage that the pipeline has not.
+    /// The class has a unit or a siding at a stage that the pipeline does not have.
     StageOutOfRange(Class, i64),
-    /// The class stands in two units, in two sidings, in a unit and a siding, or twice in one siding.
+    /// The class is listed in two units, in two sidings, in a unit and a siding, or twice in one siding.
     ClassTwice(Class),
     /// The class has neither units nor a siding.
     MissingUnit(Class),
@@ -21,9 +21,9 @@ pub enum LayoutErr {
     MemoryNotSiding,
     /// Memory shares its siding with another class.
     MemorySharesSiding,
-    /// A siding launches from no lower stage than it recovers at: the two stages in this order.
+    /// A siding does not launch from a lower stage than it recovers at: the two stages in this order.
     SidingOrder(i64, i64),
-    /// A siding has not 1 to 8 cells: how many were asked for.
+    /// A siding does not have 1 to 8 cells: how many were asked for.
     CellsOutOfRange(i64),
     /// The class turns control at the first stage, which is above the second, from which memory is reached.
     ControlAboveMemory(Class, u32, u32),

@@ -57,7 +57,7 @@ fn add_stage(list: &mut Vec<u32>, word: u32, stage: u32) -> Result<(), AllocErro
 }
 
 impl StageSet {
-    /// No stage.
+    /// No stages.
     #[tactic(auto, using(crate::proofs::Words::no_stages))]
     pub(crate) fn empty() -> StageSet
         ensures { result ≡ [] }
@@ -94,7 +94,7 @@ impl StageSet {
         self.word == other.word
     }
 
-    /// Whether the stage is one of the set.
+    /// Whether the stage is in the set.
     #[inline(always)]
     #[tactic(auto, using(crate::proofs::Words::stage_in, crate::proofs::Words::stage_below, crate::proofs::Words::stage_above))]
     pub(crate) fn has(self, stage: u32) -> bool
@@ -106,7 +106,7 @@ impl StageSet {
         }
     }
 
-    /// The lowest stage of the set above the other one.
+    /// The lowest stage of the set above the other stage.
     #[tactic(auto, using(crate::proofs::Words::find_next, crate::proofs::Words::from_first, crate::proofs::Words::from_end))]
     pub(crate) fn first_above(self, other: u32) -> Option<u32>
         ensures { result ≡ find (nat_lt other) self }
@@ -119,7 +119,7 @@ impl StageSet {
         None
     }
 
-    /// The highest stage of the set, or else the other one.
+    /// The highest stage of the set, or else the other stage.
     #[inline(always)]
     #[tactic(auto, using(crate::proofs::Highest::last_of_some, crate::proofs::Highest::last_of_none))]
     pub(crate) fn last_or(self, other: u32) -> u32

@@ -1,4 +1,4 @@
--- The table of a layout has no fault, and says what the layout was asked for by.
+-- The table of a layout's parts has no fault, and asks for those parts.
 use Rattle.std.proofs.Common.{◌≡◌, ℕ, ℤ, pos, ◌≤◌, Ordering, Less, Equal, Greater, nat_cmp, is_eq, Bool, true, false, cond, le-leb, List, [], ◌∷◌, ◌++◌, length, map, codes, Option, Some, None, refl, sym, ap, ◌∙◌, arith}
 use Rattle.std.specs.Prelude.{◌&&◌}
 use Rattle.std.proofs.lemmas.Option.{none-some}
@@ -89,7 +89,7 @@ abbrev pub AllDiffer : List Class → Type 0
 AllDiffer [] = Unit {0}
 AllDiffer (c ∷ cs) = ClassesDiffer c cs × AllDiffer cs
 
--- none of these is a key
+-- none of these classes has its word as a key
 abbrev pub NoneIn : List Class → Members → Type 0
 NoneIn [] ms = Unit {0}
 NoneIn (c ∷ cs) ms = (get_member (class_name c) ms ≡ None) × NoneIn cs ms
@@ -126,7 +126,7 @@ kept : (f : Class → List ℕ) (cs : List Class) (c : Class) (ms : Members) →
 kept f [] c ms differ all gone = refl
 kept f (e ∷ cs) c ms differ all gone = kept-one f cs c e (f e) ms (λ n none. kept f cs c n differ.1 all.1 none) differ all gone
 
--- the units that the table gives are those that it was made of
+-- the units that the table gives are those that it was made from
 units-one : (f : Class → List ℕ) (cs : List Class) (c : Class) (stages : List ℕ) (ms : Members) → ((n : Members) → NoneIn cs n → units_among cs (unit_table (units_for f cs) n) ≡ units_for f cs)
     → AllDiffer (c ∷ cs) → NoneIn (c ∷ cs) ms → units_among (c ∷ cs) (unit_table (unit_for c stages ++ units_for f cs) ms) ≡ unit_for c stages ++ units_for f cs
 units-one f cs c [] ms ih all gone = rw (kept f cs c ms all.0 all.1 gone.1, gone.0) (ih ms gone.1)

@@ -23,7 +23,7 @@ names (c ∷ cs) = item (string (class_name c)) (names cs)
 abbrev pub format_number : Bool → ℤ
 format_number second = if second then pos 2 else pos 1
 
--- the members with that of the cache, which stands in format 2 alone
+-- the members and that of the cache, which is there only in format 2
 abbrev pub cache_member : Bool → Bool → Members → Members
 cache_member false cache rest = rest
 cache_member true cache rest = member (codes "cache") (boolean cache) rest
@@ -55,7 +55,7 @@ abbrev pub place : List ℕ → Data → Members → Members
 place k d no_members = member k d no_members
 place k d (member l e ms) = match_ordering (slice_cmp nat_cmp k l) (member k d (member l e ms)) (member l d ms) (member l e (place k d ms))
 
--- the units, each at its place, among those that stood before
+-- the units, each at its place, among those that were there before
 abbrev pub unit_table : List (Class × List ℤ) → Members → Members
 unit_table [] found = found
 unit_table (u ∷ us) found = unit_table us (place (class_name u.0) (array (integers u.1)) found)
@@ -85,7 +85,7 @@ top_table second p units = cache_member second p.cache (member (codes "format") 
 abbrev pub table_of : Bool → Parts → Members
 table_of second p = top_table second p (unit_table p.units no_members)
 
--- no array of integers or of words is one of tables
+-- no array of integers or of words is an array of tables
 pub integers_pair : (zs : List ℤ) → is_section (array (integers zs)) ≡ false
 integers_pair [] = refl
 integers_pair (z ∷ zs) = refl

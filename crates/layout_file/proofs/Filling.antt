@@ -55,7 +55,7 @@ pub get-place-other : (k l : List ℕ) (d : Data) (ms : Members) → same_key k 
 get-place-other k l d no_members h gone = other-step Less (slice_cmp nat_cmp k l) d d None None h refl
 get-place-other k l d (member j e ms) h gone = place-other-step (slice_cmp nat_cmp l j) k l j d e ms h gone (get-place-other k l d ms h)
 
--- the units' keys differ, and none is among these members
+-- the units' keys differ, and none of them is among these members
 abbrev pub AreAbsent : List (Class × List ℤ) → Members → Type 0
 AreAbsent [] ms = Unit {0}
 AreAbsent (u ∷ us) ms = (get_member (class_name u.0) ms ≡ None) × AreAbsent us ms
@@ -101,7 +101,7 @@ siding_filled : (s : Siding) → fill (siding_members s) no_nodes ≡ Some (sidi
 unfolding along_dots at_key
 siding_filled s = rw (names_pair s.classes)
 
--- the nodes with that of the cache, which stands in format 2 alone
+-- the nodes and that of the cache, which is there only in format 2
 abbrev cache_node : Bool → Bool → Nodes → Nodes
 cache_node false cache rest = rest
 cache_node true cache rest = node (codes "cache") (value (boolean cache)) rest
@@ -163,7 +163,7 @@ unfolding at_key
 first_siding false p units = refl
 first_siding true p units = refl
 
--- what the root is closed to, while sidings are read and where there is none
+-- what the root is closed to, while sidings are read and where there is no siding
 close_with : (second : Bool) (p : Parts) (units : Nodes) (s : Siding) (ss : List Siding) (done : Items) (last : Nodes) → p.sidings ≡ s ∷ ss → push_item done (table (close last)) ≡ siding_items (s ∷ ss) → close (root_with second p units done last) ≡ top_table second p (close units)
 close_with false p units s ss done last e shape = rw (e, shape) refl
 close_with true p units s ss done last e shape = rw (e, shape) refl

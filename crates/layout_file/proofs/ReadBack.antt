@@ -30,7 +30,7 @@ use Rattle.layout_file.proofs.Back.{IsWord, AreWords, AreRight, IsRightUnit, Are
 use Rattle.layout_file.proofs.Texts.{text_read}
 use Rattle.layout_file.proofs.Sizes.{accepted_small, text_short}
 
--- the entries of classes that differ differ
+-- the entries of different classes are different
 others_one : (f : Class → List ℕ) (c d : Class) (ds : List Class) (stages : List ℕ) → same_key (class_name d) (class_name c) ≡ false → AreOthers c (units_for f ds) → AreOthers c (unit_for d stages ++ units_for f ds)
 others_one f c d ds [] differ more = more
 others_one f c d ds (i ∷ is) differ more = (differ, more)
@@ -210,7 +210,7 @@ text_reads plan file a is utf8 =
       readable = λ e fails. fails_by file plan e d fails;
     }
 
--- an answer that tells why such a file is not read tells that memory ran out
+-- where such a file is not read, the answer is that memory ran out
 pub read_fails : {T : Type 0} (file : List ℕ) (plan : Plan) (r : Result T FileErr) → ReadsAs file plan → IfErr r (λ e. Fails file e) → IfErr r (λ e. e ≡ NoMemory)
 read_fails file plan (Ok x) reads h = tt
 read_fails file plan (Err e) reads h = reads.readable e h

@@ -196,14 +196,14 @@ two_text = refl
 started : (us : List (Class × List ℤ)) → after true (section ([], codes "units") (table (unit_members us))) ≡ true
 started us = refl
 
--- the lines behind the first ones
+-- the lines after the first ones
 body_written : (plan : Plan) → IsSmall plan → IsLinesText false true (section ([], codes "units") (table (unit_members (asking plan).units)) ++ sections [] (sidings_last (asking plan).sidings)) (body_text plan)
 unfolding body_text
 body_written plan small =
     let same : codes "\n[units]\n" ++ (unit_lines plan computed_classes ++ siding_lines plan.sidings) ≡ (codes "\n[units]\n" ++ unit_lines plan computed_classes) ++ siding_lines plan.sidings = refl in
     rw same (IsLinesText-append false true _ _ _ _ (units_text (asking plan).units _ (unit_pairs_text plan computed_classes small.units)) (rw (started (asking plan).units) (sidings_text plan.sidings small.sidings)))
 
--- the first lines, one after the other, and what is behind them
+-- the first lines, one after the other, and what follows them
 head_first : (plan : Plan) (rest : List ℕ) → head_text false plan ++ rest ≡ pair_line (codes "format") (codes "1") ++ (pair_line (codes "stages") (decimal plan.stages) ++ (pair_line (codes "lane") (decimal plan.lane) ++ rest))
 unfolding head_text
 head_first plan rest = simp append_assoc refl

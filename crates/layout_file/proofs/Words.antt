@@ -11,7 +11,7 @@ abbrev pub AllSmall : List Class → Type 0
 AllSmall [] = Unit {0}
 AllSmall (c ∷ cs) = IsComputed c × AllSmall cs
 
--- a class, or what is behind it, is computed where both are
+-- a class, or what comes after it, is computed where both are
 either : (b : Bool) (c : Class) (rest : Option Class) → IsComputed c → IfSome rest IsComputed → IfSome (cond b (Some c) rest) IsComputed
 either true c rest here behind = here
 either false c rest here behind = behind
@@ -31,7 +31,7 @@ pub class_computed : (second : Bool) (word : List ℕ) → IfSome (class_of seco
 unfolding class_of
 class_computed second word = found_computed (classes_in second) word (all_small second)
 
--- where it names none, `add` is one too
+-- where it names no class, `add` is computed too
 or_add : (o : Option Class) → IfSome o IsComputed → IsComputed (unwrap_or o Add)
 or_add None h = omega arith
 or_add (Some c) h = h

@@ -13,7 +13,7 @@ use Rattle.layout_file.specs.Reading.{asked_by, fault_of}
 abbrev pub Tells : FileErr → Option FileErr → Type 0
 Tells e fault = (e ≡ NoMemory) ⊎ (fault ≡ Some e)
 
--- the file is no TOML document: it is not UTF-8, or not in the grammar
+-- the file is not a TOML document: it is not UTF-8, or not in the grammar
 abbrev pub IsNotToml : List ℕ → Type 0
 IsNotToml file = IsUtf8 file → parse_document file ≡ None
 
@@ -25,7 +25,7 @@ IsDocument file ms = IsUtf8 file × (parse_document file ≡ Some ms)
 abbrev pub HasFault : List ℕ → FileErr → Type 0
 HasFault file e = (ms : Members) × IsDocument file ms × (fault_of ms ≡ Some e)
 
--- why reading a file that is not too long fails: want of memory, no document, or a document with a fault
+-- why reading a file that is not too long fails: lack of memory, no document, or a document with a fault
 abbrev pub FailsWithin : List ℕ → FileErr → Type 0
 FailsWithin file e = (e ≡ NoMemory) ⊎ (((e ≡ NotToml) × IsNotToml file) ⊎ HasFault file e)
 

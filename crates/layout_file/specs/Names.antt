@@ -23,11 +23,11 @@ class_name Div = codes "div"
 abbrev pub same_text : List ℕ → List ℕ → Bool
 same_text s t = pointwise nat_eq s t
 
--- the class of these with this word
+-- the class among these with this word
 abbrev pub class_among : List Class → List ℕ → Option Class
 class_among classes word = find (λ c. same_text (class_name c) word) classes
 
--- the classes that a file may name: `mul` and `div` in format 2 alone
+-- the classes that a file may name: `mul` and `div` only in format 2
 abbrev pub classes_in : Bool → List Class
 classes_in second = if second then computed_classes else take 7 computed_classes
 

@@ -15,7 +15,7 @@ use Rattle.layout_file.specs.declared.fault.FileErr.TheVariants.{UnknownClass, U
 use Rattle.layout_file.specs.Names.{class_name, class_of}
 use Rattle.layout_file.specs.Tables.{form_fault}
 
--- what a value is, where it is of its type
+-- what a value is, where it is of the type, or else 0, false or empty
 abbrev pub integer_in : Data → ℤ
 integer_in d = unwrap_or (as_integer d) (pos 0)
 

@@ -1,4 +1,4 @@
--- The tables of a layout file: which keys each may have and has to have, and of which types the values are. What TOML is, is what the crate `toml` reads: TOML 1.1.
+-- The tables of a layout file: which keys each table may have and must have, and what types the values are of. TOML is what the crate `toml` reads: TOML 1.1.
 use Rattle.std.specs.Prelude.{ℕ, suc, nat_le, List, [], ◌∷◌, codes, Bool, true, false, ◌||◌, ◌&&◌, if◌then◌else◌, Option, Some, None, is_some, option_map}
 use Rattle.std.specs.List.{list_any}
 use Rattle.std.specs.Option.{option_or}
@@ -22,13 +22,13 @@ top_keys = codes "format" ∷ codes "stages" ∷ codes "lane" ∷ codes "units" 
 abbrev pub siding_keys : List (List ℕ)
 siding_keys = codes "classes" ∷ codes "launch" ∷ codes "recover" ∷ codes "cells" ∷ []
 
--- the keys that a table may have: `cache` stands in format 2 alone
+-- the keys that a table may have: `cache` only in format 2
 unfoldable pub knows : Form → List ℕ → Bool
 knows (Top second) k = is_among k top_keys || (second && same_text k (codes "cache"))
 knows (Units second) k = is_some (class_of second k)
 knows Siding k = is_among k siding_keys
 
--- the keys that a table has to have, in byte order
+-- the keys that a table must have, in byte order
 abbrev pub needed : Form → List (List ℕ)
 needed (Top true) = codes "cache" ∷ codes "format" ∷ codes "lane" ∷ codes "stages" ∷ codes "units" ∷ []
 needed (Top false) = codes "format" ∷ codes "lane" ∷ codes "stages" ∷ codes "units" ∷ []
@@ -81,7 +81,7 @@ abbrev pub first_absent : List (List ℕ) → Members → Option (List ℕ)
 first_absent [] ms = None
 first_absent (k ∷ ks) ms = if is_some (get_member k ms) then first_absent ks ms else Some k
 
--- the first key in byte order whose value has a wrong type
+-- the first key in byte order whose value is of the wrong type
 abbrev pub first_misfit : Form → Members → Option (List ℕ)
 first_misfit f no_members = None
 first_misfit f (member k d ms) = if fits f k d then first_misfit f ms else Some k

@@ -8,7 +8,7 @@ use Rattle.layout_file.specs.Names.{class_name}
 unfoldable pub pair_line : List ℕ → List ℕ → List ℕ
 pair_line key value = key ++ (codes " = " ++ (value ++ codes "\n"))
 
--- what stands behind the first text of an array, with the closing bracket
+-- what follows the first text of an array, with the closing bracket
 abbrev pub rest_text : List (List ℕ) → List ℕ
 rest_text [] = codes "]"
 rest_text (t ∷ ts) = codes ", " ++ (t ++ rest_text ts)
@@ -22,7 +22,7 @@ array_text (t ∷ ts) = codes "[" ++ (t ++ rest_text ts)
 abbrev pub quoted_name : Class → List ℕ
 quoted_name c = codes "\"" ++ (class_name c ++ codes "\"")
 
--- the line of a unit: none for a class without stages
+-- the line of a unit: no line for a class without stages
 abbrev pub unit_line : Class → List ℕ → List ℕ
 unit_line c [] = []
 unit_line c (stage ∷ stages) = pair_line (class_name c) (array_text (map decimal (stage ∷ stages)))
@@ -53,7 +53,7 @@ needs_second plan = plan.cache || has_mul plan
 abbrev pub truth_text : Bool → List ℕ
 truth_text b = if b then codes "true" else codes "false"
 
--- the line of the cache, in format 2 alone
+-- the line of the cache, only in format 2
 abbrev pub cache_line : Bool → Bool → List ℕ
 cache_line second cache = if second then pair_line (codes "cache") (truth_text cache) else []
 

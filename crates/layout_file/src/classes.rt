@@ -26,7 +26,7 @@ pub fn class_name(class: Class) -> &'static str
     }
 }
 
-/// The class of these with this word.
+/// The class among these with this word.
 fn class_among(classes: &[Class], word: &str) -> Option<Class>
     ensures { result ≡ class_among classes.now word.now }
 {
@@ -36,7 +36,7 @@ fn class_among(classes: &[Class], word: &str) -> Option<Class>
         .find(|class| class_name(*class) == word)
 }
 
-/// How many of the classes in class order a file of format 1 may name: `mul` and `div` stand behind them.
+/// How many of the classes in class order a file of format 1 may name: `mul` and `div` come after them.
 const FIRST_FORMAT: usize = 7;
 
 /// The class of a word, in a file of format 2 or of format 1.

@@ -1,21 +1,21 @@
-//! Why a file is no layout.
+//! Why a file is not a layout.
 
 use crate::Name;
 use cf_layout::LayoutErr;
 use std::alloc::{AllocError, AllocFailed};
 
-/// Why a file is no layout.
+/// Why a file is not a layout.
 #[derive(Drop)]
 pub enum FileErr {
     /// The file has more than `MOST_LAYOUT` bytes.
     TooLong,
-    /// The file is no TOML document.
+    /// The file is not a TOML document.
     NotToml,
     /// A table has this key, which it may not have.
     UnknownKey(Name),
     /// A table lacks this key.
     MissingKey(Name),
-    /// The value at this key is of a wrong type, or is an array of more than 1,000 elements.
+    /// The value at this key is of the wrong type, or is an array of more than 1,000 elements.
     WrongType(Name),
     /// This word names no class.
     UnknownClass(Name),

@@ -1,6 +1,6 @@
 //! The forms of tables and of values.
 
-/// Which table of a layout file it is, and where that counts whether the file is of format 2.
+/// Which table of a layout file it is, and where that matters, whether the file is of format 2.
 #[derive(Clone, Copy)]
 pub(crate) enum Form {
     /// The whole document.

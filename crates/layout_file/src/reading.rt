@@ -24,7 +24,7 @@ use rv_inst::Class;
 use std::alloc::{AllocError, Global};
 use toml::{Table, Value};
 
-/// The integer that a value is.
+/// The value as an integer, or 0.
 fn integer_in(value: &Value) -> i64
     ensures { result ≡ integer_in (view value.now) }
 {
@@ -92,7 +92,7 @@ fn integers(alloc: Global, array: &[Value]) -> Result<Vec<i64>, AllocError>
     Ok(list)
 }
 
-/// The text that a value is.
+/// The value as a text, or an empty text.
 fn text_in(value: &Value) -> &str
     ensures { result.now ≡ text_in (view value.now) }
 {
@@ -271,10 +271,10 @@ fn layout_in(alloc: Global, table: &Table) -> Result<Layout, FileErr>
 pub const MOST_LAYOUT: usize = 65_536;
 
 /// Reads a layout file of format 1 or 2: a TOML document with the keys `format`, `stages`, `lane`, the table `units`,
-/// and the array of tables `siding`; format 2 has the key `cache` besides, and the classes `mul` and `div`.
+/// and the array of tables `siding`; format 2 also has the key `cache`, and the classes `mul` and `div`.
 ///
 /// The tables are tested in this order: the document, `units`, each siding. In each a key that is unknown is looked for
-/// first, then one that is missing, then one whose value is of a wrong type, each the first in byte order; then the
+/// first, then one that is missing, then one whose value is of the wrong type, each the first in byte order; then the
 /// format, or the first word of a siding that names no class. What the tables ask for is tested last.
 pub fn read_layout(alloc: Global, file: &[u8]) -> Result<Layout, FileErr>
     ensures ok { IfOk result (λ layout. Describes file.now layout) }

@@ -165,7 +165,7 @@ fn missing_key(form: Form, table: &Table) -> Option<&'static str>
     }
 }
 
-/// The first key in byte order whose value has a wrong type.
+/// The first key in byte order whose value is of the wrong type.
 fn misfit_key(form: Form, table: &Table) -> Option<&String>
     ensures { option_map (λ k. string_bytes k.now) result ≡ first_misfit form (table_view table.now) }
 {

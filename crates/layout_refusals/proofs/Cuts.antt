@@ -12,7 +12,7 @@ use Rattle.rv_inst.specs.declared.classes.Class.TheVariants.{Add, Logic, Shift, 
 use Rattle.layout_file.specs.Names.{class_name}
 use Rattle.layout_refusals.specs.Texts.{cut}
 
--- of two numbers one is below the other, or not
+-- of two numbers the first is below the second, or not
 order : (m n : ℕ) → (m < n) ⊎ (n ≤ m)
 order m n = elim (cases_Bool (nat_lt m n)) [
   | inl less ↦ inl (grind (arith, nat_tests))

@@ -9,7 +9,7 @@ use Rattle.layout_file.specs.declared.fault.FileErr.{FileErr}
 use Rattle.layout_file.specs.declared.fault.FileErr.TheVariants.{TooLong, NotToml, UnknownKey, MissingKey, WrongType, UnknownClass, UnknownFormat, Refused, NoMemory}
 use Rattle.cf_texts.specs.Texts.{line}
 
--- a text of at most 40 bytes, or of a longer one its front up to the last of those places at which a character ends
+-- a text of at most 40 bytes, or for a longer one its front, up to the last place within 40 bytes at which a character ends
 unfoldable pub cut : List ℕ → List ℕ
 cut text = if nat_le (length text) 40 then text else take (floor_char_boundary text 40) text
 
@@ -18,7 +18,7 @@ unfoldable pub spaced : List (List ℕ) → List ℕ
 spaced [] = []
 spaced (text ∷ texts) = codes " " ++ text ++ spaced texts
 
--- a name and what is kept behind it
+-- a name, and after it what is kept
 unfoldable pub variant : List ℕ → List (List ℕ) → List ℕ
 variant name kept = name ++ spaced kept
 
@@ -38,7 +38,7 @@ layout_text (ControlAboveMemory c stage launch) = variant (codes "ControlAboveMe
 layout_text (TooManySidings sidings) = variant (codes "TooManySidings") (decimal sidings ∷ [])
 layout_text (EmptySiding index) = variant (codes "EmptySiding") (decimal index ∷ [])
 
--- why a file is no layout
+-- why a file is not a layout
 unfoldable pub fault_text : FileErr → List ℕ
 fault_text TooLong = variant (codes "TooLong") []
 fault_text NotToml = variant (codes "NotToml") []

@@ -3,7 +3,7 @@
 ghost use Rattle.std.specs.Prelude.{◌≡◌, ◌≤◌, length};
 ghost use Rattle.layout_refusals.specs.Texts.{cut};
 
-/// The text, or its front where it has over 40 bytes: at most 40 of them, and no character is cut.
+/// The text, or its front where it has over 40 bytes: at most 40 of them, with no character split.
 #[tactic(auto, using(crate::proofs::Cuts::cut_here))]
 pub(crate) fn cut(text: &str) -> &str
     ensures front { result.now ≡ cut text.now }

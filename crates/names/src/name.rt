@@ -4,7 +4,7 @@ ghost use Rattle.std.specs.Prelude.{◌≡◌, string_bytes};
 
 use std::marker::Model;
 
-/// A name, as that of a label or of a key: made from a `String`, and lending it.
+/// A name, such as that of a label or of a key: made from a `String`, and lending it.
 #[derive(Drop)]
 pub struct Name {
     text: String,
@@ -19,7 +19,7 @@ impl Model for Name {
 }
 
 impl Name {
-    /// The name that a text is.
+    /// The name with this text.
     pub fn new(text: String) -> Name
         ensures { result ≡ string_bytes text }
     {

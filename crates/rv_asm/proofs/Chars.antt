@@ -5,7 +5,7 @@ use Rattle.std.proofs.lemmas.Bool.Decides.{nat_tests}
 use Rattle.std.proofs.lemmas.List.{append-nil}
 use Rattle.rv_asm.specs.Strings.{onto, ended, string_from}
 
--- a `"` ends a string at the end of the text alone
+-- a `"` ends a string only at the end of the text
 pub quote_alone : (rest : List ℕ) → string_from false (34 ∷ rest) ≡ ended (34 ∷ rest)
 quote_alone [] = refl
 quote_alone (byte ∷ rest) = grind (arith, nat_tests)

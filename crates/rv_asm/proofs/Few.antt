@@ -30,7 +30,7 @@ use Rattle.rv_asm.proofs.Passing.{Passes, passes, passes_line}
 use Rattle.rv_asm.proofs.Shorter.{cut-shorter}
 use Rattle.rv_asm.proofs.Sized.{Looks, looks, spelt-length, sections-sized}
 
--- how many bytes lines have in all
+-- how many bytes lines have in total
 abbrev bytes_of : List (List ℕ) → ℕ
 bytes_of [] = 0
 bytes_of (line ∷ lines) = length line + bytes_of lines
@@ -91,7 +91,7 @@ name-no-nul : (text : List ℕ) → HasNoNul (take (name_length text) text)
 name-no-nul [] = All-nil IsNoNul
 name-no-nul (byte ∷ text) = name-by (is_name_byte byte) (name_length text) byte text (name-byte byte) (name-no-nul text)
 
--- a label has a byte at least, and a colon behind it
+-- a label has at least one byte, and a colon after it
 started-by : (a b : Bool) (n : ℕ) → b ≡ true → (b || a) ≡ true → 1 ≤ cond (b || a) (1 + n) 0
 started-by a true n e h = omega arith
 started-by a false n e h = absurd (cc)
@@ -117,7 +117,7 @@ label-length text e =
     let colon = started-length (drop (name_length text) text) both.1 in
     (one, omega (arith, colon, length-drop (name_length text) text))
 
--- so many labels, with names so long, may stand in so many bytes
+-- labels that can stand in this many bytes with their names and colons, and names without NUL
 record AreFew (labels : List Named) (bytes : ℕ) : Type 0 where
   count : 2 * length labels ≤ bytes
   names : length labels + length (joined_names labels) ≤ bytes
@@ -236,7 +236,7 @@ looked-few lines sections e =
     let few = draft-few 0 (record { place = start; labels = [] }) last lines 0 l.drafted.1 no-labels in
     sections-few 0 (empty l.labels) sections lines (bytes_of lines) l.filled (more-bytes l.labels (0 + bytes_of lines) (bytes_of lines) (omega arith) few)
 
--- what an object of few and short labels and of sized sections is
+-- an object with few and short labels and with sized sections is small
 small-object : (sections : Sections) (object : Object) (n : ℕ) → AreSized sections → AreFew sections.labels n → n ≤ 1048576 → IsObject sections object → IsSmall object
 small-object sections object n sized few within is = record {
   text = omega (arith, spelt-length sections.text object.text_bytes is.text_bytes, sized.text, sized.place.text);

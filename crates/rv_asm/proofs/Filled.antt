@@ -45,7 +45,7 @@ has_pieces : (bytes : List ℕ) (answer : Result (List Piece) AsmKind) → Gives
 has_pieces bytes (Ok pieces) h = record { pieces = pieces; is = refl; spells = h }
 has_pieces bytes (Err kind) h = absurd h
 
--- the sections behind a line
+-- the sections after a line
 record GoesOn (sections : Sections) (text : List ℕ) (new : Output) : Type 0 where
   next : Sections
   goes : filled sections text ≡ Ok next

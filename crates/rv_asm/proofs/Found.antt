@@ -29,7 +29,7 @@ others_stay : {K X : Type 0} (eq : K → K → Bool) (test : K → Bool) (old ne
 unfolding KeepsOthers
 others_stay eq test old new h = h
 
--- what is found at a name and at the others is found at each
+-- what is found at a name, and what is found at all others, is what is found at each
 by_name : (f g : List ℕ → Option ℕ) (name : List ℕ) (w : Option ℕ) → g name ≡ w → ((other : List ℕ) → bytes_eq name other ≡ false → g other ≡ f other)
     → (other : List ℕ) → g other ≡ cond (bytes_eq name other) w (f other)
 by_name f g name w here others other =
@@ -53,7 +53,7 @@ below_or_last place count h =
     ⊎_elim (λ (y : ltb place count ≡ true). inl (grind (arith, nat_tests))) (λ (n : ltb place count ≡ false). inr (grind (arith, nat_tests)))
     (cases_Bool (ltb place count))
 
--- a name that stands in the list is another than one that was not found
+-- a name in the list differs from one that was not found
 is_apart : (names : List (List ℕ)) (found : List ℕ → Option ℕ) (name : List ℕ) (place : ℕ) (d : List ℕ) → FindsNames names found → found name ≡ None
     → place < length names → bytes_eq name (slice_index_or names place d) ≡ false
 is_apart names found name place d finds unknown within =
@@ -115,7 +115,7 @@ finds_after names found next name finds unknown after = record {
 
 -- ---- labels and what is found
 
--- the first element that passes stands at the place before which none passes
+-- the first element that passes is the one at a place before which no element passes
 find_at : (p : Named → Bool) (xs : List Named) (k : ℕ) (d : Named) → k < length xs → p (slice_index_or xs k d) ≡ true
     → ((i : ℕ) → i < k → p (slice_index_or xs i d) ≡ false) → find p xs ≡ Some (slice_index_or xs k d)
 find_at p [] k d within passes before = absurd (omega arith)
@@ -127,7 +127,7 @@ find_none : (p : Named → Bool) (xs : List Named) (d : Named) → ((i : ℕ) �
 find_none p [] d none = refl
 find_none p (x ∷ xs) d none = rw (none 0 (omega arith)) (find_none p xs d (λ i below. none (suc i) (omega arith)))
 
--- a label without a name, for where none stands
+-- a label without a name, for places where there is no label
 blank : Named
 blank = record { name = []; value = 0; in_text = false; global = false }
 
@@ -154,7 +154,7 @@ found_within labels found name place finds told =
     let within = finds.within name place told in
     omega (arith, length-map labels (λ (label : Named). label.name))
 
--- and that one has it
+-- and that label has it
 that_label : (labels : List Named) (found : List ℕ → Option ℕ) (name : List ℕ) (place : ℕ) (d : Named) → FindsNames (names_of labels) found → found name ≡ Some place
     → bytes_eq (slice_index_or labels place d).name name ≡ true
 that_label labels found name place d finds told =
@@ -172,7 +172,7 @@ value_found labels found name place d finds told =
     (λ i below. other_label labels found name finds i d (omega arith) (λ e. let same : Some i ≡ Some place = sym e ∙ told in let at : i ≡ place = cc in absurd (omega arith))) in
     ap (option_map (λ (label : Named). label.value)) first
 
--- a name that is not found has none
+-- a name that is not found has no value
 pub value_missing : (labels : List Named) (found : List ℕ → Option ℕ) (name : List ℕ) → FindsNames (names_of labels) found → found name ≡ None → value_of labels name ≡ None
 unfolding value_of
 value_missing labels found name finds told =
@@ -212,7 +212,7 @@ exported_found labels found name place d finds told =
     (λ i below other. rw (other_label labels found name finds i d below (λ e. let same : Some i ≡ Some place = sym e ∙ told in other (cc))) refl)
     ∙ ap (slice_set labels place) marked
 
--- none is where the name is not found
+-- no label is marked where the name is not found
 pub exported_missing : (labels : List Named) (found : List ℕ → Option ℕ) (name : List ℕ) → FindsNames (names_of labels) found → found name ≡ None → exported labels name ≡ labels
 unfolding exported
 exported_missing labels found name finds told =

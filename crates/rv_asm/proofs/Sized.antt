@@ -97,7 +97,7 @@ item-sized labels pc (Chars bytes zero) ps e =
 item-sized labels pc (Zeros count) ps e =
     let same : (Bytes (replicate count 0) ∷ []) ≡ ps = cc in rw (← same) (omega (arith, length-replicate {A = ℕ} count 0))
 
--- how long the sections are behind an item
+-- how long the sections are after an item
 grown-text : (b : Bool) (p : Place) (n : ℕ) → (cond b (record p { text_len = p.text_len + n }) (record p { data_len = p.data_len + n })).text_len ≡ p.text_len + cond b n 0
 grown-text true p n = refl
 grown-text false p n = omega arith
@@ -136,7 +136,7 @@ data-after p (Numbers width operands) = grown-data p.in_text p (size_of (Numbers
 data-after p (Chars bytes zero) = grown-data p.in_text p (size_of (Chars bytes zero))
 data-after p (Zeros count) = grown-data p.in_text p count
 
--- an item that fits makes no section longer than may be
+-- an item that fits makes no section longer than allowed
 fits-by : (a b : Bool) (kind other : AsmKind) (answer : Result (Unit {0}) AsmKind)
     → answer ≡ cond a (Err kind) (cond b (Err other) (Ok tt)) → answer ≡ Ok tt → b ≡ false
 fits-by true b kind other answer e h = absurd (cc)

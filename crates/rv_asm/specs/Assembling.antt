@@ -37,14 +37,14 @@ with_label labels place (Some name) =
     if is_some (value_of labels name) then Err LabelTwice
     else Ok (labels ++ record { name = name; value = address_of place; in_text = place.in_text; global = false } ∷ [])
 
--- what is known behind a line that says this: first its label counts, then its statement
+-- what is known after a line that says this: first its label counts, then its statement
 unfoldable pub drafted : Draft → List ℕ → Result Draft AsmKind
 drafted draft text =
     and_then (with_label draft.labels draft.place (label_in text)) (λ labels.
     and_then (item_at draft.place (statement_in text)) (λ item.
     Ok (record { place = place_after draft.place item; labels = labels })))
 
--- what is known behind all lines, which is where they end and the labels
+-- what is known after all lines: where they end, and the labels
 abbrev pub draft_from : ℕ → Draft → List (List ℕ) → Result Draft AsmErr
 draft_from above draft [] = Ok draft
 draft_from above draft (line ∷ lines) =
@@ -62,7 +62,7 @@ abbrev pub marked : List Named → Item → List Named
 marked labels (Export name) = exported labels name
 marked labels item = labels
 
--- what stands in the sections behind an item, whose pieces stand behind those of its section
+-- what stands in the sections after an item, whose pieces come after those of its section
 abbrev pub placed : Sections → Item → List Piece → Sections
 placed sections item pieces = record {
   place = place_after sections.place item;
@@ -71,14 +71,14 @@ placed sections item pieces = record {
   labels = marked sections.labels item;
 }
 
--- what stands in the sections behind a line that says this
+-- what stands in the sections after a line that says this
 unfoldable pub filled : Sections → List ℕ → Result Sections AsmKind
 filled sections text =
     and_then (item_at sections.place (statement_in text)) (λ item.
     and_then (pieces_of sections.labels (address_of sections.place) item) (λ pieces.
     Ok (placed sections item pieces)))
 
--- what stands in the sections behind all lines
+-- what stands in the sections after all lines
 abbrev pub sections_from : ℕ → Sections → List (List ℕ) → Result Sections AsmErr
 sections_from above sections [] = Ok sections
 sections_from above sections (line ∷ lines) =

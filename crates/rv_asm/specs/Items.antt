@@ -6,7 +6,8 @@ use Rattle.rv_asm.specs.declared.operations.Width.{Width}
 use Rattle.rv_asm.specs.declared.item.Far.{Far}
 use Rattle.rv_asm.specs.Operands.{bytes_of_width}
 
--- nothing; a change to the text or to the data; a name that is exported; one or two instructions; a jump or a branch to a label; the address of a label in two instructions; numbers, of which words may be labels; a string, and whether a zero follows; so many zeros
+-- nothing; a change to the text or to the data; a name that is exported; one or two instructions; a jump or a branch to a label; the address of a label,
+-- or a call to it, in two instructions; numbers, which may be labels where they are words; a string, and whether a zero follows; a number of zeros
 pub data Item : Type 0 where
   Nothing : Item
   Section : (in_text : Bool) → Item

@@ -12,7 +12,7 @@ place_of places name = get_by (λ key. slice_cmp nat_cmp name key.items) places
 abbrev pub names_of : List Named → List (List ℕ)
 names_of labels = map (λ label. label.name) labels
 
--- each name is found at its own place, so that none stands twice, and what is found is a place of the name
+-- each name is found at its own place, so that no name is there twice, and what is found is a place of the name
 pub record FindsNames (names : List (List ℕ)) (found : List ℕ → Option ℕ) : Type 0 where
   pub each : (place : ℕ) (d : List ℕ) → place < length names → found (slice_index_or names place d) ≡ Some place
   pub within : (name : List ℕ) (place : ℕ) → found name ≡ Some place → place < length names

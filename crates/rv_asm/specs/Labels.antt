@@ -10,15 +10,15 @@ pub record Named : Type 0 where
   pub in_text : Bool
   pub global : Bool
 
--- the value of the label of a name
+-- the value of the label with this name
 unfoldable pub value_of : List Named → List ℕ → Option ℕ
 value_of labels name = option_map (λ label. label.value) (find (λ label. bytes_eq label.name name) labels)
 
--- a label, exported where it has the name
+-- a label, exported where it has this name
 abbrev pub exported_as : List ℕ → Named → Named
 exported_as name label = if bytes_eq label.name name then record label { global = true } else label
 
--- the labels, where the label of a name is exported
+-- the labels, with the label of this name exported
 unfoldable pub exported : List Named → List ℕ → List Named
 exported labels name = map (exported_as name) labels
 

@@ -19,6 +19,6 @@ abbrev pub Objects : Object → Result Sections AsmErr → Type 0
 Objects object (Ok sections) = IsObject sections object
 Objects object (Err e) = ⊥
 
--- the refusal is the answer, where memory is not refused
+-- the refusal is the answer, unless it is a lack of memory
 abbrev pub Refuses : AsmErr → Result Sections AsmErr → Type 0
 Refuses e answer = (e.kind ≡ NoMemory) ⊎ (answer ≡ Err e)

@@ -10,7 +10,7 @@ use Rattle.rv_asm.specs.declared.operations.Width.TheVariants.{Byte, Half, Word}
 use Rattle.rv_asm.specs.Answers.{and_then}
 use Rattle.rv_asm.specs.Scanning.{begins_name}
 
--- so many operands stand in a text
+-- a text has this many operands
 unfoldable pub count_is : ℕ → List ℕ → Result (Unit {0}) TextErr
 count_is wanted text =
     if operand_count text == wanted then Ok tt else Err (WrongCount (counted (operand_count text)) wanted)
@@ -41,7 +41,7 @@ number_of_width Byte text = number_in (negsuc 0x7f) (pos 0xff) text
 number_of_width Half text = number_in (negsuc 0x7fff) (pos 0xffff) text
 number_of_width Word text = number_in (negsuc 0x7fffffff) (pos 0xffffffff) text
 
--- an operand that stands for a label: one of a word that begins like a name
+-- an operand that stands for a label: one for a word, which begins like a name
 abbrev pub names_label : Width → List ℕ → Bool
 names_label Byte text = false
 names_label Half text = false

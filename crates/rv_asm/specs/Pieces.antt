@@ -42,7 +42,7 @@ operand_value labels width operand =
     if names_label width operand then and_then (label_value labels operand) (λ v. Ok (pos v))
     else as_text (number_of_width width operand)
 
--- the bytes so far, and behind them those of the operands, the low byte of each first
+-- the bytes so far, and after them those of the operands, the low byte of each first
 abbrev pub bytes_from : List Named → Width → List ℕ → List (List ℕ) → Result (List ℕ) AsmKind
 bytes_from labels width bytes [] = Ok bytes
 bytes_from labels width bytes (operand ∷ operands) =

@@ -1,4 +1,4 @@
--- Where a line stands: in the text or in the data, behind what stands there already.
+-- Where a line stands: in the text or in the data, after what stands there already.
 use Rattle.std.specs.Prelude.{ℕ, ◌≤◌, ◌+◌, ◌%◌, ◌==◌, ◌&&◌, ◌||◌, not, nat_lt, true, Result, Ok, Err, List, if◌then◌else◌}
 use Rattle.rv_asm.specs.declared.refusal.AsmKind.{AsmKind}
 use Rattle.rv_asm.specs.declared.refusal.AsmKind.TheVariants.{Misplaced, TooLarge}
@@ -15,22 +15,22 @@ start = record { in_text = true; text_len = 0; data_len = 0 }
 unfoldable pub address_of : Place → ℕ
 address_of place = if place.in_text then 0x10000 + place.text_len else 0x200000 + place.data_len
 
--- how long the section is that a place is in
+-- the length of the section that a place is in
 abbrev pub length_at : Place → ℕ
 length_at place = if place.in_text then place.text_len else place.data_len
 
--- behind so many bytes
+-- this many bytes further
 abbrev pub grown : Place → ℕ → Place
 grown place size =
     if place.in_text then record place { text_len = place.text_len + size }
     else record place { data_len = place.data_len + size }
 
--- the place behind an item
+-- the place after an item
 unfoldable pub place_after : Place → Item → Place
 place_after place (Section in_text) = record place { in_text = in_text }
 place_after place item = grown place (size_of item)
 
--- the item may stand there: instructions in the text at a multiple of 4, and no section is over 1,048,576 bytes
+-- the item may stand there: instructions only in the text at a multiple of 4, and its section is then no longer than 1,048,576 bytes
 unfoldable pub fits_at : Place → Item → Result (Unit {0}) AsmKind
 fits_at place item =
     if is_code item && (not place.in_text || not (address_of place % 4 == 0)) then Err Misplaced

@@ -32,7 +32,7 @@ word_modulo z = unsigned_abs (int_rem_euclid z (pos (2 ^ 32)))
 abbrev pub addi : ℕ → ℕ → ℤ → Instr
 addi rd rs imm = instr.OpImm immop.Add rd rs imm
 
--- the upper twenty bits for a word, such that the rest lies from -2048 to 2047
+-- the upper twenty bits for a word, such that the rest is from -2048 to 2047
 abbrev pub upper_part : ℕ → ℕ
 upper_part v = (v + 2048) / 4096 % 2 ^ 20
 
@@ -51,7 +51,7 @@ loading rd v =
     else if word_difference v (4096 * upper_part v) == 0 then Single (instr.Lui rd (upper_part v))
     else Double (instr.Lui rd (upper_part v)) (addi rd rd (lower_part v))
 
--- the two instructions that reach over a distance: they put the address into a register, or they call there
+-- the two instructions that reach over a distance: they put the address into a register, or they call it
 unfoldable pub reaching : Far → ℕ → Item
 reaching (far.Address rd) v = Double (instr.Auipc rd (upper_part v)) (addi rd rd (lower_part v))
 reaching far.Call v = Double (instr.Auipc 1 (upper_part v)) (instr.Jalr 1 1 (lower_part v))
@@ -67,7 +67,7 @@ unfoldable pub jumped : Jump → ℕ → List ℕ → Result Item TextErr
 jumped j pc operand =
     if begins_name operand then Ok (Near j operand) else and_then (aimed_at j operand pc) (λ i. Ok (Single i))
 
--- a register and a number of 32 bits, signed or unsigned: the instructions that load it
+-- a register and a number of 32 bits, signed or unsigned: the instructions that load the number into the register
 unfoldable pub loaded : List ℕ → Result Item TextErr
 loaded text =
     and_then (count_is 2 text) (λ u.

@@ -41,7 +41,7 @@ one_number greatest text =
     and_then (count_is 1 text) (λ u.
     and_then (number_in (pos 0) (pos greatest) (operand_at text 0)) (λ z. Ok (unsigned_abs z)))
 
--- how many bytes are missing from an address up to a multiple of a size
+-- how many bytes an address is short of a multiple of a size
 abbrev pub padding : ℕ → ℕ → ℕ
 padding address size = (size - address % size) % size
 
@@ -73,14 +73,14 @@ instruction_read mnemonic pc text = and_then (statement_by mnemonic text) (targe
 unfoldable pub unknown : List ℕ → AsmKind
 unknown name = if starts_with nat_eq name (codes ".") then UnknownDirective else Text UnknownName
 
--- what the operands stand for behind a name that may name one of the three
+-- what operands stand for after a name that may name a directive, a pseudo-instruction or an instruction: the first of these counts
 abbrev pub meant : Option Directive → Option Pseudo → Option Mnemonic → List ℕ → ℕ → List ℕ → Result Item AsmKind
 meant (Some directive) p m name pc text = directive_read directive pc text
 meant None (Some pseudo) m name pc text = as_text (pseudo_read pseudo pc text)
 meant None None (Some mnemonic) name pc text = as_text (instruction_read mnemonic pc text)
 meant None None None name pc text = Err (unknown name)
 
--- what operands stand for behind a name
+-- what operands stand for after a name
 unfoldable pub named_read : List ℕ → ℕ → List ℕ → Result Item AsmKind
 named_read name pc text =
     meant (directive_named name) (pseudo_named name) (mnemonic_named name) name pc text

@@ -24,7 +24,7 @@ abbrev pub begins_name : List ℕ → Bool
 begins_name [] = false
 begins_name (byte ∷ rest) = is_name_start byte
 
--- how far the name reaches that a text begins with
+-- how far the name at the beginning of a text reaches
 abbrev pub name_length : List ℕ → ℕ
 name_length text = prefix_len is_name_byte text
 
@@ -32,7 +32,7 @@ name_length text = prefix_len is_name_byte text
 unfoldable pub is_name : List ℕ → Bool
 is_name text = begins_name text && name_length text == length text
 
--- what a byte makes of being in a string or not: `"` opens and closes it, and `\` takes the next byte's meaning away
+-- whether a string is open after a byte: `"` opens and closes it, and `\` takes the next byte's meaning away
 unfoldable pub quote_after : Quote → ℕ → Quote
 quote_after Outside byte = if byte == 34 then Inside else Outside
 quote_after Inside byte = if byte == 34 then Outside else if byte == 92 then Escaped else Inside
@@ -53,7 +53,7 @@ comment_at quote (byte ∷ rest) =
 unfoldable pub said : List ℕ → List ℕ
 said line = trimmed (take (comment_at Outside line) line)
 
--- the text begins with a label: a name, and right behind it `:`
+-- the text begins with a label: a name, and right after it `:`
 unfoldable pub has_label : List ℕ → Bool
 has_label text = begins_name text && starts_with nat_eq (drop (name_length text) text) (codes ":")
 
@@ -61,6 +61,6 @@ has_label text = begins_name text && starts_with nat_eq (drop (name_length text)
 unfoldable pub label_in : List ℕ → Option (List ℕ)
 label_in text = if has_label text then Some (take (name_length text) text) else None
 
--- the statement of a text: what stands behind its label
+-- the statement of a text: what follows its label, or the whole text where it has no label
 unfoldable pub statement_in : List ℕ → List ℕ
 statement_in text = if has_label text then drop (name_length text + 1) text else text

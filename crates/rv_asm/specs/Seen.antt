@@ -24,7 +24,7 @@ seen (read.Numbers width text) = Numbers width (operands_of text.now)
 seen (read.Chars text zero) = Chars (unwrap_or (string_of text.now) []) zero
 seen (read.Zeros count) = Zeros count
 
--- the answer is this one
+-- the result is this answer
 abbrev pub Reads : {E : Type 0} → Result Read E → Result Item E → Type 0
 Reads result answer = MatchResult result (λ item. answer ≡ Ok (seen item)) (λ e. answer ≡ Err e)
 
@@ -37,7 +37,7 @@ abbrev pub FarFits : Far → Type 0
 FarFits (far.Address rd) = IsRegister rd
 FarFits far.Call = Unit {0}
 
--- the fields of an instruction are in range, a string is one, and texts and zeros are no longer than a source may be
+-- the fields of an instruction are in range, the text of a string is a string, and texts and zeros are no longer than a source may be
 abbrev pub IsSound : Read → Type 0
 IsSound (read.Single i) = Fits i
 IsSound (read.Double i j) = Fits i × Fits j

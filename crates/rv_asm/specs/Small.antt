@@ -8,7 +8,7 @@ use Rattle.rv_asm.specs.Labels.{Named}
 abbrev pub HasNoNul : List ℕ → Type 0
 HasNoNul name = All (λ byte. byte ≢ 0) name
 
--- the names of labels, one behind the other
+-- the names of labels, one after the other
 abbrev pub joined_names : List Named → List ℕ
 joined_names labels = flat_map (λ label. label.name) labels
 

@@ -6,12 +6,12 @@ use Rattle.rv_asm.specs.declared.refusal.AsmKind.{AsmKind}
 use Rattle.rv_asm.specs.declared.refusal.AsmKind.TheVariants.{NoMemory}
 use Rattle.rv_asm.specs.Pieces.{Piece, Word, Bytes}
 
--- the four bytes in front are the word of an instruction
+-- the bytes are those of the piece: four bytes whose word decodes to the instruction, or the piece's own bytes
 abbrev pub SpellsPiece : Piece → List ℕ → Type 0
 SpellsPiece (Word i) bytes = (length bytes ≡ 4) × (decoded_m (from_le_bytes w32 bytes) ≡ Some i)
 SpellsPiece (Bytes own) bytes = bytes ≡ own
 
--- the bytes begin with those of the piece, and the others are the rest
+-- the bytes begin with those of the piece, and those that follow are the rest
 pub record Begins (piece : Piece) (Rest : List ℕ → Type 0) (bytes : List ℕ) : Type 0 where
   pub front : List ℕ
   pub back : List ℕ
@@ -24,11 +24,11 @@ abbrev pub Spells : List Piece → List ℕ → Type 0
 Spells [] bytes = bytes ≡ []
 Spells (piece ∷ pieces) bytes = Begins piece (Spells pieces) bytes
 
--- bytes that are the answer
+-- the bytes are those of the answer
 abbrev pub Gives : List ℕ → Result (List Piece) AsmKind → Type 0
 Gives bytes (Ok pieces) = Spells pieces bytes
 Gives bytes (Err kind) = ⊥
 
--- a refusal that is the answer, where memory is not refused
+-- the refusal is the answer, unless it is a lack of memory
 abbrev pub IsRefusal : {A : Type 0} → AsmKind → Result A AsmKind → Type 0
 IsRefusal kind answer = (kind ≡ NoMemory) ⊎ (answer ≡ Err kind)

@@ -13,12 +13,12 @@ escapes byte =
     else if byte == 48 then Some 0
     else None
 
--- put in front, where both are there
+-- the byte in front of the bytes, where both are there
 abbrev pub onto : Option ℕ → Option (List ℕ) → Option (List ℕ)
 onto (Some byte) (Some bytes) = Some (byte ∷ bytes)
 onto _ _ = None
 
--- the bytes of a string, from behind its first `"` to its last at the end of the text; `escaped` behind a `\`
+-- the bytes of a string, from after its first `"` up to its last, at the end of the text; `escaped` right after a `\`
 abbrev pub string_from : (escaped : Bool) → List ℕ → Option (List ℕ)
 string_from escaped [] = None
 string_from true (byte ∷ rest) = onto (escapes byte) (string_from false rest)
@@ -27,10 +27,10 @@ string_from false (byte ∷ rest) =
     else if byte == 34 then if length rest == 0 then Some [] else None
     else onto (Some byte) (string_from false rest)
 
--- the bytes of a string of which none is left before its last `"`, at the end of the text
+-- the bytes of a string that ends here: none, where only its last `"` is left of the text
 abbrev pub ended : List ℕ → Option (List ℕ)
 ended text = if bytes_eq text (codes "\"") then Some [] else None
 
--- the bytes of the string that a text is
+-- the bytes of the string that makes up a text
 unfoldable pub string_of : List ℕ → Option (List ℕ)
 string_of text = if starts_with nat_eq text (codes "\"") then string_from false (drop 1 text) else None

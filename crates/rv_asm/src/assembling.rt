@@ -23,7 +23,7 @@ fn is_ascii(line: &[u8]) -> bool
     line.iter().all(|byte| *byte < 128)
 }
 
-/// `NotAscii` of the first line that has a byte above 127.
+/// `NotAscii` for the first line that has a byte above 127.
 fn check_ascii(source: &[u8]) -> Result<(), AsmErr>
     requires { length source.now ≤ 1048576 }
     ensures { result ≡ are_ascii 0 (text_lines source.now) }
@@ -70,10 +70,10 @@ fn assemble_lines(alloc: Global, source: &[u8]) -> Result<Object, AsmErr>
 
 /// The program that a source in the assembly language stands for.
 ///
-/// The first refusal is answered: the source's length; the first line that is not ASCII; the first
-/// line that fails by itself; the first line that fails with all labels known, because a label is
-/// never defined or is too far away. Within a line its label is tested first, then its statement is
-/// read, and then it is tested where it stands. `NoMemory` may come at any place.
+/// The first refusal is the answer: the source's length; the first line that is not ASCII; the
+/// first line that fails by itself; the first line that fails with all labels known, because a
+/// label is never defined or is too far away. Within a line its label is tested first, then its
+/// statement is read, and then it is tested where it stands. `NoMemory` may come at any point.
 #[tactic(auto, unfolding(crate::specs::Assembling::assembled))]
 pub fn assemble(alloc: Global, source: &[u8]) -> Result<Object, AsmErr>
     ensures ok { IfOk result (λ object. Objects object (assembled source.now)) }

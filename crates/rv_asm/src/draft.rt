@@ -59,7 +59,7 @@ fn define_label(
 }
 
 impl Draft {
-    /// Goes on behind a line that says this.
+    /// Reads a line that says this, and goes on after it.
     #[tactic(auto, unfolding(crate::specs::Assembling::drafted))]
     fn read(&mut self, alloc: Global, text: &[u8]) -> Result<(), AsmKind>
         requires place { IsPlace self.old.place }
@@ -75,7 +75,7 @@ impl Draft {
     }
 }
 
-/// What is known behind all lines of a source.
+/// What is known after all lines of a source.
 pub fn first_look(alloc: Global, source: &[u8]) -> Result<Draft, AsmErr>
     requires { length source.now ≤ 1048576 }
     ensures ok { IfOk result (λ draft. draft_from 0 (record { place = start; labels = [] }) (text_lines source.now) ≡ Ok draft) }

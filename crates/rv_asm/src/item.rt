@@ -23,7 +23,7 @@ pub enum Far {
 #[derive(Clone, Copy)]
 pub enum Item<'a> {
     Nothing,
-    /// What follows stands in the text, or in the data.
+    /// What follows goes into the text, or into the data.
     Section(bool),
     /// The label of this name is exported.
     Export(&'a [u8]),
@@ -33,11 +33,11 @@ pub enum Item<'a> {
     Near(Jump, &'a [u8]),
     /// The same to any distance, or a label's address.
     Distant(Far, &'a [u8]),
-    /// Numbers, of which words may be labels.
+    /// Numbers, which may be labels where they are words.
     Numbers(Width, &'a [u8]),
     /// A string, and whether a zero follows.
     Chars(&'a [u8], bool),
-    /// So many zeros.
+    /// This many zeros.
     Zeros(u32),
 }
 

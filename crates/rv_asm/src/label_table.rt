@@ -12,7 +12,7 @@ use std::collections::BTreeMap;
 use std::marker::Model;
 
 /// The labels of a source, in the order of their definition, and the place of each name among them. A source may have
-/// some hundred thousand labels and uses of them, so that none is looked for among all.
+/// hundreds of thousands of labels and of uses of them, so no name is looked for in the whole list.
 #[derive(Drop)]
 pub struct LabelTable {
     list: Vec<Label>,
@@ -42,7 +42,7 @@ impl LabelTable {
         }
     }
 
-    /// Puts a label that is not exported behind the others.
+    /// Appends a label, which is not exported.
     pub fn define(
         &mut self,
         alloc: Global,
@@ -69,7 +69,7 @@ impl LabelTable {
         }
     }
 
-    /// The value of the label of a name.
+    /// The value of the label with this name.
     pub fn value_of(&self, name: &[u8]) -> Option<u32>
         ensures { result ≡ value_of self.now name.now }
     {
@@ -79,7 +79,7 @@ impl LabelTable {
         }
     }
 
-    /// Exports the label of a name.
+    /// Exports the label with this name.
     pub fn export(&mut self, name: &[u8])
         ensures { self.new ≡ exported self.old name.now }
     {

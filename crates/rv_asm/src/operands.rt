@@ -10,7 +10,7 @@ use crate::operations::Width;
 use crate::scanning::begins_name;
 use rv_text::{TextErr, count_operands, cut_at, find_byte, read_number, trim};
 
-/// `WrongCount` where another number of operands stands in a text.
+/// `WrongCount` where a text has another number of operands.
 #[tactic(auto, unfolding(crate::specs::Operands::count_is))]
 pub fn expect_count(wanted: u32, text: &[u8]) -> Result<(), TextErr>
     ensures { result ≡ count_is wanted text.now }
@@ -69,7 +69,7 @@ fn check_placeable(width: Width, text: &[u8]) -> Result<(), TextErr>
     Ok(())
 }
 
-/// The operand at the front of a text, and the text behind its comma, where there is one.
+/// The operand at the front of a text, and the text after its comma, where there is one.
 #[tactic(auto, using(crate::proofs::Splits::commas))]
 pub fn cut_operand(text: &[u8]) -> (&[u8], Option<&[u8]>)
     ensures operands { operands_of text.now ≡ result.0.now ∷ operands_left (option_map (λ rest. rest.now) result.1) }

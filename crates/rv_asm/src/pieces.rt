@@ -78,7 +78,7 @@ fn operand_value(labels: &LabelTable, width: Width, operand: &[u8]) -> Result<i6
     Ok(number_of_width(width, operand)?)
 }
 
-/// Puts the low bytes of a number behind the others, the lowest first.
+/// Appends the low bytes of a number, the lowest first.
 #[tactic(auto, using(crate::proofs::Spelt::low))]
 fn push_number(bytes: &mut Vec<u8>, width: Width, word: u32) -> Result<(), AllocError>
     ensures { OnOk result (bytes.new.items ≡ bytes.old.items ++ bytes_low_first 0 (bytes_of_width width) word) }

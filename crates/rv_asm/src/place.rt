@@ -1,4 +1,4 @@
-//! Where a line stands: in the text or in the data, behind what stands there already.
+//! Where a line stands: in the text or in the data, after what stands there already.
 #![tactic(auto, unfolding(crate::specs::Places::address_of, crate::specs::Places::place_after, crate::specs::Places::fits_at))]
 
 ghost use Rattle.std.specs.Prelude.{◌≡◌, ◌≤◌, ◌+◌, ◌<◌, ◌^◌, Ok};
@@ -72,7 +72,7 @@ impl Place {
         }
     }
 
-    /// The place behind an item.
+    /// The place after an item.
     pub fn after(self, item: Item<'_>) -> Place
         requires place { IsPlace self }
         requires sound { IsSound item }

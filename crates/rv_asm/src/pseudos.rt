@@ -33,7 +33,7 @@ fn addi(rd: u8, rs1: u8, imm: i32) -> Instr
     }
 }
 
-/// The upper twenty bits for a word, such that the rest lies from -2048 to 2047.
+/// The upper twenty bits for a word, such that the rest is from -2048 to 2047.
 fn upper_part(word: u32) -> u32
     ensures value { result ≡ upper_part word }
     ensures field { result < 2 ^ 20 }

@@ -53,7 +53,7 @@ fn one_number(greatest: i32, text: &[u8]) -> Result<u32, TextErr>
     Ok(number_in(0, greatest, operand(text, 0))?.unsigned_abs())
 }
 
-/// How many bytes are missing from an address up to a multiple of 2^exponent.
+/// How many bytes an address is short of a multiple of 2^exponent.
 fn padding(address: u32, exponent: u32) -> u32
     requires { exponent ≤ 12 }
     ensures value { result ≡ padding address (2 ^ exponent) }
@@ -123,7 +123,7 @@ fn unknown(name: &[u8]) -> AsmKind
     }
 }
 
-/// What operands stand for behind a name.
+/// What operands stand for after a name.
 #[tactic(auto, unfolding(crate::specs::Reading::named_read))]
 fn read_named<'a>(name: &[u8], pc: u32, text: &'a [u8]) -> Result<Item<'a>, AsmKind>
     requires { length text.now ≤ 1048576 }

@@ -10,7 +10,7 @@ use std::alloc::AllocError;
 pub enum AsmKind {
     /// The text of an instruction, a pseudo-instruction or a directive is refused.
     Text(TextErr),
-    /// The first word begins with `.`, and is no directive.
+    /// The first word begins with `.`, and is not a directive.
     UnknownDirective,
     /// A line above defines the same label.
     LabelTwice,
@@ -18,11 +18,11 @@ pub enum AsmKind {
     NoLabel,
     /// The distance to a label, which the instruction's field cannot hold.
     TooFar(i64),
-    /// The source, or what the line would make of its section, is longer than 1,048,576 bytes.
+    /// The source, or the section with what the line adds, is longer than 1,048,576 bytes.
     TooLarge(u64),
     /// A byte of the line is above 127.
     NotAscii,
-    /// A string is expected, and stands not there alone, has no end or another escape.
+    /// A string is expected, but does not stand there alone, has no end, or has an unknown escape.
     BadString,
     /// An instruction stands in the data, or at an address that 4 does not divide.
     Misplaced,

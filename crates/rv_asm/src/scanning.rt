@@ -13,7 +13,7 @@ use rv_text::trim;
 pub enum Quote {
     Outside,
     Inside,
-    /// Behind a `\` in a string.
+    /// After a `\` in a string.
     Escaped,
 }
 
@@ -130,7 +130,7 @@ pub fn label_in(text: &[u8]) -> Option<&[u8]>
     }
 }
 
-/// The statement of a text: what stands behind its label.
+/// The statement of a text: what follows its label, or the whole text where it has no label.
 #[tactic(auto, unfolding(crate::specs::Scanning::statement_in, crate::specs::Scanning::has_label))]
 pub fn statement_in(text: &[u8]) -> &[u8]
     ensures statement { result.now ≡ statement_in text.now }

@@ -50,7 +50,7 @@ impl Output {
         }
     }
 
-    /// Goes on behind a line that says this.
+    /// Reads a line that says this, and goes on after it.
     #[tactic(auto, unfolding(crate::specs::Filling::line_pieces))]
     fn read(&mut self, alloc: Global, text: &[u8]) -> Result<(), AsmKind>
         requires place { IsPlace self.old.place }

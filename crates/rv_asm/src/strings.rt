@@ -21,7 +21,7 @@ fn escape(byte: u8) -> Option<u8>
     }
 }
 
-/// The byte that the front of a text stands for behind a `\` in a string, and the text behind it.
+/// The byte that the front of a text stands for after a `\` in a string, and the text after it.
 #[tactic(auto)]
 fn cut_escaped(text: &[u8]) -> Option<(u8, &[u8])>
     ensures cut { MatchOption result (string_from true text.now ≡ None)
@@ -34,7 +34,7 @@ fn cut_escaped(text: &[u8]) -> Option<(u8, &[u8])>
     }
 }
 
-/// The byte of an open string that the front of a text stands for, and the text behind it; or `None` where no byte of the
+/// The byte of an open string that the front of a text stands for, and the text after it; or `None` where no byte of the
 /// string stands there.
 #[tactic(auto, using(crate::proofs::Chars::quote_alone))]
 fn cut_char(text: &[u8]) -> Option<(u8, &[u8])>
@@ -67,7 +67,7 @@ fn open_string_len(text: &[u8]) -> Option<usize>
     (rest == b"\"".as_slice()).then_some(count)
 }
 
-/// How many bytes the string has that a text is, or `None` where it is no string.
+/// How many bytes are in the string that makes up a text, or `None` where the text is not a string.
 pub fn string_len(text: &[u8]) -> Option<usize>
     ensures length { result ≡ option_map (λ bytes. length bytes) (string_of text.now) }
     ensures within { IfSome result (λ count. count ≤ length text.now) }
@@ -75,8 +75,8 @@ pub fn string_len(text: &[u8]) -> Option<usize>
     open_string_len(text.strip_prefix(b"\"")?)
 }
 
-/// Puts the bytes of the string that is open at the front of a text behind the others, and says
-/// whether the string is closed at the text's end and has no other escapes.
+/// Appends the bytes of the string that is open at the front of a text, and says
+/// whether the string is closed at the text's end and has no unknown escapes.
 #[tactic(auto, using(crate::proofs::Chars::chars))]
 fn push_open_string(bytes: &mut Vec<u8>, text: &[u8]) -> Result<bool, AllocError>
     ensures { IfOk result (λ whole. option_map (λ string. bytes.old.items ++ string) (string_from false text.now)
@@ -90,7 +90,7 @@ fn push_open_string(bytes: &mut Vec<u8>, text: &[u8]) -> Result<bool, AllocError
     Ok(rest == b"\"".as_slice())
 }
 
-/// Puts the bytes of the string that a text is behind the others.
+/// Appends the bytes of the string that makes up a text.
 pub fn push_string(bytes: &mut Vec<u8>, text: &[u8]) -> Result<(), AllocError>
     requires { IsSome (string_of text.now) }
     ensures { OnOk result (bytes.new.items ≡ bytes.old.items ++ unwrap_or (string_of text.now) []) }

@@ -1,4 +1,4 @@
--- A mask of low ones is a remainder.
+-- A mask of low one bits gives a remainder.
 use Rattle.std.proofs.Common.{◌≡◌, ℕ, ◌%◌, bit_and}
 use Rattle.std.proofs.lemmas.Nat.{and_mask}
 

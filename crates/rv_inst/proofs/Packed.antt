@@ -1,4 +1,4 @@
--- A word is made of its six fields, and the immediates are read from them.
+-- A word is made up of its six fields, and the immediates are read from them.
 use Rattle.std.proofs.Common.{◌≡◌, ℕ, ◌+◌, ◌*◌, ◌/◌, ◌%◌, ◌<◌, ◌≤◌, ◌^◌, arith, ap, ◌∙◌, bit_or}
 use Rattle.std.proofs.lemmas.Nat.{or_shifted}
 use Rattle.std.specs.Prelude.{ℤ, pos, negsuc, bit_and, FitsSigned}
@@ -24,7 +24,7 @@ sum-fields opc rd f3 rs1 rs2 f7 w a b c d e f h = record {
   funct7_is = omega arith;
 }
 
--- a low part or a shifted part is their sum
+-- a low part and a shifted part, joined by `or`, are their sum
 or_low : (low high k : ℕ) → low < 2 ^ k → bit_or low (high * 2 ^ k) ≡ low + high * 2 ^ k
 or_low low high k h = or_comm low (high * 2 ^ k) ∙ or_shifted high k low h ∙ (omega arith)
 

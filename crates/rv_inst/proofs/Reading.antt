@@ -1,4 +1,4 @@
--- What the table of encodings has of a word, for the functions that read and write words.
+-- What the table of encodings says of a word, for the functions that read and write words.
 use Rattle.std.proofs.Common.{◌≡◌, ◌^◌, ℕ, ◌<◌, Option, Some, None, subst}
 use Rattle.std.specs.Prelude.{IfSome, IfNone, IsTrue}
 use Rattle.rv_inst.specs.declared.instruction.Instr.{Instr}
@@ -21,7 +21,7 @@ decoded_m_none w None e = λ i h. let f : decoded_m w ≡ Some i = decoded_m_com
 of_some : {A : Type 0} (o : Option A) (x : A) (P : A → Type 0) → IfSome o P → o ≡ Some x → P x
 of_some {A = A} o x P h e = let Q : Option A → Type 0 = λ u. IfSome u P in subst Q e h
 
--- a word that is read as an instruction stands for it
+-- a word that is read as an instruction stands for that instruction
 pub decoded_m-encodes : (w : ℕ) (i : Instr) → decoded_m w ≡ Some i → Encodes w i
 decoded_m-encodes w i e = of_some (decoded_m w) i (Encodes w) (decoded_m_sound w) e
 
@@ -37,7 +37,7 @@ Encodes-unique w i j g h =
     let a : decoded_m w ≡ Some i = decoded_m_complete w i g in
     let b : decoded_m w ≡ Some j = decoded_m_complete w j h in cc
 
--- a word that stands for an instruction is the only word that is read as it
+-- a word that stands for an instruction is the only word that is read as that instruction
 pub encoded_once : (v : ℕ) (i : Instr) → v < 2 ^ 32 → Encodes v i → (w : ℕ) → w < 2 ^ 32 → decoded_m w ≡ Some i → v ≡ w
 encoded_once v i a h w b e = Encodes-inj v w i a b h (decoded_m-encodes w i e)
 

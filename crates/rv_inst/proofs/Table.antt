@@ -23,7 +23,7 @@ decoded-ebreak : decoded 0x00100073 ≡ Some Ebreak
 unfolding decoded decoded_system opcode
 decoded-ebreak = refl
 
--- a word that stands for an instruction of RV32I is read as it
+-- a word that stands for an instruction of RV32I is read as that instruction
 pub decoded_complete : (w : ℕ) (i : Instr) → IsTrue (is_base i) → Encodes w i → decoded w ≡ Some i
 unfolding decoded decoded_jalr decoded_branch decoded_load decoded_store decoded_imm decoded_op decoded_fence
 decoded_complete w (Lui rd imm) b h = rw h.opcode_is (cc)
@@ -79,17 +79,17 @@ pub decoded_base : (w : ℕ) → IfSome (decoded w) (λ i. IsTrue (is_base i))
 unfolding decoded decoded_jalr decoded_branch decoded_load decoded_store decoded_imm decoded_op decoded_fence decoded_system
 decoded_base w = grind (arith, nat_tests)
 
--- a word of the M extension is none of RV32I
+-- a word of the M extension is not a word of RV32I
 decoded-op_m : (w : ℕ) → opcode w ≡ 0b0110011 → funct7 w ≡ 0b0000001 → decoded w ≡ None
 unfolding decoded decoded_op
 decoded-op_m w p q = grind (arith, nat_tests)
 
--- what is read as RV32I is read so with the M extension too
+-- what is read as RV32I is read the same with the M extension
 pub decoded_m_base : (w : ℕ) (i : Instr) → decoded w ≡ Some i → decoded_m w ≡ Some i
 unfolding decoded_m
 decoded_m_base w i e = grind (arith, nat_tests, decoded-op_m)
 
--- a word that stands for an instruction is read as it
+-- a word that stands for an instruction is read as that instruction
 pub decoded_m_complete : (w : ℕ) (i : Instr) → Encodes w i → decoded_m w ≡ Some i
 unfolding decoded_m decoded_mul
 decoded_m_complete w (Mul mulop.Mul rd rs1 rs2) h = rw (h.opcode_is, h.funct3_is, h.funct7_is) (cc)

@@ -29,7 +29,7 @@ store_width store.Byte = 1
 store_width store.Half = 2
 store_width store.Word = 4
 
--- the access of a load or a store whose sources are a and b; other instructions make none, told as all zeros
+-- the access of a load or a store whose sources are a and b; other instructions make no access, written here as all zeros
 unfoldable pub access_made : Instr → ℕ → ℕ → Access
 access_made (Load k rd rs1 imm) a b = record { addr = word_sum a (word_of imm); width = load_width k; write = false; value = 0 }
 access_made (Store k rs1 rs2 imm) a b = record { addr = word_sum a (word_of imm); width = store_width k; write = true; value = b }

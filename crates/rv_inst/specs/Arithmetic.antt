@@ -48,7 +48,7 @@ is_arithmetic class.Branch = true
 is_arithmetic class.Jump = true
 is_arithmetic _ = false
 
--- the destination's value: 0 for a branch, and for the classes that compute none
+-- the destination's value: 0 for a branch, and for the classes that compute no value
 unfoldable pub alu_value : Instr → ℕ → ℕ → ℕ → ℕ
 alu_value (Lui rd imm) pc a b = imm * 2 ^ 12 % 2 ^ 32
 alu_value (Auipc rd imm) pc a b = word_sum pc (imm * 2 ^ 12)
@@ -58,7 +58,7 @@ alu_value (OpImm op rd rs1 imm) pc a b = op_value (register_op op) a (word_of im
 alu_value (Op op rd rs1 rs2) pc a b = op_value op a b
 alu_value _ pc a b = 0
 
--- the address of the next instruction: the target of a jump or of a taken branch, else the one behind this; JALR clears bit 0
+-- the address of the next instruction: the target of a jump or of a taken branch, else this instruction's address plus 4; JALR clears bit 0
 unfoldable pub next_pc : Instr → ℕ → ℕ → ℕ → ℕ
 next_pc (Jal rd imm) pc a b = word_sum pc (word_of imm)
 next_pc (Jalr rd rs1 imm) pc a b = word_sum a (word_of imm) / 2 * 2

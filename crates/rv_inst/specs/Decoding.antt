@@ -87,7 +87,7 @@ mul_op_at f3 =
     if f3 == 0b110 then Some mulop.Rem else
     if f3 == 0b111 then Some mulop.Remu else None
 
--- the value under a function, where there is one
+-- the function's value at what the option holds, where it holds something
 abbrev pub option_map : {A B : Type 0} → (A → B) → Option A → Option B
 option_map f o = option_and_then (λ x. Some (f x)) o
 
@@ -149,7 +149,7 @@ decoded w =
 unfoldable pub decoded_mul : ℕ → Option Instr
 decoded_mul w = option_map (λ op. Mul op (rd_of w) (rs1_of w) (rs2_of w)) (mul_op_at (funct3 w))
 
--- the instruction that a word stands for where there is the M extension
+-- the instruction that a word stands for, with the M extension
 unfoldable pub decoded_m : ℕ → Option Instr
 decoded_m w = if (opcode w == 0b0110011) && (funct7 w == 0b0000001) then decoded_mul w else decoded w
 

@@ -62,7 +62,7 @@ Encodes w (Mul mulop.Divu rd rs1 rs2) = IsRType w 0b0110011 0b101 0b0000001 rd r
 Encodes w (Mul mulop.Rem rd rs1 rs2) = IsRType w 0b0110011 0b110 0b0000001 rd rs1 rs2
 Encodes w (Mul mulop.Remu rd rs1 rs2) = IsRType w 0b0110011 0b111 0b0000001 rd rs1 rs2
 
--- the instruction is one of RV32I with FENCE.I, and none of the M extension
+-- the instruction is one of RV32I with FENCE.I, and not of the M extension
 abbrev pub is_base : Instr → Bool
 is_base (Mul op rd rs1 rs2) = false
 is_base _ = true

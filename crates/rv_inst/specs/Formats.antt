@@ -64,7 +64,7 @@ pub record IsJType (w opc rd : ℕ) (imm : ℤ) : Type 0 where
   pub rd_is : rd ≡ rd_of w
   pub imm_is : imm ≡ imm_j w
 
--- a word by its six plain fields, from the lowest bit on
+-- a word by its six plain fields, from the lowest bit up
 pub record HasFields (w opc rd f3 rs1 rs2 f7 : ℕ) : Type 0 where
   pub opcode_is : opcode w ≡ opc
   pub rd_is : rd_of w ≡ rd

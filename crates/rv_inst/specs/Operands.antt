@@ -11,7 +11,7 @@ use Rattle.rv_inst.specs.declared.instruction.Instr.TheVariants.{Lui, Auipc, Jal
 use Rattle.rv_inst.specs.declared.classes.Class.{Class}
 use Rattle.rv_inst.specs.declared.classes.Class.TheVariants as class
 
--- the operation on two registers that an operation with an immediate makes of its register and the immediate
+-- the operation on two registers that an operation with an immediate performs on its register and the immediate
 abbrev pub register_op : ImmOp → RegOp
 register_op immop.Add = regop.Add
 register_op immop.Slt = regop.Slt

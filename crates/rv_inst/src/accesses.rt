@@ -43,7 +43,7 @@ fn store_width(kind: StoreKind) -> u32
     }
 }
 
-/// The access that a load or a store makes whose first source has the value `a` and whose second has `b`.
+/// The access of a load or a store whose first source has the value `a` and whose second has `b`.
 #[inline(always)]
 pub fn access_of(i: Instr, a: u32, b: u32) -> Access
     requires memory { class_of i ≡ Class.Memory }

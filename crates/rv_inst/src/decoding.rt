@@ -271,7 +271,8 @@ fn decode_extended(word: u32) -> Option<Instr>
 
 /// The instruction of RV32I with FENCE.I that the word stands for.
 ///
-/// It is `None` exactly where the word stands for none, also for a word of the M extension.
+/// It is `None` exactly where the word stands for no such instruction, for example where it is a
+/// word of the M extension.
 #[inline(always)]
 #[tactic(auto, using(crate::proofs::Reading::reading))]
 pub fn decode(word: u32) -> Option<Instr>
@@ -284,9 +285,9 @@ pub fn decode(word: u32) -> Option<Instr>
     decode_base(word)
 }
 
-/// The instruction that the word stands for where there is the M extension.
+/// The instruction that the word stands for, with the M extension.
 ///
-/// It is `None` exactly where the word stands for none.
+/// It is `None` exactly where the word stands for no instruction.
 #[inline(always)]
 #[tactic(auto, using(crate::proofs::Reading::reading_m))]
 pub fn decode_m(word: u32) -> Option<Instr>

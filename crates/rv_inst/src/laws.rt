@@ -16,7 +16,7 @@ pub fn one_word()
     ensures { (v w : ℕ) (i : Instruction) → v < 2 ^ 32 → w < 2 ^ 32 → Encodes v i → Encodes w i → v ≡ w }
 {}
 
-/// A word that stands for an instruction is read as it, and only such a word is.
+/// A word that stands for an instruction is read as that instruction, and only such a word is.
 #[tactic(auto, using(crate::proofs::Reading::laws))]
 pub fn read_where_encoded()
     ensures complete { (w : ℕ) (i : Instruction) → Encodes w i → decoded_m w ≡ Some i }

@@ -1,11 +1,11 @@
-//! The registers that an instruction reads and writes, and the operation that it makes.
+//! The registers that an instruction reads and writes, and the operation that it performs.
 ghost use Rattle.std.specs.Prelude.{◌≡◌};
 ghost use Rattle.rv_inst.specs.Ranges.{Fits, IsRegister};
 ghost use Rattle.rv_inst.specs.Operands.{sources_of, dest_of, register_op};
 
 use crate::instruction::{ImmOp, Instr, RegOp};
 
-/// The operation on two registers that an operation with an immediate makes of its register and the immediate.
+/// The operation on two registers that an operation with an immediate performs on its register and the immediate.
 #[inline(always)]
 pub fn register_op(op: ImmOp) -> RegOp
     ensures { result ≡ register_op op }

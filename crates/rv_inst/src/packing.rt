@@ -1,11 +1,11 @@
-//! Words put together of their fields, one function for each format.
+//! Words put together from their fields, one function for each format.
 #![tactic(auto, using(crate::proofs::Packed::packing))]
 
 ghost use Rattle.std.specs.Prelude.{◌≡◌, ◌^◌, ℕ, ◌+◌, ◌*◌, ◌<◌, ◌≤◌, pos, negsuc, ◌≤ℤ◌, ◌<ℤ◌};
 ghost use Rattle.rv_inst.specs.Formats.{HasFields, IsRType, IsIType, IsShiftType, IsFenceType, IsSType, IsBType, IsUType, IsJType};
 ghost use Rattle.rv_inst.specs.Ranges.{IsRegister, IsWithin, IsEven, IsAmount};
 
-/// A word of its six plain fields.
+/// A word from its six plain fields.
 #[tactic(auto)]
 fn pack(opcode: u32, rd: u32, funct3: u32, rs1: u32, rs2: u32, funct7: u32) -> u32
     requires opcode { opcode < 2 ^ 7 }
@@ -19,7 +19,7 @@ fn pack(opcode: u32, rd: u32, funct3: u32, rs1: u32, rs2: u32, funct7: u32) -> u
     opcode | rd << 7 | funct3 << 12 | rs1 << 15 | rs2 << 20 | funct7 << 25
 }
 
-/// A word of its six plain fields, where a destination and a source are told as registers.
+/// A word from its six plain fields, where a destination and a source are given as registers.
 #[tactic(auto)]
 fn pack_rd_rs1(opcode: u32, funct3: u32, rd: u8, rs1: u8, rs2: u32, funct7: u32) -> u32
     requires opcode { opcode < 2 ^ 7 }

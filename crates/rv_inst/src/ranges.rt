@@ -24,14 +24,14 @@ fn is_amount(imm: i32) -> bool
     0 <= imm && imm < 32
 }
 
-/// Whether a branch goes so far.
+/// Whether a branch can go this far.
 fn is_branch_distance(imm: i32) -> bool
     ensures { IsTrue result ↔ IsWithin (2 ^ 12) imm × IsEven imm }
 {
     -0x1000 <= imm && imm < 0x1000 && imm.unsigned_abs() % 2 == 0
 }
 
-/// Whether a jump goes so far.
+/// Whether a jump can go this far.
 fn is_jump_distance(imm: i32) -> bool
     ensures { IsTrue result ↔ IsWithin (2 ^ 20) imm × IsEven imm }
 {

@@ -66,7 +66,7 @@ quotient_bits a b q e f g =
     ∙ same
     ∙ lower_word_of_bits (int_div a b) small
 
--- a number of 32 bits has 64
+-- a number of 32 bits fits 64 bits
 fits_wider : (z : ℤ) → FitsSigned w32 z → FitsSigned w64 z
 fits_wider z h = record { sfits = omega (arith, h.sfits) }
 

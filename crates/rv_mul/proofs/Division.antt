@@ -67,7 +67,7 @@ one_neg_neg a b c (pos k) e h =
     (ap pos u.0, u.1)
 one_neg_neg a b c (negsuc k) e h = absurd (omega (arith, ints))
 
--- a remainder of a natural number is one
+-- a remainder of a natural number is a natural number
 remainder_of_pos : (a : ℕ) (r : ℤ)
     → (r ≡ pos 0) ⊎ (is_negative r ≡ is_negative (pos a)) → r ≡ pos (unsigned_abs r)
 remainder_of_pos a (pos c) s = refl

@@ -8,7 +8,7 @@ pub fn quotient_and_remainder()
     ensures { (x y : ℤ) → y ≢ pos 0 → Divides x y (quotient_of x y) (remainder_of x y) }
 {}
 
-/// No other numbers are.
+/// No other numbers are that quotient and that remainder.
 pub fn one_quotient_and_remainder()
     ensures quotient { (x y q r : ℤ) → Divides x y q r → q ≡ quotient_of x y }
     ensures remainder { (x y q r : ℤ) → Divides x y q r → r ≡ remainder_of x y }

@@ -5,7 +5,7 @@ use Rattle.std.specs.List.{slice_split, onto_first, after_first, position_or_len
 use Rattle.std.proofs.lemmas.List.Splits.{length-slice_split}
 use Rattle.std.proofs.lemmas.Grind.{common_steps}
 
--- where the parts are not none, the parts behind the first stay when an element is put onto the first
+-- the parts after the first stay as they are when an element is put onto the first
 onto_first-behind : (x : ℕ) (parts : List (List ℕ)) (k : ℕ) → get_or (onto_first x parts) (suc k) [] ≡ get_or parts (suc k) []
 onto_first-behind x [] zero = refl
 onto_first-behind x [] (suc k) = refl
@@ -28,7 +28,7 @@ next_by : (b : Bool) (n k : ℕ) (x : ℕ) (xs : List ℕ) (parts : List (List �
 next_by true n k x xs parts rest f e ih = ap (λ l. get_or l k []) e
 next_by false n k x xs parts rest f e ih = rw drop_past (ih ∙ sym (onto_first-behind x parts k))
 
--- the piece behind the first, as the first of what stands behind the first comma
+-- the pieces after the first are those of what follows the first comma
 next_suc : (p : ℕ → Bool) (xs : List ℕ) (k : ℕ) → get_or (slice_split p (after_first p xs)) k [] ≡ get_or (slice_split p xs) (suc k) []
 next_suc p [] zero = refl
 next_suc p [] (suc k) = refl

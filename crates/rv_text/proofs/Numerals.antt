@@ -26,7 +26,7 @@ pub test-from_AllDigits : (radix : ℕ) (ds : List ℕ) → AllDigits radix ds �
 test-from_AllDigits radix [] h = refl
 test-from_AllDigits radix (d ∷ ds) h = grind (arith, nat_tests, h.0, test-from_AllDigits radix ds h.1)
 
--- so many digits stay below that power of the base
+-- at most this many digits stay below that power of the base
 pub digits_value_below : (radix most : ℕ) (ds : List ℕ) → AllDigits radix ds → 2 ≤ radix → length ds ≤ most → digits_value radix ds < radix ^ most
 digits_value_below radix most ds all two short =
     let below = digits_value-lt radix ds all in

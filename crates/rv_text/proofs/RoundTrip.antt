@@ -32,7 +32,7 @@ use Rattle.rv_text.proofs.Named.{all_named}
 use Rattle.rv_text.proofs.Written.{number_of-target, register_solid, target_solid, upper_solid, signed_solid}
 use Rattle.rv_text.proofs.Parsed.{register_in-text, immediate_of-signed, immediate_solid, field_below-upper, field_below-set, address_text, address_is, offset_in-address, base_in-address, address_solid}
 
--- a name, and the right number of operands behind it
+-- a name, and the right number of operands after it
 statement_cut : (mnemonic : Mnemonic) (text behind : List ℕ) → IsCut text (name_of mnemonic) behind
     → takes mnemonic (operand_count behind) ≡ true → statement_of text ≡ operands_read mnemonic behind
 unfolding statement_of statement_by
@@ -45,7 +45,7 @@ statement_alone mnemonic right =
     statement_cut mnemonic (name_of mnemonic ++ []) [] (cut_alone (name_of mnemonic) (all_named mnemonic).word)
     (ap (takes mnemonic) no_operands ∙ right)
 
--- the text behind a name that has two operands
+-- the text after a name that has two operands
 abbrev two_text : List ℕ → List ℕ → List ℕ
 two_text x y = 32 ∷ (x ++ 44 ∷ 32 ∷ (y ++ []))
 
@@ -120,7 +120,7 @@ branch_read c rs1 rs2 target r s =
     let three = three_operands (register_text rs1) (register_text rs2) (codes "0x" ++ hex8 target) (register_solid rs1 r) (register_solid rs2 s) (target_solid target) in
     rw (three.first_is, register_in-text rs1 r, three.second_is, register_in-text rs2 s, three.third_is) refl
 
--- the target less the address is the distance
+-- the target minus the address is the distance
 word_back : (pc w : ℕ) → pc < 2 ^ 32 → w < 2 ^ 32 → ((pc + w) % 2 ^ 32 % 2 ^ 32 + (2 ^ 32 - pc)) % 2 ^ 32 ≡ w
 word_back pc w small below = omega arith
 
@@ -169,7 +169,7 @@ branch_back : (c : Cond) (rs1 rs2 : ℕ) (imm : ℤ) → IsFar (2 ^ 12) imm → 
 unfolding aimed
 branch_back c rs1 rs2 imm h = rw h.test refl
 
--- what a text tells, and where it stands
+-- what a text says, and where it stands
 read_as : (text : List ℕ) (pc : ℕ) (found : Result Reading TextErr) → statement_of text ≡ found → read_text text pc ≡ and_then found (placed pc)
 unfolding read_text
 read_as text pc found e = ap (λ f. and_then f (placed pc)) e

@@ -11,11 +11,11 @@ use Rattle.std.proofs.lemmas.Bool.Decides.{nat_tests}
 use Rattle.std.proofs.lemmas.Grind.{common_steps}
 use Rattle.rv_text.specs.Pieces.{is_blank, is_comma, without_front, without_end, trimmed, name_part, operand_part, pieces, operand_count, operand_at}
 
--- a byte that an operand may have: none of the blanks, and no comma
+-- a byte that an operand may have: above the space, and not a comma
 abbrev pub is_solid : ℕ → Bool
 is_solid byte = nat_lt 32 byte && not (is_comma byte)
 
--- a text of such bytes, and not an empty one
+-- a text of such bytes, and not empty
 pub record IsSolid (text : List ℕ) : Type 0 where
   pub some : 0 < length text
   pub bytes : list_all is_solid text ≡ true
@@ -32,7 +32,7 @@ solid_byte byte h = grind (arith, nat_tests)
 solid_no_comma : (byte : ℕ) → is_solid byte ≡ true → is_comma byte ≡ false
 solid_no_comma byte h = grind (arith, nat_tests)
 
--- at each place of a text whose bytes all pass, one passes
+-- in a text whose bytes all pass, the byte at each place passes
 passes_at : (p : ℕ → Bool) (text : List ℕ) (k d : ℕ) → list_all p text ≡ true → k < length text → p (get_or text k d) ≡ true
 passes_at p text k d all inside = grind (arith, common_steps, AllPass-from_list_all p text all)
 
@@ -110,7 +110,7 @@ Ends-cons byte back h = Ends-append (byte ∷ []) back h
 pub IsBare-of : (text : List ℕ) → Begins text → Ends text → IsBare text
 IsBare-of text b e = record { some = b.some; first = b.first; last = e.last }
 
--- the first place that passes, where none passes before it
+-- the first place that passes, where nothing passes before it
 pub position_at_seam : (p : ℕ → Bool) (front : List ℕ) (y : ℕ) (back : List ℕ)
     → ((k : ℕ) → k < length front → p (get_or front k 0) ≡ false) → p y ≡ true
     → position_or_len p (front ++ y ∷ back) ≡ length front
@@ -132,7 +132,7 @@ no_commas : (text : List ℕ) → IsSolid text → All (λ byte. is_comma byte �
 no_commas text h zero d low = refl
 no_commas text h (suc k) d low = solid_no_comma (get_or text k d) (passes_at is_solid text k d h.bytes (omega arith))
 
--- the name, and what stands behind it
+-- the name, and what follows it
 pub record IsCut (text name behind : List ℕ) : Type 0 where
   pub name_is : name_part text ≡ name
   pub behind_is : operand_part text ≡ behind

@@ -1,4 +1,4 @@
--- What a register, a number or an address is written as is read as that.
+-- What is written for a register, a number or an address is read as that.
 use Rattle.std.proofs.Common.{◌≡◌, ℕ, ◌+◌, ◌*◌, ◌/◌, ◌%◌, ◌^◌, ◌<◌, ◌≤◌, Bool, true, false, List, [], ◌∷◌, ◌++◌, length, get_or, drop, refl, ◌∙◌, ap, arith, suc, zero, cond, Some, min, ℤ, pos, negsuc, length-drop, lit<, lit≤}
 use Rattle.std.specs.Prelude.{codes, decimal, nat_lt, ◌==◌, ◌&&◌, nat_eq}
 use Rattle.std.specs.Int.RustNames.{unsigned_abs}
@@ -32,14 +32,14 @@ digits_solid radix (d ∷ ds) low h =
     let first : digit_value d < radix = h.0 in
     rw (digit_solid d (omega arith)) (digits_solid radix ds low h.1)
 
--- so many digits are a numeral of their value
+-- at most this many digits are a numeral of their value
 pub numeral-digits : (radix most n : ℕ) (ds : List ℕ) → AllDigits radix ds → 0 < length ds → length ds ≤ most → digits_value radix ds ≡ n → numeral radix most ds ≡ Some n
 unfolding numeral is_numeral
 numeral-digits radix most n ds all some short value =
     let test = test-from_AllDigits radix ds all in
     grind (arith, nat_tests, test, value)
 
--- digits begin with no minus, and not with `0x`
+-- digits begin neither with a minus nor with `0x`
 no_minus : (radix : ℕ) (ds : List ℕ) → radix ≤ 16 → AllDigits radix ds → 0 < length ds → starts_with nat_eq ds (codes "-") ≡ false
 no_minus radix [] low h some = absurd (omega arith)
 no_minus radix (d ∷ ds) low h some =
@@ -163,7 +163,7 @@ zeros_by d ds false k e low rest =
     let none : suc k ≤ 0 = rw e at low in
     absurd (omega arith)
 
--- zeros in front tell nothing
+-- zeros in front do not change the value
 drop_zeros : (k : ℕ) (ds : List ℕ) → k ≤ prefix_len (λ digit. digit == 48) ds → AllDigits 16 ds
     → (digits_value 16 (drop k ds) ≡ digits_value 16 ds) × AllDigits 16 (drop k ds)
 drop_zeros zero ds low all = (refl, all)

@@ -10,12 +10,12 @@ use Rattle.rv_text.specs.Pieces.{trimmed}
 use Rattle.rv_text.specs.Numbers.{number_of}
 use Rattle.rv_text.specs.Registers.{register_of}
 
--- the first refusal, or what the second step makes of the first one's answer
+-- the first refusal, or what the second step makes of the first step's answer
 abbrev pub and_then : {A B : Type 0} → Result A TextErr → (A → Result B TextErr) → Result B TextErr
 and_then (Ok a) step = step a
 and_then (Err e) step = Err e
 
--- what must be there
+-- what must be there, or else this refusal
 abbrev pub required : {A : Type 0} → TextErr → Option A → Result A TextErr
 required e (Some a) = Ok a
 required e None = Err e
@@ -48,7 +48,7 @@ is_shift immop.Srl = true
 is_shift immop.Sra = true
 is_shift _ = false
 
--- the immediate of an operation: for a shift its amount
+-- the immediate of an operation: for a shift, its amount
 unfoldable pub immediate_of : ImmOp → List ℕ → Result ℤ TextErr
 immediate_of op text = if is_shift op then number_in (pos 0) (pos 31) text else immediate_in text
 
@@ -56,11 +56,11 @@ immediate_of op text = if is_shift op then number_in (pos 0) (pos 31) text else 
 abbrev pub is_open : ℕ → Bool
 is_open byte = byte == 40
 
--- what stands before a last `)`
+-- what stands before a `)` at the end
 abbrev pub before_close : List ℕ → Option (List ℕ)
 before_close text = if ends_with nat_eq text (codes ")") then Some (take (length text - 1) text) else None
 
--- what stands between a first `(` and a last `)`
+-- what stands between a `(` at the beginning and a `)` at the end
 abbrev pub enclosed : List ℕ → Option (List ℕ)
 enclosed text = if starts_with nat_eq text (codes "(") then before_close (drop 1 text) else None
 

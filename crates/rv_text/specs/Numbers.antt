@@ -26,12 +26,12 @@ abbrev pub plus : Option ℕ → Option ℤ
 plus None = None
 plus (Some n) = Some (pos n)
 
--- the number below 0
+-- the number, negated
 abbrev pub minus : Option ℕ → Option ℤ
 minus None = None
 minus (Some n) = Some (neg_ℤ (pos n))
 
--- the number that a text spells: a magnitude, with `-` in front where it is below 0
+-- the number that a text spells: a magnitude, negated where `-` stands in front
 unfoldable pub number_of : List ℕ → Option ℤ
 number_of text =
     if starts_with nat_eq text (codes "-") then minus (magnitude (drop 1 text))

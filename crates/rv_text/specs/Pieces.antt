@@ -1,4 +1,4 @@
--- How a line of assembly is cut: a name, and behind it operands between commas (RISC-V Assembly Programmer's Manual).
+-- How a line of assembly is cut: a name, and after it operands between commas (RISC-V Assembly Programmer's Manual).
 use Rattle.std.specs.Prelude.{ℕ, ◌-◌, ◌==◌, ◌||◌, Bool, List, [], length, take, drop, slice_index_or, if◌then◌else◌}
 use Rattle.std.specs.List.{prefix_len, suffix_len, slice_split, before_first}
 
@@ -21,11 +21,11 @@ without_end text = take (length text - suffix_len is_blank text) text
 unfoldable pub trimmed : List ℕ → List ℕ
 trimmed text = without_end (without_front text)
 
--- the name in a text: what stands before the first blank, those in front left out
+-- the name in a text: what stands before the first blank, once the blanks in front are left out
 unfoldable pub name_part : List ℕ → List ℕ
 name_part text = before_first is_blank (trimmed text)
 
--- what stands behind the name
+-- what follows the name
 unfoldable pub operand_part : List ℕ → List ℕ
 operand_part text = drop (length (name_part text)) (trimmed text)
 
@@ -33,10 +33,10 @@ operand_part text = drop (length (name_part text)) (trimmed text)
 abbrev pub pieces : List ℕ → List (List ℕ)
 pieces text = slice_split is_comma text
 
--- how many operands a text has: as many as pieces, and none where only blanks stand
+-- how many operands a text has: as many as it has pieces, or none where it has only blanks
 unfoldable pub operand_count : List ℕ → ℕ
 operand_count text = if length (trimmed text) == 0 then 0 else length (pieces text)
 
--- the operand of this number, counted from 0: the piece without the blanks around it, and an empty text past the last
+-- the operand with this number, counted from 0: the piece without the blanks around it, and an empty text past the last
 unfoldable pub operand_at : List ℕ → ℕ → List ℕ
 operand_at text index = trimmed (slice_index_or (pieces text) index [])

@@ -36,7 +36,7 @@ unfoldable pub aimed : Jump → ℤ → Result Instr TextErr
 aimed (jump.Link rd) z = if_fits (is_distance (2 ^ 20) z) (instr.Jal rd z) z
 aimed (jump.Branch c rs1 rs2) z = if_fits (is_distance (2 ^ 12) z) (instr.Branch c rs1 rs2 z) z
 
--- what a line tells: an instruction, or a jump or a branch with its target's text
+-- what a line says: an instruction, or a jump or a branch with its target's text
 pub data Reading : Type 0 where
   WholeOf : Instr → Reading
   AimedAt : Jump → List ℕ → Reading
@@ -51,7 +51,7 @@ abbrev pub placed : ℕ → Reading → Result Instr TextErr
 placed pc (WholeOf i) = Ok i
 placed pc (AimedAt jump text) = aimed_at jump text pc
 
--- how many operands there have to be
+-- how many operands a mnemonic has
 abbrev pub wanted : Mnemonic → ℕ
 wanted Lui = 2
 wanted Auipc = 2
@@ -68,13 +68,13 @@ wanted Ebreak = 0
 wanted FenceI = 3
 wanted (Mul op) = 3
 
--- the fences, which may also have no operand
+-- the fences, which may also have no operands
 abbrev pub is_fence : Mnemonic → Bool
 is_fence Fence = true
 is_fence FenceI = true
 is_fence _ = false
 
--- so many operands may stand
+-- the mnemonic may have this many operands
 unfoldable pub takes : Mnemonic → ℕ → Bool
 takes mnemonic count = count == wanted mnemonic || is_fence mnemonic && count == 0
 
@@ -116,7 +116,7 @@ set_form text =
 unfoldable pub fence_form : ℕ → List ℕ → Result (ℕ × ℕ × ℕ) TextErr
 fence_form plain text = if operand_count text == 0 then Ok (0, 0, plain) else set_form text
 
--- an instruction that is whole
+-- a whole instruction, made of what was found
 abbrev pub whole : {A : Type 0} → (A → Instr) → Result A TextErr → Result Reading TextErr
 whole make found = and_then found (λ a. Ok (WholeOf (make a)))
 
@@ -132,7 +132,7 @@ branch_form c text =
     and_then (register_in (operand_at text 1)) (λ rs2.
     Ok (AimedAt (jump.Branch c rs1 rs2) (operand_at text 2))))
 
--- what the operands of a mnemonic tell, read from left to right; a store's first register is the one that is stored
+-- what the operands of a mnemonic say, read from left to right; a store's first register is the one that is stored
 unfoldable pub operands_read : Mnemonic → List ℕ → Result Reading TextErr
 operands_read Lui text = whole (λ (rd, imm). instr.Lui rd imm) (upper_form text)
 operands_read Auipc text = whole (λ (rd, imm). instr.Auipc rd imm) (upper_form text)
@@ -149,17 +149,17 @@ operands_read Ebreak text = Ok (WholeOf instr.Ebreak)
 operands_read FenceI text = whole (λ (rd, rs1, set). instr.FenceI rd rs1 set) (fence_form 0 text)
 operands_read (Mul op) text = whole (λ (rd, rs1, rs2). instr.Mul op rd rs1 rs2) (register_form text)
 
--- a count of operands, as far as 32 bits hold it
+-- a count of operands, at most the greatest number of 32 bits
 abbrev pub counted : ℕ → ℕ
 counted count = min count (2 ^ 32 - 1)
 
--- what the text behind a name tells: first the operands are counted
+-- what the text after a name says: first the operands are counted
 unfoldable pub statement_by : Mnemonic → List ℕ → Result Reading TextErr
 statement_by mnemonic text =
     if takes mnemonic (operand_count text) then operands_read mnemonic text
     else Err (WrongCount (counted (operand_count text)) (wanted mnemonic))
 
--- what a text tells: first its name is looked up
+-- what a text says: first its name is looked up
 unfoldable pub statement_of : List ℕ → Result Reading TextErr
 statement_of text =
     and_then (required UnknownName (mnemonic_named (name_part text)))

@@ -10,6 +10,6 @@ abbrev pub seen : Statement → Reading
 seen (Whole i) = WholeOf i
 seen (Aimed jump target) = AimedAt jump target.now
 
--- the answer is this one
+-- the result is this answer
 abbrev pub Reads : Result Statement TextErr → Result Reading TextErr → Type 0
 Reads result answer = MatchResult result (λ statement. answer ≡ Ok (seen statement)) (λ e. answer ≡ Err e)

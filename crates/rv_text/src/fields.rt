@@ -19,7 +19,7 @@ pub fn register_in(text: &[u8]) -> Result<u8, TextErr>
 }
 
 /// The number that an operand spells, from the least to the greatest: `BadNumber` where it spells
-/// none, and `OutOfRange` of the number where it lies outside.
+/// no number, and `OutOfRange` with the number where it lies outside.
 pub fn number_in(least: i32, greatest: i32, text: &[u8]) -> Result<i32, TextErr>
     ensures value { result ≡ number_in least greatest text.now }
     ensures least { IfOk result (λ z. least ≤ℤ z) }
@@ -48,7 +48,7 @@ pub(crate) fn field_below(limit: u32, text: &[u8]) -> Result<u32, TextErr>
     Ok(number_in(0, (limit - 1) as i32, text)?.unsigned_abs())
 }
 
-/// The immediate of an operation: for a shift its amount.
+/// The immediate of an operation: for a shift, its amount.
 pub(crate) fn immediate_of(op: ImmOp, text: &[u8]) -> Result<i32, TextErr>
     ensures { result ≡ immediate_of op text.now }
 {

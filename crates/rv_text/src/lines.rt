@@ -16,7 +16,7 @@ fn without_return(line: &[u8]) -> &[u8]
     }
 }
 
-/// What stands before the byte at an index, and what behind it.
+/// What stands before the byte at an index, and what follows it.
 pub fn cut_at(text: &[u8], index: usize) -> (&[u8], &[u8])
     requires { index < length text.now }
     ensures before { result.0.now ≡ take index text.now }
@@ -27,7 +27,7 @@ pub fn cut_at(text: &[u8], index: usize) -> (&[u8], &[u8])
     (&text[..index], &text[index + 1..])
 }
 
-/// The first line of a text that is not empty, and what stands behind it.
+/// The first line of a text that is not empty, and what follows it.
 #[tactic(auto, unfolding(crate::specs::Lines::text_lines), using(crate::proofs::LineCuts::lines))]
 pub fn cut_line(text: &[u8]) -> (&[u8], &[u8])
     requires { 0 < length text.now }

@@ -49,7 +49,7 @@ fn word_end(text: &[u8]) -> usize
     end
 }
 
-/// The name in a text, and what stands behind it.
+/// The name in a text, and what follows it.
 pub fn split_name(text: &[u8]) -> (&[u8], &[u8])
     ensures name { result.0.now ≡ name_part text.now }
     ensures behind { result.1.now ≡ operand_part text.now }
@@ -95,7 +95,7 @@ pub fn count_operands(text: &[u8]) -> usize
     }
 }
 
-/// The operand of this number, counted from 0; an empty text where there is none.
+/// The operand with this number, counted from 0; an empty text where there is none.
 #[tactic(auto, unfolding(crate::specs::Pieces::operand_at), using(crate::proofs::Cuts::cuts))]
 pub fn operand(text: &[u8], index: usize) -> &[u8]
     ensures { result.now ≡ operand_at text.now index }

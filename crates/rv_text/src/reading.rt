@@ -167,7 +167,7 @@ fn takes(mnemonic: Mnemonic, count: usize) -> bool
     count == wanted(mnemonic) as usize || is_fence(mnemonic) && count == 0
 }
 
-/// What the text behind a name tells: `WrongCount` where the operands are too many or too few, else
+/// What the text after a name says: `WrongCount` where the operands are too many or too few, else
 /// the first refusal of an operand from left to right.
 #[tactic(auto, unfolding(crate::specs::Reading::statement_by))]
 pub fn read_statement_of(mnemonic: Mnemonic, text: &[u8]) -> Result<Statement<'_>, TextErr>
@@ -183,8 +183,8 @@ pub fn read_statement_of(mnemonic: Mnemonic, text: &[u8]) -> Result<Statement<'_
     })
 }
 
-/// What a text tells before its target is read: `UnknownName` where its first word is no
-/// instruction's name, else as `read_statement_of` of what stands behind.
+/// What a text says before its target is read: `UnknownName` where its first word is not an
+/// instruction's name, else as `read_statement_of` of what follows.
 #[tactic(auto, unfolding(crate::specs::Reading::statement_of))]
 pub fn read_statement(text: &[u8]) -> Result<Statement<'_>, TextErr>
     ensures { Reads result (statement_of text.now) }
@@ -206,8 +206,8 @@ fn aim(jump: Jump, target: &[u8], pc: u32) -> Result<Instr, TextErr>
 
 /// The instruction that a text spells at `pc`, whose target is an address.
 ///
-/// The first refusal is answered: of the name, of the count of operands, of the operands from left
-/// to right.
+/// The first refusal is the answer: of the name, of the count of operands, of the operands from
+/// left to right.
 #[tactic(auto, unfolding(crate::specs::Reading::read_text))]
 pub fn read_instr(text: &str, pc: u32) -> Result<Instr, TextErr>
     ensures { result ≡ read_text text.now pc }

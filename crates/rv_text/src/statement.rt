@@ -1,4 +1,4 @@
-//! What a text tells before its target is read.
+//! What a text says before its target is read.
 #![tactic(auto, unfolding(crate::specs::Reading::distance_of, crate::specs::Reading::is_distance, crate::specs::Reading::aimed))]
 
 ghost use Rattle.std.specs.Prelude.{◌≡◌, pos, ◌<ℤ◌};
@@ -45,7 +45,7 @@ fn is_distance(distance: i32, half: i32) -> bool
 
 impl Jump {
     /// The jump or the branch over this distance. An odd distance, or one that its field cannot
-    /// hold, is `OutOfRange` of the distance.
+    /// hold, is `OutOfRange` with the distance.
     pub fn to(self, distance: i32) -> Result<Instr, TextErr>
         ensures { result ≡ aimed self distance }
     {

@@ -1,18 +1,18 @@
 //! What is wrong with the text of an instruction.
 
-/// Why a text is no instruction. The first that holds is answered: the name, the count of operands,
-/// then the operands from left to right.
+/// Why a text is not an instruction. The first that holds is the answer: the name, the count of
+/// operands, then the operands from left to right.
 #[derive(Clone, Copy, PartialEq, Eq)]
 pub enum TextErr {
-    /// The first word is no instruction's name.
+    /// The first word is not an instruction's name.
     UnknownName,
-    /// An operand that must be a register is none.
+    /// An operand that must be a register is not one.
     BadRegister,
-    /// An operand that must be a number is no spelling of one.
+    /// An operand that must be a number does not spell one.
     BadNumber,
-    /// The number does not fit its field. It is kept as it was written; of a target the distance is
-    /// kept.
+    /// The number does not fit its field. It is kept as it was written; for a target, the distance
+    /// is kept.
     OutOfRange(i64),
-    /// There are `got` operands, and not `wanted`.
+    /// There are `got` operands, not `wanted`.
     WrongCount { got: u32, wanted: u32 },
 }

@@ -7,7 +7,7 @@ use crate::operands::Operand;
 use arrayvec::ArrayVec;
 use std::marker::Model;
 
-/// A buffer of 80 bytes, which the text of every instruction fits.
+/// A buffer of 80 bytes, enough for the text of every instruction.
 #[derive(Drop)]
 pub struct TextLine {
     letters: ArrayVec<u8, 80>,
@@ -40,7 +40,7 @@ impl TextLine {
         }
     }
 
-    /// The bytes that stand in the line.
+    /// The bytes in the line.
     pub fn bytes(&self) -> &[u8]
         ensures { result.now ≡ self.now }
     {

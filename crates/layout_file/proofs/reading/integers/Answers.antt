@@ -8,7 +8,7 @@ use Rattle.toml.specs.declared.value.Value.{Value}
 use Rattle.layout_file.specs.Reading.{integer_in, integers_of}
 use Rattle.layout_file.proofs.reading.integers.Goals as goal
 
--- the integers from one element on
+-- the integers from a given element on
 next_at : (vs : List Value) (i : ℕ) (v : Value) → i < length vs → integers_of (items_view (drop i vs)) ≡ integer_in (view (get_or vs i v)) ∷ integers_of (items_view (drop (suc i) vs))
 next_at [] i v within = absurd (omega arith)
 next_at (w ∷ vs) zero v within = refl
