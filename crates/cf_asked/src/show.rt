@@ -9,6 +9,6 @@ pub enum Show {
     /// The line of each instruction that retires.
     Retired,
 
-    /// Of each move its line, the line of the instruction that retires with it, and the picture behind it.
+    /// For each move its line, the line of the instruction that retires with it, and the picture after it.
     Moves,
 }

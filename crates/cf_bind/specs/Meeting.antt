@@ -20,17 +20,17 @@ abbrev pub garnered : ℕ → ℕ → Option Binding → Option Binding
 garnered r v None = None
 garnered r v (Some b) = Some (record b { value = if b.reg == r then or_else b.value v else b.value })
 
--- a value of r behind a passenger that writes r: killed while the new value is not known, updated to it afterwards
+-- a value of r after it has met a passenger that writes r: killed while the new value is not known, updated to it once it is
 abbrev pub replaced : ℕ → Option ℕ → Option Packet
 replaced r None = None
 replaced r (Some w) = Some (Value r w)
 
--- a value v of r behind a passenger with this destination
+-- a value v of r after it has met a passenger with this destination
 abbrev pub passed : ℕ → ℕ → Option Binding → Option Packet
 passed r v None = Some (Value r v)
 passed r v (Some b) = if b.reg == r then replaced r b.value else Some (Value r v)
 
--- the passenger must not have been fetched: it is dead and owes nothing any more
+-- the passenger should not have been fetched: it is dead and no longer owes anything
 abbrev pub cancelled : Passenger → Passenger
 cancelled p = record p { dead = true; owes = None }
 
@@ -40,7 +40,7 @@ passenger_met (Value r v) p = record p { src1 = garnered r v p.src1; src2 = garn
 passenger_met (Turn pc) p = cancelled p
 passenger_met Halt p = cancelled p
 
--- what a packet becomes behind a live passenger
+-- what a packet becomes when it meets a live passenger
 abbrev pub packet_met : Packet → Passenger → Option Packet
 packet_met (Value r v) p = passed r v p.dst
 packet_met (Turn pc) p = Some (Turn pc)

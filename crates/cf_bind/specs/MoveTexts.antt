@@ -6,7 +6,7 @@ use Rattle.cf_bind.specs.declared.passenger.Guess.TheVariants as guess
 use Rattle.cf_bind.specs.declared.moves.Move.{Move}
 use Rattle.cf_bind.specs.declared.moves.Move.TheVariants.{Issue, Emit, Climb, Fall, Meet, Execute, Send, Launch, Slide, Access, Recover, Leave, Exit, Serve}
 
--- a guess, as it stands behind `issue`
+-- a guess, as it stands after `issue`
 abbrev pub guess_text : Guess → List ℕ
 guess_text guess.Next = codes "next"
 guess_text guess.Taken = codes "taken"

@@ -1,4 +1,4 @@
-//! What stands at one place: a stage of the pipes, or an operation of a siding.
+//! What stands at one place: a stage of the pipes, or an operation in a siding.
 
 use crate::packet::Packet;
 use crate::passenger::Passenger;

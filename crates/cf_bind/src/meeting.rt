@@ -20,8 +20,8 @@ fn garner(source: &mut Option<Binding>, reg: u8, value: u32)
     }
 }
 
-/// What is left of a value of this register behind an instruction with this destination: nothing where the new value is not
-/// known, and the new value where it is.
+/// What is left of a value of this register after it has met an instruction with this destination: nothing where the new
+/// value is not known, and the new value where it is.
 #[inline(always)]
 fn pass(destination: Option<Binding>, reg: u8, value: u32) -> Option<Packet>
     ensures { result ≡ passed reg value destination }

@@ -8,7 +8,7 @@ use crate::move_line::MoveLine;
 use crate::moves::Move;
 use crate::passenger::Guess;
 
-/// The guess, behind what the line has.
+/// Appends the guess to the line.
 fn push_guess(guess: Guess, line: &mut MoveLine)
     requires { length line.old + 11 ≤ 32 }
     ensures { line.new ≡ line.old ++ text_of guess }

@@ -5,7 +5,7 @@ use crate::passenger::Guess;
 /// One local change of the processor. A number without a name is that of a stage, from 1 at the bottom.
 #[derive(Clone, Copy, PartialEq, Eq)]
 pub enum Move {
-    /// A new instruction enters the lowest stage, and fetch goes on by the guess.
+    /// A new instruction enters the lowest stage, and fetch goes on as guessed.
     Issue(Guess),
 
     /// The register file answers the first request at the top of the result pipe.
@@ -89,6 +89,6 @@ pub enum Bar {
     BadGuess,
     /// The instruction is dead.
     Dead,
-    /// That was done before.
+    /// That has already been done.
     AlreadyDone,
 }

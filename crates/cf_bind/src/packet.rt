@@ -6,10 +6,12 @@ pub enum Packet {
     /// A register's value.
     Value { reg: u8, value: u32 },
 
-    /// The program goes on at this address; all that was fetched behind it is to be thrown away.
+    /// The program goes on at this address; all that was fetched after the instruction that
+    /// sends this is to be thrown away.
     Turn(u32),
 
-    /// The program ends here; all that was fetched behind it is to be thrown away.
+    /// The program ends here; all that was fetched after the instruction that sends this is to
+    /// be thrown away.
     Halt,
 }
 

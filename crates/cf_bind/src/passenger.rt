@@ -4,7 +4,7 @@ use crate::binding::Binding;
 use crate::packet::Packet;
 use rv_inst::Instr;
 
-/// Where fetch goes on behind an instruction, guessed when it is issued.
+/// Where fetch goes on after an instruction, guessed when it is issued.
 #[derive(Clone, Copy, PartialEq, Eq)]
 pub enum Guess {
     /// At the next word.
@@ -40,7 +40,7 @@ pub struct Passenger {
     /// The instruction, or `None` where there was none at its address.
     pub what: Option<Instr>,
 
-    /// Where fetch went on behind it.
+    /// Where fetch went on after it.
     pub guess: Guess,
 
     /// Its first source, or `None` where it has none.
@@ -64,12 +64,12 @@ pub struct Passenger {
     /// The address of the instruction to run after it, once it is done.
     pub next: Option<u32>,
 
-    /// How it ends the program, where it does.
+    /// How it ends the program, if it does.
     pub ending: Option<End>,
 
-    /// The packet that it has still to send.
+    /// The packet that it still has to send.
     pub owes: Option<Packet>,
 
-    /// It must not have been fetched, and climbs on without effect.
+    /// It should not have been fetched, and climbs on without effect.
     pub dead: bool,
 }

@@ -9,7 +9,7 @@ kept-at [] r = refl
 kept-at (o ∷ cache) zero = refl
 kept-at (o ∷ cache) (suc r) = kept-at cache r
 
--- nothing is kept where none of the entries has a value
+-- a cleared cache has no value in any of its entries
 none-kept : (cache : List (Option ℕ)) → cleared cache ≡ replicate (length cache) None
 none-kept [] = refl
 none-kept (o ∷ cache) = ap (λ (l : List (Option ℕ)). None ∷ l) (none-kept cache)

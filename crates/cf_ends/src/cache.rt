@@ -28,7 +28,7 @@ impl Ends {
         self.cache[r as usize] = Some(value);
     }
 
-    /// Keeps no value for the register any more.
+    /// Stops keeping a value for the register.
     #[inline(always)]
     pub fn forget(&mut self, r: u8)
         requires { r < 32 }
@@ -38,7 +38,7 @@ impl Ends {
         self.cache[r as usize] = None;
     }
 
-    /// Keeps no value any more.
+    /// Stops keeping any value.
     #[inline(always)]
     #[tactic(auto, using(crate::proofs::Keeping::clearing))]
     pub fn clear(&mut self)
@@ -47,7 +47,7 @@ impl Ends {
         self.cache = [None; 32];
     }
 
-    /// The value that is kept for each register, if one is: for x0 none ever is.
+    /// The value that is kept for each register, if one is; none is ever kept for x0.
     #[inline(always)]
     pub fn cache(&self) -> [Option<u32>; 32]
         ensures cache { result ≡ self.now.cache }

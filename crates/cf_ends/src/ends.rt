@@ -30,7 +30,7 @@ impl Model for Ends {
 }
 
 impl Ends {
-    /// The ends of empty pipes: the registers, of which x0 is zero whatever is given for it, room for 2 to 64 requests, and
+    /// The ends of empty pipes: the registers, with x0 zero whatever is given for it, room for 2 to 64 requests, and
     /// fetch at the address; or an error where there is no memory for the requests.
     pub fn new(alloc: Global, regs: [u32; 32], pc: u32, lane: u32) -> Result<Ends, AllocError>
         requires least { 2 ≤ lane }
@@ -58,7 +58,7 @@ impl Ends {
         self.regs[r as usize]
     }
 
-    /// The 32 registers, of which x0 is always zero.
+    /// The 32 registers; x0 is always zero.
     #[inline(always)]
     pub fn regs(&self) -> &[u32; 32]
         ensures registers { result.now ≡ self.now.regs }

@@ -30,7 +30,7 @@ impl Ends {
         }
     }
 
-    /// Requests the register, behind all other requests.
+    /// Requests the register, after all other requests.
     #[inline(always)]
     #[tactic(auto, using(crate::proofs::Requests::requesting))]
     pub fn request(&mut self, r: u8)

@@ -1,9 +1,9 @@
--- A number past the greatest u64 stands in no list of such numbers.
+-- A number past the greatest u64 is in no list of such numbers.
 use Rattle.std.proofs.Common.{◌≡◌, ℕ, ◌+◌, ◌<◌, ◌≤◌, ◌^◌, ◌==◌, List, All, false, sym, arith}
 use Rattle.std.proofs.lemmas.List.Folds.{list_any_none}
 use Rattle.std.specs.List.{list_any}
 
--- a number that is smaller is another one
+-- a smaller number is a different one
 is_other : (number next : ℕ) → number < 2 ^ 64 → 2 ^ 64 ≤ next → (number == next) ≡ false
 is_other number next below past = grind arith
 

@@ -1,4 +1,4 @@
--- A count that rose is greater than before, or stands at the greatest u64.
+-- A count that rose is greater than before, or is the greatest u64.
 use Rattle.std.proofs.Common.{◌≡◌, ℕ, ◌-◌, ◌^◌, ◌<◌, ◌⊎◌, arith}
 use Rattle.cf_io.specs.Causes.{Rose}
 

@@ -1,4 +1,4 @@
--- Texts that are put one after the other, of a whole text that is owed.
+-- Texts that are put one after the other, as parts of a whole text that is owed.
 use Rattle.std.proofs.Common.{◌≡◌, ℕ, ◌+◌, ◌≤◌, List, [], ◌++◌, length, take, Option, Some, None, refl, ap, sym, ◌∙◌, subst, append-nil, append_assoc, arith}
 use Rattle.std.specs.Prelude.{Result, Ok, Err, OnErr}
 use Rattle.std.proofs.lemmas.Result.{on_err_weaker}
@@ -17,7 +17,7 @@ writes-again None b c x y h k = tt
 writes-again (Some told) b c x y h k =
     subst (λ (o : Option (List ℕ)). Writes o c y) h k ∙ ap Some (append_assoc told x y)
 
--- a front of the first text is one of both
+-- a front of the first text is a front of both
 pub front-first : (a b : Option (List ℕ)) (x y : List ℕ) → WritesFront a b x → WritesFront a b (x ++ y)
 front-first None b x y front = tt
 front-first (Some told) b x y (n, short, k) =
@@ -65,7 +65,7 @@ pub err-again : {E : Type 0} (a b c : Option (List ℕ)) (x y : List ℕ) (r : R
     → Writes a b x → OnErr r (WritesFront b c y) → OnErr r (WritesFront a c (x ++ y))
 err-again a b c x y r h k = on_err_weaker r (front-again a b c x y h) k
 
--- the same of an answer that is a failure
+-- what holds, holds where an answer is a failure
 on-any : {E : Type 0} (P : Type 0) (s : Result (Unit {0}) E) → P → OnErr s P
 on-any P (Ok u) h = tt
 on-any P (Err e) h = h

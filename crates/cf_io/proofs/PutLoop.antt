@@ -4,7 +4,7 @@ use Rattle.std.proofs.Math.Seq.{take-add, take-length}
 use Rattle.std.proofs.lemmas.List.{length-drop}
 use Rattle.cf_io.specs.Puts.{Writes}
 
--- so many bytes from the front are written, and no fault was counted
+-- that many bytes from the front are written, and no fault was counted
 pub record HasPut (written after : Option (List ℕ)) (bytes : List ℕ) (done before now : ℕ) :
     Type 0 where
   pub within : done ≤ length bytes

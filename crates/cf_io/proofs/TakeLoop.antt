@@ -7,7 +7,7 @@ use borrow.Rule.Slice.PartMut.{put_mid}
 use Rattle.std.specs.Prelude.{Result, Ok}
 use Rattle.cf_io.specs.Takes.{Takes, TakesSome, GivesFront, IsAtEnd, TakesMost}
 
--- so many bytes are taken, the slice has its length, and no fault was counted
+-- that many bytes are taken, the slice has its length, and no fault was counted
 pub record HasTaken (left after : Option (List ℕ)) (into new : List ℕ) (done before now : ℕ) :
     Type 0 where
   pub taken : TakesSome left after into new done
@@ -38,7 +38,7 @@ take_over i n slice piece within =
     let front : length (take i slice) ≡ i = length-take-le i slice within in
     ap (λ k. take (k + n) (take i slice ++ piece)) (sym front) ∙ take-append-add (take i slice) piece n
 
--- what stands behind that front
+-- what comes after that front
 drop_over : (i n : ℕ) (slice piece : List ℕ) → i ≤ length slice →
     drop (i + n) (take i slice ++ piece) ≡ drop n piece
 drop_over i n slice piece within =
@@ -59,7 +59,7 @@ gives-add (Some left) b c slice piece i n within first next =
       more.2 ∙ ap Some (drop-drop n i left),
     )
 
--- one more piece behind the bytes taken so far
+-- one more piece after the bytes taken so far
 takes-add : (a b c : Option (List ℕ)) (into slice piece : List ℕ) (i n : ℕ) →
     length slice ≡ length into → length piece ≡ length slice - i → TakesSome a b into slice i →
     GivesFront b c piece n → n ≤ length piece → drop n piece ≡ drop n (drop i slice) →

@@ -27,7 +27,7 @@ unread_files files fails = record {
   faults = 0;
 }
 
--- what they tell
+-- what the files tell
 abbrev pub told_by : MemoryFiles → Told
 told_by files = record {
   content = content_of files.files;
@@ -36,7 +36,7 @@ told_by files = record {
   unheld = files.unheld;
 }
 
--- whether a read of that name fails: by its number, or since there is no such file
+-- whether a read of that name fails: by its number, or because there is no such file
 unfoldable pub read_fails : MemoryFiles → List ℕ → Bool
 read_fails files name = fails_next files.calls || is_none (content_of files.files name)
 
@@ -63,7 +63,7 @@ after_unheld files = record files {
   unheld = raised files.unheld;
 }
 
--- just the reads that are to fail do, but for want of memory, and each read is counted
+-- exactly the reads that are to fail do, apart from lack of memory, and each read is counted
 abbrev pub ReadsCounted : {T : Type 0} → MemoryFiles → MemoryFiles → List ℕ → Result T FilesErr →
     Type 0
 ReadsCounted files after name (Ok bytes) =

@@ -27,7 +27,7 @@ room_of sink = sink.capacity - length sink.written
 abbrev pub put_size : MemorySink → ℕ → ℕ
 put_size sink size = min size (room_of sink)
 
--- whether a put of so many bytes fails: by its number, or since the sink is full
+-- whether a put of that many bytes fails: by its number, or because the sink is full
 unfoldable pub put_fails : MemorySink → ℕ → Bool
 put_fails sink size = not (size == 0) && (fails_next sink.calls || room_of sink == 0)
 

@@ -23,11 +23,11 @@ start_of bytes piece fails = record {
 abbrev pub piece_size : MemorySource → ℕ → ℕ
 piece_size source room = min (min room (length source.left)) source.piece
 
--- whether a take into so much room fails
+-- whether a take into that much room fails
 unfoldable pub take_fails : MemorySource → ℕ → Bool
 take_fails source room = not (room == 0) && fails_next source.calls
 
--- after a take into so much room, which is counted if there is any
+-- after a take into that much room, which is counted if there is any
 unfoldable pub after_take : MemorySource → ℕ → MemorySource
 after_take source room =
     if room == 0 then source

@@ -23,11 +23,11 @@ with_failed told name = record told {
   failed = told.failed ++ name ∷ [];
 }
 
--- with one more read that found no memory, perhaps none for the name itself
+-- with one more read that found no memory, perhaps not even for the name itself
 abbrev pub with_unheld : Told → Told
 with_unheld told = record told { unheld = raised told.unheld }
 
--- one read, where the files tell: the first bytes of the file; each read is noted, by its name or as one that found no memory
+-- one read, where the files tell what they have: the first bytes of the file; each read is noted, by its name or as one that found no memory
 abbrev pub ReadsTold : Told → Option Told → List ℕ → ℕ → Result (Vec ℕ Global) FilesErr → Type 0
 ReadsTold told after name most (Ok bytes) =
     (option_map (take most) (told.content name) ≡ Some bytes.items) × (after ≡ Some (with_read told name))
@@ -39,18 +39,18 @@ abbrev pub Reads : Option Told → Option Told → List ℕ → ℕ → Result (
 Reads None after name most result = after ≡ None
 Reads (Some told) after name most result = ReadsTold told after name most result
 
--- Failed comes only where the count rose, and another answer only where it did not
+-- Failed comes only where the count rose, and any other answer only where it did not
 abbrev pub RoseOnFailed : {T : Type 0} → ℕ → ℕ → Result T FilesErr → Type 0
 RoseOnFailed before now (Err err.Failed) = Rose before now
 RoseOnFailed before now (Err err.NoMemory) = now ≡ before
 RoseOnFailed before now (Ok x) = now ≡ before
 
--- the count never falls, and rises just where the answer is Failed
+-- the count never falls, and rises exactly where the answer is Failed
 pub record HasReadCause {T : Type 0} (before now : ℕ) (result : Result T FilesErr) : Type 0 where
   pub never_falls : before ≤ now
   pub rose : RoseOnFailed before now result
 
--- just a read that answers Failed is counted
+-- a read is counted exactly where it answers Failed
 abbrev pub CountsReadFaults : {T : Type 0} → ℕ → ℕ → Result T FilesErr → Type 0
 CountsReadFaults before now (Err err.Failed) = now ≡ raised before
 CountsReadFaults before now (Err err.NoMemory) = now ≡ before

@@ -1,7 +1,7 @@
 -- What taking bytes does to the slice and to what is left (a convention of this project).
 use Rattle.std.specs.Prelude.{◌≡◌, ◌≤◌, ◌<◌, ℕ, List, [], take, drop, length, min, Option, Some, None, Result, Ok, IfOk, OnErr}
 
--- where the source tells: the first n bytes that it had left were taken, and the rest is left
+-- where the source tells what it has left: the first n bytes that it had left were taken, and the rest is left
 abbrev pub GivesFront : Option (List ℕ) → Option (List ℕ) → List ℕ → ℕ → Type 0
 GivesFront None after new n = Unit {0}
 GivesFront (Some left) after new n =
@@ -22,7 +22,7 @@ pub record Takes {E : Type 0} (left after : Option (List ℕ)) (into new : List 
   pub empty : length into ≡ 0 → result ≡ Ok 0
   pub unchanged : OnErr result ((new ≡ into) × (after ≡ left))
 
--- n bytes were taken to the front of the slice, and its old bytes stand behind them
+-- n bytes were taken to the front of the slice, and its old bytes follow them
 pub record TakesSome (left after : Option (List ℕ)) (into new : List ℕ) (n : ℕ) : Type 0 where
   pub count : n ≤ length into
   pub told : GivesFront left after new n

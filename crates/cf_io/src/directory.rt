@@ -11,7 +11,7 @@ use std::io::{self, Read};
 use std::{fs, rt};
 
 /// Real files by their paths, which do not tell their contents. A missing file, or a name that
-/// cannot be opened, is a fault; want of memory is none.
+/// cannot be opened, is a fault; lack of memory is not.
 #[derive(Drop)]
 pub struct DirFiles<'a, R: rt::Files + AllocGlobal> {
     rt: &'a R,
@@ -27,7 +27,7 @@ impl<'a, R: rt::Files + AllocGlobal> DirFiles<'a, R> {
     }
 }
 
-/// The first bytes that a reader has left, at most so many.
+/// The first bytes that a reader has left, at most `most`.
 fn front_of<R: Read + Drop>(reader: R, alloc: Global, most: u64) -> io::Result<Vec<u8>>
     ensures most { IfOk result (λ bytes. vec_len bytes ≤ most) }
     ensures bytes { IfOk result (λ bytes. IfSome (R.remaining reader) (λ left. bytes.items ≡ take most left)) }
@@ -39,7 +39,7 @@ fn front_of<R: Read + Drop>(reader: R, alloc: Global, most: u64) -> io::Result<V
     Ok(bytes)
 }
 
-/// The first bytes of a file, at most so many.
+/// The first bytes of a file, at most `most`.
 fn read_front<R: rt::Files + AllocGlobal>(
     rt: &R,
     alloc: Global,
@@ -51,7 +51,7 @@ fn read_front<R: rt::Files + AllocGlobal>(
     front_of(fs::open(rt, name)?, alloc, most)
 }
 
-/// Why the read gave no bytes: for want of memory just where the error is of that kind.
+/// Why the read gave no bytes: for lack of memory exactly where the error is of that kind.
 fn reason(error: &io::Error) -> FilesErr
     ensures { result ≡ FilesErr.NoMemory ↔ error_kind error.now ≡ kind.OutOfMemory }
 {

@@ -26,8 +26,8 @@ pub trait Files {
     /// The first `most` bytes of the file called `name`, or all of it where it has fewer.
     ///
     /// `Failed` comes only where the files' count of faults rose in this call. Files that tell
-    /// their contents note each read: they append the name to their list of reads, after `Failed`
-    /// to that of failed reads too, and after `NoMemory` they count one more that found none.
+    /// their contents note each read: they append the name to their list of reads, and after `Failed`
+    /// to that of failed reads too; after `NoMemory` they only count one more read that found no memory.
     fn read(&mut self, alloc: Global, name: &str, most: u64) -> Result<Vec<u8>, FilesErr>
         ensures bytes { Reads (told self.old) (told self.new) name.now most result }
         ensures most { IfOk result (λ bytes. vec_len bytes ≤ most) }

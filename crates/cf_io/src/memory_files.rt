@@ -12,8 +12,8 @@ use crate::files::{Files, FilesErr};
 use std::alloc::Global;
 use std::marker::Model;
 
-/// Files in memory, of which the first of a name counts. The reads whose numbers are listed fail,
-/// and those of a missing name.
+/// Files in memory, where the first of each name counts. The reads whose numbers are listed fail,
+/// and so do those of a missing name.
 #[derive(Drop)]
 pub struct MemFiles {
     files: Vec<(String, Vec<u8>)>,
@@ -72,7 +72,7 @@ fn find_content<'a>(files: &'a [(String, Vec<u8>)], name: &str) -> Option<&'a [u
     None
 }
 
-/// A copy of the first bytes, at most so many.
+/// A copy of the first bytes, at most `most`.
 fn front_of(alloc: Global, bytes: &[u8], most: u64) -> Result<Vec<u8>, FilesErr>
     ensures ok { IfOk result (λ copy. copy.items ≡ take most bytes.now) }
     ensures err { IfErr result (λ e. e ≡ FilesErr.NoMemory) }
@@ -84,7 +84,7 @@ fn front_of(alloc: Global, bytes: &[u8], most: u64) -> Result<Vec<u8>, FilesErr>
     }
 }
 
-/// The name for each of two lists, which have room for it then and keep what they hold.
+/// The name for each of two lists, which then have room for it and keep what they hold.
 fn names_for(
     alloc: Global,
     name: &str,
@@ -119,7 +119,7 @@ fn append(names: &mut Vec<String>, name: String)
 }
 
 impl MemFiles {
-    /// Counts one more read that found no memory, and answers so.
+    /// Counts one more read that found no memory, and answers `NoMemory`.
     fn refuse_memory(&mut self) -> FilesErr
         ensures answer { result ≡ FilesErr.NoMemory }
         ensures state { self.new ≡ record self.old { unheld = raised self.old.unheld } }

@@ -11,8 +11,8 @@ use crate::sink::Sink;
 use std::alloc::{AllocError, Global};
 use std::marker::Model;
 
-/// A buffer of fixed capacity. The puts whose numbers are listed fail, and those into a full
-/// buffer, and no others.
+/// A buffer of fixed capacity. The puts whose numbers are listed fail, and so do those into a full
+/// buffer, but no others.
 #[derive(Drop)]
 pub struct MemSink {
     bytes: Vec<u8>,

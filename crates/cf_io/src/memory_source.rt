@@ -10,7 +10,7 @@ use crate::failing_calls::FailingCalls;
 use crate::source::Source;
 use std::marker::Model;
 
-/// Bytes in memory that are given in pieces. The takes whose numbers are listed fail, and no
+/// Bytes in memory that are given in pieces. The takes whose numbers are listed fail, but no
 /// others.
 #[derive(Drop)]
 pub struct MemSource {

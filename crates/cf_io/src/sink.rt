@@ -15,9 +15,9 @@ pub trait Sink {
     ghost faults: { Self → ℕ };
 
     /// Writes bytes from the front of `bytes` and answers how many: at least 1 of a piece that is
-    /// not empty, and 0 of an empty one. They stand behind what was written before.
+    /// not empty, and 0 of an empty one. They come after what was written before.
     ///
-    /// The count of faults rises just where the answer is `Failed`. Nothing was
+    /// The count of faults rises exactly where the answer is `Failed`. Nothing was
     /// written then.
     fn put(&mut self, bytes: &[u8]) -> Result<usize, Failed>
         ensures bytes { Puts (written self.old) (written self.new) bytes.now result }

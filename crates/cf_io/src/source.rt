@@ -15,7 +15,7 @@ pub trait Source {
     ghost faults: { Self → ℕ };
 
     /// Puts bytes at the front of `into` and answers how many, at most its length. The rest of
-    /// `into` is unchanged. For an empty slice the answer is 0; for another, 0 means the end of
+    /// `into` is unchanged. For an empty slice the answer is 0; for any other, 0 means the end of
     /// the input. Where the source tells what it has left, the bytes are the first of these, and
     /// the rest is left.
     ///
@@ -30,7 +30,7 @@ pub trait Source {
 /// They stand at the front of `into`, and the rest of it is unchanged.
 ///
 /// After `Failed` the bytes taken so far, fewer than there is room for, stand at the front of `into`,
-/// its old bytes stand behind them, and the source's count of faults rose.
+/// its old bytes follow them, and the source's count of faults rose.
 pub fn take_all<S: Source>(source: &mut S, into: &mut [u8]) -> Result<usize, Failed>
     ensures bytes { TakesAll (S.left source.old) (S.left source.new) into.old into.new result }
     ensures cause { HasCause (S.faults source.old) (S.faults source.new) result }

@@ -12,7 +12,8 @@ use crate::sink::Sink;
 use crate::source::Source;
 use std::io::{self, Read, Write};
 
-/// A reader's answer as a source's: as many bytes as it gave, where 0 is the end and no fault; and each error a failure.
+/// A reader's answer as a source's: the number of bytes that it gave, where 0 is the end and not a fault; each error is
+/// a failure.
 fn taken(answer: io::Result<usize>) -> Result<usize, Failed>
     ensures { result ≡ answer_of_reader answer }
 {
@@ -22,8 +23,8 @@ fn taken(answer: io::Result<usize>) -> Result<usize, Failed>
     }
 }
 
-/// A writer's answer to a piece that is not empty as a sink's: as many bytes as it took, if it took any. That it took
-/// none is a failure, and so is each error.
+/// A writer's answer, to a piece that is not empty, as a sink's: the number of bytes that it took, if it took any. To
+/// take none is a failure, and so is each error.
 fn written(answer: io::Result<usize>) -> Result<usize, Failed>
     ensures { result ≡ answer_of_writer answer }
 {
@@ -55,7 +56,7 @@ impl<R: Read + Drop> Source for StdSource<R> {
 
     ghost faults = { λ s. s.faults };
 
-    // A reader says nothing of the slice behind the bytes that it gave, nor of the slice after an
+    // A reader says nothing of the slice after the bytes that it gave, nor of the slice after an
     // error. So it reads into a buffer of our own.
     fn take(&mut self, into: &mut [u8]) -> Result<usize, Failed>
         ensures bytes { Takes None None into.old into.new result }

@@ -166,7 +166,7 @@ instruction-in : (isa : Isa) (what : Option Instr) → IfSome what (IsInstructio
 instruction-in isa None h = record { fits = tt; base = λ e. refl }
 instruction-in isa (Some i) h = h
 
--- what stands for no instruction is one of each set
+-- what stands in for a missing instruction is one of each set
 pub passenger-instruction : (isa : Isa) (p : Passenger) → IsPassenger isa p → IsInstruction isa (instruction p)
 passenger-instruction isa p h = instruction-in isa p.what h.instr
 

@@ -14,7 +14,7 @@ use Rattle.cf_semantics.specs.moves.Moves.{launch_trap, operation}
 use Rattle.cf_passengers.specs.Launching.{trap_at_launch}
 use Rattle.cf_passengers.proofs.Classes.{kind-class}
 
--- the trap at launch depends on the bounds of memory alone
+-- the trap at launch depends only on the bounds of memory
 pub launch_trap-bounds : (s : State) (p : Passenger) → launch_trap s p ≡ trap_at_launch p (bounds_of s.mem)
 launch_trap-bounds s p = refl
 

@@ -46,7 +46,7 @@ pub record IsPassenger (isa : Isa) (p : Passenger) : Type 0 where
   pub instr : IfSome p.what (IsInstruction isa)
   -- where it has none, it is done and ends the program
   pub ended : p.what ≡ None → (p.done ≡ true) × IsSome p.ending
-  -- its sources, its destination and what it owes are of registers other than x0
+  -- its sources, its destination and what it owes are for registers other than x0
   pub src1 : IfSome p.src1 IsBinding
   pub src2 : IfSome p.src2 IsBinding
   pub dst : IfSome p.dst IsBinding

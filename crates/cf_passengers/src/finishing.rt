@@ -1,4 +1,4 @@
-//! How a passenger is done: it is computed, it traps, its operation comes back, or the environment answers.
+//! How a passenger becomes done: it is computed, it traps, its operation comes back, or the environment answers.
 
 ghost use Rattle.std.specs.Prelude.{◌≡◌, false, true, IfNone, IsTrue};
 ghost use Rattle.rv_inst.specs.declared.isa.Isa.{Isa as InstructionSet};
@@ -15,7 +15,7 @@ use cf_bind::{Binding, End, Packet, Passenger};
 use rv_inst::{Instr, class_of, next_of};
 use rv_mul::value;
 
-/// The trap of a branch or a jump whose next address is no multiple of 4.
+/// The trap of a branch or a jump whose next address is not a multiple of 4.
 #[inline(always)]
 #[tactic(auto, unfolding(cf_semantics::specs::moves::Instructions::finish_trap, cf_semantics::specs::moves::Instructions::kind_of))]
 fn misaligned(i: Instr, pc: u32, a: u32, b: u32) -> Option<End>
@@ -70,7 +70,7 @@ fn value_of(destination: Option<Binding>, value: u32) -> Option<Packet>
 }
 
 /// The passenger is done with the value, and the program goes on at `next`: it owes a turn where the guess was another address,
-/// and else its value.
+/// and otherwise its value.
 #[inline(always)]
 fn finished(p: Passenger, next: u32, value: u32) -> Passenger
     ensures { result ≡ finished_at p next value }
@@ -89,7 +89,7 @@ fn finished(p: Passenger, next: u32, value: u32) -> Passenger
     }
 }
 
-/// The passenger traps: it is done, and owes a halt to what was fetched behind it.
+/// The passenger traps: it is done, and owes a halt to what was fetched after it.
 #[inline(always)]
 pub fn trapped(p: Passenger, end: End) -> Passenger
     ensures passenger { result ≡ trapped_by p end }
@@ -104,7 +104,7 @@ pub fn trapped(p: Passenger, end: End) -> Passenger
 }
 
 /// The passenger finishes, with the answer of memory or, without one, with what its unit computes. A branch or a jump whose
-/// next address is no multiple of 4 traps.
+/// next address is not a multiple of 4 traps.
 #[inline(always)]
 #[tactic(auto, using(crate::proofs::Classes::finishing), unfolding(cf_semantics::specs::state::Passengers::finish, cf_semantics::specs::moves::Instructions::kind_of))]
 pub fn finish(p: Passenger, answer: Option<u32>) -> Passenger
@@ -143,7 +143,7 @@ pub fn back_in(p: Passenger, answer: Option<u32>) -> Passenger
     }
 }
 
-/// The environment has answered the passenger. All that was fetched behind it must be fetched anew.
+/// The environment has answered the passenger. All that was fetched after it must be fetched again.
 #[inline(always)]
 pub fn answered(p: Passenger, value: u32) -> Passenger
     ensures passenger { result ≡ answered_by p value }

@@ -1,4 +1,4 @@
-//! Where the program goes on behind a passenger, and which guesses are made.
+//! Where the program goes on after a passenger, and which guesses are made.
 
 ghost use Rattle.std.specs.Prelude.{◌≡◌};
 ghost use Rattle.cf_semantics.specs.moves.Instructions.{is_control as turns_control, is_indirect as is_jalr, target_of, word_after as next_word};
@@ -47,7 +47,7 @@ fn target(i: Instr, pc: u32) -> u32
     }
 }
 
-/// The address that the guess names behind the instruction at `pc`; `None` where fetch waits.
+/// The address that the guess names after the instruction at `pc`; `None` where fetch waits.
 #[inline(always)]
 pub fn guessed(guess: Guess, i: Instr, pc: u32) -> Option<u32>
     ensures { result ≡ place_guessed guess i pc }
@@ -74,8 +74,8 @@ pub fn may_guess(guess: Guess, p: &Passenger) -> bool
     }
 }
 
-/// The address at which the program goes on behind the passenger: where it is done its next address, and else the guessed
-/// one. It is `None` where the passenger ends the program, behind ECALL and FENCE.I until they are done, and where fetch
+/// The address at which the program goes on after the passenger: its next address where it is done, and otherwise the guessed
+/// one. It is `None` where the passenger ends the program, after ECALL and FENCE.I until they are done, and where fetch
 /// waits.
 #[inline(always)]
 pub fn goto(p: &Passenger) -> Option<u32>

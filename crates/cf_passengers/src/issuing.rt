@@ -108,7 +108,7 @@ fn trap_when_free(i: Instr, pc: u32) -> Option<End>
     }
 }
 
-/// A passenger of which nothing is known but where it was fetched.
+/// A passenger of which only the instruction, the address and the guess are known.
 #[inline(always)]
 fn blank(what: Option<Instr>, pc: u32, guess: Guess) -> Passenger
     ensures { result ≡ record { pc = pc; what = what; guess = guess; src1 = None; src2 = None; dst = None; done = false; launched = false; recovered = false; next = None; ending = None; owes = None; dead = false } }
@@ -144,7 +144,7 @@ fn ended(what: Option<Instr>, pc: u32, guess: Guess, end: End) -> Passenger
     }
 }
 
-/// A passenger that has still to be computed, or to be answered by the environment.
+/// A passenger that still has to be computed, or to be answered by the environment.
 #[inline(always)]
 #[tactic(auto, using(crate::proofs::Kept::issuing_undone), unfolding(cf_semantics::specs::moves::Instructions::src1_of, cf_semantics::specs::moves::Instructions::src2_of, cf_semantics::specs::moves::Instructions::dst_of))]
 fn undone(ends: &Ends, i: Instr, pc: u32, guess: Guess) -> Passenger

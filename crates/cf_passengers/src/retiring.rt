@@ -1,4 +1,4 @@
-//! What is told of a passenger that retires.
+//! What is reported of a passenger that retires.
 
 ghost use Rattle.std.specs.Prelude.{◌≡◌, IfSome};
 ghost use Rattle.rv_inst.specs.Ranges.{Fits};

@@ -1,4 +1,4 @@
--- A script tells no more moves than its text has bytes, and one.
+-- A script has at most one more move than its text has bytes.
 use Rattle.std.proofs.Common.{◌≡◌, ℕ, ◌+◌, ◌<◌, ◌≤◌, ◌^◌, List, [], ◌∷◌, Bool, true, false, Ok, Err, length, subst, arith}
 use Rattle.std.specs.Prelude.{Result, if◌then◌else◌}
 use Rattle.std.specs.List.{slice_split}

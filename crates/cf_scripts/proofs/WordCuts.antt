@@ -13,7 +13,7 @@ use Rattle.rv_text.specs.Pieces.{is_blank, without_front, without_end, trimmed, 
 use Rattle.rv_text.proofs.Cuts.{first_piece}
 use Rattle.cf_scripts.specs.Words.{is_word, words_of, first_word}
 
--- what is put onto the first part stays there when parts are put behind
+-- what is put onto the first part stays there when more parts are added after it
 onto_first-append : (x : ℕ) (parts more : List (List ℕ)) → 0 < length parts → onto_first x (parts ++ more) ≡ onto_first x parts ++ more
 onto_first-append x [] more h = absurd (omega arith)
 onto_first-append x (part ∷ parts) more h = refl
@@ -91,7 +91,7 @@ words-trimmed : (text : List ℕ) → words_of (trimmed text) ≡ words_of text
 unfolding trimmed
 words-trimmed text = words-without_end (without_front text) ∙ words-without_front text
 
--- a text that no blank begins
+-- a text that does not begin with a blank
 abbrev IsBegun : List ℕ → Type 0
 IsBegun [] = Unit {0}
 IsBegun (x ∷ xs) = is_blank x ≡ false
@@ -163,7 +163,7 @@ pub name-word : (text : List ℕ) → name_part text ≡ first_word (words_of te
 unfolding name_part
 name-word text = sym (first_begun (trimmed text) (begun-trimmed text)) ∙ ap first_word (words-trimmed text)
 
--- and what stands behind the name has the other words
+-- and what comes after the name has the other words
 pub operand-words : (text : List ℕ) → words_of (operand_part text) ≡ drop 1 (words_of text)
 unfolding operand_part name_part
 operand-words text =

@@ -17,11 +17,11 @@ use Rattle.cf_scripts.specs.Words.{is_word, words_of, address_in}
 use Rattle.cf_scripts.specs.MoveLines.{is_ascii}
 use Rattle.cf_scripts.proofs.WordCuts.{words-at}
 
--- a byte that a word of a line may have: no blank, and none above 127
+-- a byte that a word of a line may have: neither a blank nor above 127
 abbrev pub is_letter : ℕ → Bool
 is_letter byte = nat_lt 32 byte && nat_lt byte 128
 
--- a text of such bytes, and not an empty one
+-- a text of such bytes that is not empty
 pub record IsWord (text : List ℕ) : Type 0 where
   pub some : 0 < length text
   pub bytes : list_all is_letter text ≡ true

@@ -23,7 +23,7 @@ abbrev pub named : Option Kind → Result Kind ScriptKind
 named (Some k) = Ok k
 named None = Err UnknownMove
 
--- what is read from the front of some words, with the words behind it
+-- what is read from the front of some words, with the words after it
 abbrev pub read_with : {A : Type 0} → A → List (List ℕ) → Result (A × List (List ℕ)) ScriptKind
 read_with a words = Ok (a, words)
 
@@ -75,19 +75,19 @@ move_read words = and_then (named (kind_named (first_word words))) (λ k. kind_r
 unfoldable pub is_ascii : List ℕ → Bool
 is_ascii line = list_all (λ byte. nat_lt byte 128) line
 
--- a move behind which no word is left
+-- a move after which no word is left
 abbrev pub closed : Move × List (List ℕ) → Result Move ScriptKind
 closed (mv, left) = if length left == 0 then Ok mv else Err ExtraWords
 
--- the move that some words tell
+-- the move that some words give
 unfoldable pub words_read : List (List ℕ) → Result Move ScriptKind
 words_read words = and_then (move_read words) closed
 
--- the move that a line tells, or why it tells none
+-- the move that a line gives, or why it gives none
 unfoldable pub move_in : List ℕ → Result Move ScriptKind
 move_in line = if is_ascii line then words_read (words_of line) else Err NotAscii
 
--- the answer is this one, with these words left behind it
+-- the answer is this one, with these words left after it
 abbrev pub Reads : {A : Type 0} → Result A ScriptKind → List (List ℕ) → Result (A × List (List ℕ)) ScriptKind → Type 0
 Reads result left answer = MatchResult result (λ a. answer ≡ Ok (a, left)) (λ e. answer ≡ Err e)
 

@@ -1,4 +1,4 @@
--- What a script tells (a format of this project): a move a line, comments and lines without words aside.
+-- What a script says (a format of this project): one move a line, comments and lines without words aside.
 use Rattle.std.specs.Prelude.{ℕ, ◌+◌, ◌==◌, ◌||◌, Bool, Option, Some, None, Result, Ok, Err, List, [], ◌∷◌, length, drop, codes, nat_eq, if◌then◌else◌}
 use Rattle.std.specs.List.{starts_with}
 use Rattle.rv_text.specs.Lines.{text_lines}
@@ -8,7 +8,7 @@ use Rattle.cf_scripts.specs.declared.refusal.ScriptErr.{ScriptErr}
 use Rattle.cf_scripts.specs.Words.{words_of}
 use Rattle.cf_scripts.specs.MoveLines.{move_in}
 
--- the moves of a script in order, each behind the number of its line, up to the first line that tells none, and that line's refusal
+-- the moves of a script in order, each after the number of its line, up to the first line that gives no move, and that line's refusal
 pub record Told : Type 0 where
   pub moves : List (ℕ × Move)
   pub refused : Option ScriptErr
@@ -17,23 +17,23 @@ pub record Told : Type 0 where
 unfoldable pub is_skipped : List ℕ → Bool
 is_skipped line = starts_with nat_eq line (codes "#") || length (words_of line) == 0
 
--- what a script tells from a line on that tells this
+-- what a script says from a line on, where that line gives this
 abbrev pub told_by : ℕ → Result Move ScriptKind → Told → Told
 told_by line (Ok mv) behind = record behind { moves = (line, mv) ∷ behind.moves }
 told_by line (Err kind) behind = record { moves = []; refused = Some (record { line = line; kind = kind }) }
 
--- what the lines behind so many others tell; lines are counted from 1
+-- what the lines after that many others say; lines are counted from 1
 abbrev pub told_from : ℕ → List (List ℕ) → Told
 told_from above [] = record { moves = []; refused = None }
 told_from above (line ∷ lines) =
     if is_skipped line then told_from (above + 1) lines
     else told_by (above + 1) (move_in line) (told_from (above + 1) lines)
 
--- what a script tells
+-- what a script says
 unfoldable pub script_of : List ℕ → Told
 script_of text = told_from 0 (text_lines text)
 
--- the first of some moves, or what is behind them
+-- the first of some moves, or what is after them
 abbrev pub first_of : List (ℕ × Move) → Option ScriptErr → Result (Option (ℕ × Move)) ScriptErr
 first_of (mv ∷ moves) refused = Ok (Some mv)
 first_of [] (Some e) = Err e
@@ -43,6 +43,6 @@ first_of [] None = Ok None
 abbrev pub next_of : Told → Result (Option (ℕ × Move)) ScriptErr
 next_of told = first_of told.moves told.refused
 
--- what is left behind that; the end and a refusal stay
+-- what is left after that; the end and a refusal stay
 abbrev pub behind_next : Told → Told
 behind_next told = record told { moves = drop 1 told.moves }

@@ -9,7 +9,7 @@ use crate::refusal::ScriptKind;
 use crate::words::Words;
 use cf_bind::{Guess, Move};
 
-/// The guess that the next words tell.
+/// The guess that the next words give.
 fn read_guess(words: &mut Words<'_>) -> Result<Guess, ScriptKind>
     ensures { Reads result words.new (guess_read words.old) }
 {
@@ -49,7 +49,7 @@ fn read_kind(kind: Kind, words: &mut Words<'_>) -> Result<Move, ScriptKind>
     }
 }
 
-/// The move that the next words tell.
+/// The move that the next words give.
 fn read_next(words: &mut Words<'_>) -> Result<Move, ScriptKind>
     ensures { Reads result words.new (move_read words.old) }
 {
@@ -65,7 +65,7 @@ pub fn is_ascii(line: &[u8]) -> bool
     line.iter().all(|byte| *byte < 128)
 }
 
-/// The move that the words tell, all of them.
+/// The move that all of the words give.
 #[tactic(auto, unfolding(crate::specs::MoveLines::words_read))]
 fn read_words(mut words: Words<'_>) -> Result<Move, ScriptKind>
     ensures { result ≡ words_read words.entry }
@@ -78,7 +78,7 @@ fn read_words(mut words: Words<'_>) -> Result<Move, ScriptKind>
     }
 }
 
-/// The move that a line tells, or why it tells none: the first refusal of `NotAscii`, `UnknownMove`, `BadNumber` and
+/// The move that a line gives, or why it gives none: the first refusal of `NotAscii`, `UnknownMove`, `BadNumber` and
 /// `ExtraWords`. No line is skipped: one without words is `UnknownMove`.
 #[tactic(auto, unfolding(crate::specs::MoveLines::move_in))]
 pub fn read_move(line: &[u8]) -> Result<Move, ScriptKind>

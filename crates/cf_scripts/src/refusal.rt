@@ -1,9 +1,10 @@
 //! What is wrong with a script.
 
-/// Why a line tells no move, in the order in which it is tested.
+/// Why a line gives no move, in the order in which it is tested.
 #[derive(Clone, Copy, Debug, PartialEq, Eq)]
 pub enum ScriptKind {
-    /// The first word is no kind of move, or the word behind `issue` is no guess.
+    /// The first word is not a kind of move, or the word after `issue` is not
+    /// a guess.
     UnknownMove,
 
     /// A number is missing, or it is misspelt.
@@ -16,12 +17,12 @@ pub enum ScriptKind {
     NotAscii,
 }
 
-/// The first line of a script that tells no move, and why.
+/// The first line of a script that gives no move, and why.
 #[derive(Clone, Copy, Debug, PartialEq, Eq)]
 pub struct ScriptErr {
     /// The number of the line, from 1.
     pub line: u32,
 
-    /// Why it tells none.
+    /// Why it gives none.
     pub kind: ScriptKind,
 }

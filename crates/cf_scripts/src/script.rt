@@ -14,14 +14,14 @@ use std::marker::Model;
 /// The greatest length of a script's text, in bytes.
 pub const MOST_SCRIPT: usize = 16_777_216;
 
-/// A script, whose text is lent. It is seen as what is left of it: the moves, and the refusal or the end behind
+/// A script, whose text is lent. It is seen as what is left of it: the moves, and the refusal or the end after
 /// them.
 #[derive(Drop)]
 pub struct Script<'a> {
-    /// How many lines were passed.
+    /// How many lines have been passed.
     above: u32,
 
-    /// The text behind them.
+    /// The text after them.
     rest: &'a [u8],
 }
 

@@ -63,7 +63,7 @@ impl Siding {
         self.cells[c]
     }
 
-    /// Lets something else, or nothing, stand in the cell.
+    /// Puts something else, or nothing, into the cell.
     #[inline(always)]
     pub(crate) fn set(&mut self, c: usize, op: Option<Op>)
         requires { c < length self.old }

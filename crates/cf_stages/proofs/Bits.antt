@@ -16,19 +16,19 @@ unfolding has_bit with_bit
 bit-same w k true small = let s = rw (one_shl k 32 small) at (bit_at_set_same w32 w k small) in rw s refl
 bit-same w k false small = let s = rw (one_shl k 32 small) at (bit_at_clear_same w32 w k small) in rw s refl
 
--- any other
+-- any other bit
 pub bit-other : (w k i : ℕ) (b : Bool) → k < 32 → i < 32 → i ≢ k → has_bit (with_bit w k b) i ≡ has_bit w i
 unfolding has_bit with_bit
 bit-other w k i true small below other = let s = rw (one_shl k 32 small) at (bit_at_set_other w32 w k small i other) in rw s refl
 bit-other w k i false small below other = let s = rw (one_shl k 32 small) at (bit_at_clear_other w32 w k small i below other) in rw s refl
 
--- it is a word still
+-- it is still a word
 pub with_bit-lt : (w k : ℕ) (b : Bool) → k < 32 → w < 2 ^ 32 → with_bit w k b < 2 ^ 32
 unfolding with_bit
 with_bit-lt w k true small less = or_lt 32 w (2 ^ k) less (pow-lt small)
 with_bit-lt w k false small less = let e = and_le_l w (bit_not w32 (2 ^ k)) in omega arith
 
--- no bit stands beyond the stages
+-- no bit is set beyond the stages
 pub word-lt : (test : ℕ → Bool) (n : ℕ) → word_of test n < 2 ^ n
 unfolding word_of
 word-lt test zero = omega arith
@@ -72,7 +72,7 @@ unfolding word_of
 word-agrees test other zero same = refl
 word-agrees test other (suc n) same = rw (same (suc n) (omega arith) (omega arith), word-agrees test other n (λ i low high. same i low (omega arith))) refl
 
--- tests that agree but at one stage give words that differ at its bit alone
+-- tests that agree except at one stage give words that differ only in its bit
 pub word-with-bit : (test other : ℕ → Bool) (n k : ℕ) → n ≤ 32 → k < n → ((i : ℕ) → i ≢ suc k → other i ≡ test i) → word_of other n ≡ with_bit (word_of test n) k (other (suc k))
 word-with-bit test other n k few within same =
     same-words (word_of other n) (with_bit (word_of test n) k (other (suc k))) (word_small other n few) (with_bit-lt (word_of test n) k (other (suc k)) (omega arith) (word_small test n few)) bits

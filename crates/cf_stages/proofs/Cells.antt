@@ -8,7 +8,7 @@ use Rattle.cf_bind.specs.declared.cell.Cell.{Cell}
 use Rattle.cf_semantics.specs.state.State.{cell_at, put_cell}
 use Rattle.cf_stages.specs.Changes.{IsCell}
 
--- a stage is changed to one that can be
+-- a stage is changed to a possible one
 cells_set : (cells : List Cell) (i : ℕ) (c : Cell) → IsCell c → All IsCell cells → All IsCell (slice_set cells i c)
 cells_set cells i c h all = All-set IsCell cells i c h all
 

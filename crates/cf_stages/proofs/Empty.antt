@@ -112,7 +112,7 @@ answered_as cells false false true e few f g = refl
 pub none-answered : (cells : List Cell) → length cells ≤ 32 → (nat_eq (passenger_word cells) 0 && nat_eq (packet_word cells) 0) ≡ not (list_any is_occupied cells)
 none-answered cells few = answered_as cells (nat_eq (passenger_word cells) 0) (nat_eq (packet_word cells) 0) (list_any is_occupied cells) refl few refl refl
 
--- the same of the words that are kept
+-- the same for the words that are kept
 kept : (ps : List (Option Passenger)) (qs : List (Option Packet)) (r f m : ℕ) (now : List Cell) → AreParts ps qs r f m → cells_of ps qs m ≡ now → (nat_eq r 0 && nat_eq f 0) ≡ not (list_any is_occupied now)
 kept ps qs r f m now h e =
     let n = length-cells 0 ps qs m h.pipes in

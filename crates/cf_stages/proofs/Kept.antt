@@ -26,7 +26,7 @@ there [] j within = absurd (omega arith)
 there (x ∷ xs) zero within = record { value = x; is = refl }
 there (x ∷ xs) (suc j) within = let r = there xs j (omega arith) in record { value = r.value; is = r.is }
 
--- both places of a stage get another content, and its bit tells whether they have met
+-- both places of a stage get other contents, and its bit says whether they have met
 parts_put : (ps : List (Option Passenger)) (qs : List (Option Packet)) (met i : ℕ) (p : Option Passenger) (q : Option Packet) (b : Bool) → 0 < i → i ≤ length ps → length qs ≡ length ps → length ps ≤ 32 →
     cells_of (slice_set ps (i - 1) p) (slice_set qs (i - 1) q) (with_bit met (i - 1) b) ≡ put_cell (cells_of ps qs met) i (record { passenger = p; packet = q; met = b })
 parts_put ps qs met i p q b low within e most =
@@ -52,7 +52,7 @@ agree_put ps ps1 qs qs1 riding flying met riding1 flying1 met1 i c h low within 
       met_bits = m ∙ ap (λ (w : ℕ). with_bit w (i - 1) c.met) h.met_bits ∙ sym (put (λ d. d.met)) ∙ ap (word_where (λ d. d.met)) (sym is);
     }
 
--- a word in which the bit of a stage says already what is put there
+-- a word in which the bit of a stage already says what is put there
 bit_kept : (test : Cell → Bool) (cells : List Cell) (i w : ℕ) (b c : Cell) → 0 < i → i ≤ length cells → length cells ≤ 32 → cell_at cells i ≡ Some b → test c ≡ test b → w ≡ word_where test cells → w ≡ with_bit w (i - 1) (test c)
 bit_kept test cells i w b c low within few here same is =
     is ∙ sym (word-put-same test cells i b c here same) ∙ word-put test cells i c low within few ∙ ap (λ (v : ℕ). with_bit v (i - 1) (test c)) (sym is)

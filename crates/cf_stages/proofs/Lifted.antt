@@ -13,14 +13,14 @@ use Rattle.cf_stages.specs.Words.{with_bit}
 use Rattle.cf_stages.proofs.Kept.{count-read, passenger-parts, passenger-placed, passenger-read, packet-parts, packet-placed, packet-read, pipes-read}
 use Rattle.cf_stages.proofs.Neighbours.{climbed-is, climbs-high, climbs-low, climbs-rider, fallen-is, falls-low, falls-result, falls-within}
 
--- what was read does not depend on what stands for a place that there is not
+-- what was read does not depend on what would be read where there is no place
 read_any : {A : Type 0} (xs : List A) (k : ℕ) (x y : A) → k < length xs → slice_index_or xs k x ≡ slice_index_or xs k y
 read_any xs k x y within =
     let a = slice_get-get_or xs k x within in
     let b = slice_get-get_or xs k y within in
     cc
 
--- the rider is in the stage above, and in the stage where it was there is none
+-- the rider is in the stage above, and no rider is left in the stage where it was
 record Lifts (ps : List (Option Passenger)) (qs : List (Option Packet)) (met i : ℕ) : Type 0 where
   low : 0 < i
   within : i ≤ length ps
@@ -84,7 +84,7 @@ lifted-is ps ps1 qs riding flying met met1 i h c e m =
 
 pub ruleset lifting = (lifted-parts, lifted-is, climbs-low, climbs-high, count-read)
 
--- the result is in the stage below, and in the stage where it was there is none
+-- the result is in the stage below, and no result is left in the stage where it was
 record Drops (ps : List (Option Passenger)) (qs : List (Option Packet)) (met i : ℕ) (q : Option Packet) : Type 0 where
   low : 1 < i
   within : i ≤ length ps

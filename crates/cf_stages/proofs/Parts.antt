@@ -60,7 +60,7 @@ same_cells k (p ∷ ps) [] met other most same = refl
 same_cells k (p ∷ ps) (q ∷ qs) met other most same =
     rw (same k (omega arith) (omega arith), same_cells (suc k) ps qs met other (omega arith) (λ i below high. same i below (omega arith))) refl
 
--- one place of each pipe gets another content, and the words agree but there
+-- one place of each pipe gets other contents, and the words agree except there
 set_cells : (k : ℕ) (ps : List (Option Passenger)) (qs : List (Option Packet)) (met other j : ℕ) (p : Option Passenger) (q : Option Packet) → j < length ps → length qs ≡ length ps → k + length ps ≤ 32 →
     ((i : ℕ) → i < 32 → i ≢ k + j → has_bit other i ≡ has_bit met i) →
     cells_from k (slice_set ps j p) (slice_set qs j q) other ≡ slice_set (cells_from k ps qs met) j (record { passenger = p; packet = q; met = has_bit other (k + j) })
@@ -85,7 +85,7 @@ put-parts ps qs met other (suc j) p q low within e most same =
     let r = rw o at (set_cells 0 ps qs met other j p q (omega arith) e (omega arith) (λ k below off. same k below (λ g. off (g ∙ z ∙ sym o)))) in
     rw z r
 
--- a stage with another content
+-- a stage with other contents
 get_set : {A : Type 0} (xs : List A) (j : ℕ) (x : A) → j < length xs → slice_get (slice_set xs j x) j ≡ Some x
 get_set [] j x within = absurd (omega arith)
 get_set (y ∷ xs) zero x within = refl
@@ -116,7 +116,7 @@ pub stage-high : (cells : List Cell) (i : ℕ) (c : Cell) → cell_at cells i �
 stage-high cells zero c e = absurd (cc)
 stage-high cells (suc k) c e = let h = slice_get_within cells k c e in omega arith
 
--- the word of a test, with another content in a stage
+-- the word of a test, with other contents in a stage
 pub word-put : (test : Cell → Bool) (cells : List Cell) (i : ℕ) (c : Cell) → 0 < i → i ≤ length cells → length cells ≤ 32 →
     word_where test (put_cell cells i c) ≡ with_bit (word_where test cells) (i - 1) (test c)
 word-put test cells zero c low within few = absurd (omega arith)

@@ -11,14 +11,14 @@ use Rattle.cf_stages.specs.Changes.{IsCell, changed, passenger_at, with_new_pass
 use Rattle.cf_stages.specs.Parts.{with_place}
 use Rattle.cf_stages.proofs.Parts.{cell-put}
 
--- a stage that there is
+-- a stage that exists
 stood : (cells : List Cell) (i : ℕ) → 0 < i → i ≤ length cells → (c : Cell) × (cell_at cells i ≡ Some c)
 stood cells zero low within = absurd (omega arith)
 stood [] (suc k) low within = absurd (omega arith)
 stood (c ∷ cells) (suc zero) low within = (c, refl)
 stood (c ∷ cells) (suc (suc k)) low within = stood cells (suc k) (omega arith) (omega arith)
 
--- the last content that is put into a stage stands there
+-- what is put last into a stage stands there
 put-put : (cells : List Cell) (i : ℕ) (c d : Cell) → put_cell (put_cell cells i c) i d ≡ put_cell cells i d
 put-put cells zero c d = refl
 put-put cells (suc k) c d = set-set cells k c d

@@ -1,4 +1,4 @@
--- The stages tell the pipes and the words that they are made of.
+-- The stages determine the pipes and the words that they are made of.
 use Rattle.std.proofs.Common.{◌≡◌, ◌∙◌, ℕ, suc, List, [], ◌∷◌, Option, length, map, refl, sym, ap, arith}
 use Rattle.cf_bind.specs.declared.cell.Cell.{Cell}
 use Rattle.cf_bind.specs.declared.packet.Packet.{Packet}

@@ -32,19 +32,19 @@ has_met_at cells i = on (cell_at cells i) false (λ c. c.met)
 abbrev pub is_full_at : List Cell → ℕ → Bool
 is_full_at cells i = on (cell_at cells i) false is_full
 
--- there are these two stages: the instruction of the first can stand in the second
+-- there is a second stage, and the instruction of the first can move into it
 abbrev pub can_climb : Cell → Option Cell → Bool
 can_climb c above = on above false (λ d. is_some c.passenger && not (is_full c) && not (is_some d.passenger))
 
--- the result of the first can stand in the second
+-- there is a second stage, and the result of the first can move into it
 abbrev pub can_fall : Cell → Option Cell → Bool
 can_fall c below = on below false (λ d. is_some c.packet && not (is_full c) && not (is_some d.packet))
 
--- the instruction of the stage can stand in the one above
+-- the instruction of the stage can move into the one above
 unfoldable pub climbs : List Cell → ℕ → Bool
 climbs cells i = on (cell_at cells i) false (λ c. can_climb c (cell_at cells (i + 1)))
 
--- the result of the stage can stand in the one below
+-- the result of the stage can move into the one below
 unfoldable pub falls : List Cell → ℕ → Bool
 falls cells i = on (cell_at cells i) false (λ c. can_fall c (cell_at cells (i - 1)))
 
@@ -59,14 +59,14 @@ with_new_passenger p c = record c { passenger = p; met = false }
 abbrev pub with_new_packet : Option Packet → Cell → Cell
 with_new_packet k c = record c { packet = k; met = false }
 
--- the instruction of the stage stands in the one above, not met
+-- the instruction of the stage is now in the one above, and has met nothing there
 unfoldable pub climbed : List Cell → ℕ → List Cell
 climbed cells i =
     on (cell_at cells i) cells (λ c.
     on (cell_at cells (i + 1)) cells (λ d.
     put_cell (put_cell cells i (without_passenger c)) (i + 1) (with_new_passenger c.passenger d)))
 
--- the result of the stage stands in the one below, not met
+-- the result of the stage is now in the one below, and has met nothing there
 unfoldable pub fallen : List Cell → ℕ → List Cell
 fallen cells i =
     on (cell_at cells i) cells (λ c.

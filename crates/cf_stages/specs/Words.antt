@@ -11,7 +11,7 @@ abbrev pub flag : Bool → ℕ
 flag true = 1
 flag false = 0
 
--- the word that is set exactly at those of so many stages where the test holds
+-- the word for that many stages that is set exactly where the test holds
 unfoldable pub word_of : (ℕ → Bool) → ℕ → ℕ
 word_of test zero = 0
 word_of test (suc n) = flag (test (suc n)) * 2 ^ n + word_of test n

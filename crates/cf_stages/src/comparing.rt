@@ -1,4 +1,4 @@
-//! Whether anything stands in the stages, and whether the same stands in two.
+//! Whether anything stands in the stages, and whether two `Stages` are the same.
 
 ghost use Rattle.std.specs.List.{list_any};
 ghost use Rattle.std.specs.Prelude.{◌≡◌, ◌↔◌, IsTrue, not};
@@ -22,7 +22,7 @@ fn same_packets(packets: &[Option<Packet>], other: &[Option<Packet>]) -> bool
 }
 
 impl Stages {
-    /// Whether neither an instruction nor a result is anywhere.
+    /// Whether there is neither an instruction nor a result anywhere.
     #[inline(always)]
     pub fn is_empty(&self) -> bool
         ensures { result ≡ not (list_any is_occupied self.now) }

@@ -1,4 +1,4 @@
-//! One place of a pipe gets another content, and the words keep up with it.
+//! One place of a pipe gets other contents, and the words keep up with it.
 
 ghost use Rattle.std.specs.Prelude.{◌≡◌, ◌-◌, ◌<◌, ◌≤◌, IsSome, IsTrue, None, length, slice_index_or, slice_set};
 ghost use Rattle.cf_semantics.specs.moves.Moves.{with_passenger};
@@ -23,7 +23,7 @@ fn carry(places: &mut Vec<Option<Passenger>>, i: usize)
 }
 
 impl Stages {
-    /// An instruction comes to the stage, or goes from it. It has met nothing there.
+    /// An instruction comes to the stage, or leaves it. It has met nothing there.
     #[inline(always)]
     #[tactic(auto, using(crate::proofs::Kept::coming_and_going, crate::proofs::Kept::counting))]
     pub(crate) fn place_passenger(&mut self, i: u32, passenger: Option<Passenger>)
@@ -37,7 +37,7 @@ impl Stages {
         self.passengers[i as usize - 1] = passenger;
     }
 
-    /// The instruction of the stage goes to the one above, in which none is, where it has met nothing.
+    /// The instruction of the stage goes to the one above, which has none, where it has met nothing.
     // It is copied from one place to the other at once: through a place of its own it would be copied twice.
     #[inline(always)]
     #[tactic(auto, using(crate::proofs::Lifted::lifting, crate::proofs::Kept::counting))]
@@ -52,7 +52,7 @@ impl Stages {
         self.passengers[i as usize - 1] = None;
     }
 
-    /// A result comes to the stage, or goes from it. It has met the instruction that is there, or has not.
+    /// A result comes to the stage, or leaves it. It has met the instruction that is there, or has not.
     #[inline(always)]
     #[tactic(auto, using(crate::proofs::Kept::replacing, crate::proofs::Kept::counting))]
     pub(crate) fn place_packet(&mut self, i: u32, packet: Option<Packet>, met: bool)
@@ -68,7 +68,7 @@ impl Stages {
         self.packets[i as usize - 1] = packet;
     }
 
-    /// The result of the stage goes to the one below, in which none is, where it has met nothing.
+    /// The result of the stage goes to the one below, which has none, where it has met nothing.
     #[inline(always)]
     #[tactic(auto, using(crate::proofs::Lifted::dropping, crate::proofs::Kept::counting))]
     pub(crate) fn drop_packet(&mut self, i: u32)

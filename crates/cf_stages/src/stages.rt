@@ -12,7 +12,7 @@ use std::marker::Model;
 
 /// The stages of the two pipes, from 1 at the bottom, seen as the list of what stands in them.
 ///
-/// Each pipe is a list of its own, so that what moves in one leaves the other alone. Words tell where an instruction is, where
+/// Each pipe is a list of its own, so that what moves in one leaves the other alone. Words say where an instruction is, where
 /// a result is, and where the two have met: bit i - 1 for stage i.
 #[derive(Drop)]
 pub struct Stages {

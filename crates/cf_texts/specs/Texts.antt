@@ -13,7 +13,7 @@ line text = text ++ newline
 unfoldable pub register_name : ℕ → List ℕ
 register_name r = 120 ∷ (48 + r / 10) ∷ (48 + r % 10) ∷ []
 
--- a space behind a register, or, behind every fourth, a line feed
+-- a space after a register, or, after every fourth, a line feed
 abbrev pub separator : ℕ → ℕ
 separator r = if r % 4 == 3 then 10 else 32
 

@@ -29,7 +29,7 @@ impl Model for Page {
     ghost view = { λ page. page.text.items };
 }
 
-/// What stands behind a register: four of them make a line.
+/// What comes after a register: four of them make a line.
 fn separator(register: u8) -> u8
     ensures { result ≡ separator_of register }
 {

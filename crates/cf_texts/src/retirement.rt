@@ -25,7 +25,7 @@ impl Page {
 }
 
 /// The line of an instruction that retired: its number among those that retired, its address, its word, and the
-/// register that it wrote with the value there, where register 0 stands for none.
+/// register that it wrote with the value there, where register 0 means none.
 pub fn retirement_line(number: u64, pc: u32, word: u32, register: u8, value: u32) -> Page
     ensures { result ≡ retirement_text number pc word register value }
 {

@@ -109,7 +109,7 @@ bad-end words index state at-end h none =
           (subst (λ (n : ℕ). take (n + 1) command ≡ take (n + 1) words) at-end same);
     }
 
--- words that have a bad one are asked nothing, and the first bad one is one
+-- words with a bad one among them ask nothing, and only one word is the first bad one
 pub bad-asks-nothing : (words : List (List ℕ)) (index : ℕ) (asked : Asked) → IsBadAt words index →
     Asks words asked → ⊥
 bad-asks-nothing words index asked bad asks = bad.no_further words asked asks refl

@@ -1,4 +1,4 @@
--- The numbers that are asked are within their bounds.
+-- The numbers that are asked for are within their bounds.
 use Rattle.std.proofs.Common.{◌≡◌, ◌≤◌, ℕ, List, [], ◌∷◌, length, map, Bool, true, false, refl, arith, if◌then◌else◌, Option, Some, None, option_map, subst}
 use Rattle.std.specs.Prelude.{nat_le, ◌&&◌}
 use Rattle.std.specs.List.{list_all}

@@ -51,7 +51,7 @@ complete-word words word c =
       done = ap (λ (ws : List (List ℕ)). completed ws c.last) (sym same) ∙ c.done;
     }
 
--- enough positional words ask something, or of `moves` just the script is missing
+-- enough positional words ask something, or, for `moves`, only the script is missing
 record LacksScript (name : Name) (words : List (List ℕ)) (given : Given) : Type 0 where
   takes : takes_key name keys.Script ≡ true
   fresh : has_key given keys.Script ≡ false
@@ -138,7 +138,7 @@ positional-more : (count : ℕ) (words more : List (List ℕ)) → 1 + count ≤
 positional-more count [] more h = absurd (omega (arith, h))
 positional-more count (word ∷ words) more h = take-append-le count words more (omega (arith, h))
 
--- a script behind the options
+-- a script after the options
 scripted : (words : List (List ℕ)) (subject : Subject) (given : Given) (state : State) →
     1 + subject.count ≤ length words → reads start words ≡ Some state →
     follow state (key_word keys.Script) ≡ follow (options subject given) (key_word keys.Script) →
@@ -163,7 +163,7 @@ scripted words subject given state stands h same lacks =
 words-nil : (words : List (List ℕ)) → words ++ [] ≡ words
 words-nil words = append-nil words
 
--- nothing behind what asks something
+-- nothing after what asks something
 asked-now : (words : List (List ℕ)) (state : State) (asked : Asked) → reads start words ≡ Some state →
     completed words state ≡ Some asked → Completion words
 asked-now words state asked h done = record {
@@ -228,7 +228,7 @@ fewest-most names.Help = omega arith
 fewest-most names.HelpOption = omega arith
 fewest-most names.Version = omega arith
 
--- so many more
+-- that many more
 complete-places : (missing : ℕ) (words : List (List ℕ)) (subject : Subject) →
     subject.count ≤ most subject.name → fewest subject.name ≤ subject.count + missing →
     1 + subject.count ≤ length words → reads start words ≡ Some (placed subject) → Completion words
@@ -248,7 +248,7 @@ complete-places (suc missing) words subject few enough stands h =
           (placed-follows subject word (tests-place subject word room (filler-fits subject.name)))))
     ]
 
--- what a command can show that has the option for it
+-- what a command that has the option for it can show
 shown-some : (name : Name) → takes_key name keys.Show ≡ true →
     (has_lines name shows.Report ≡ true) ⊎ (has_sites name ≡ true)
 shown-some names.Machine h = inl refl

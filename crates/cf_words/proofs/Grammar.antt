@@ -1,4 +1,4 @@
--- Reading accepts just the words of the grammar, and gives what they ask; so words ask one thing at most.
+-- Reading accepts exactly the words of the grammar, and gives what they ask; so words ask at most one thing.
 use Rattle.std.proofs.Common.{◌≡◌, ◌≤◌, ◌+◌, ℕ, List, [], ◌∷◌, ◌++◌, length, true, refl, arith, Option, Some, inl, inr, sym, ◌∙◌, subst, ap}
 use Rattle.std.specs.List.{list_all}
 use Rattle.std.proofs.lemmas.List.{take-append-le}
@@ -14,18 +14,18 @@ use Rattle.cf_words.proofs.Steps.{start-read, start-follows, place-tests, tests-
 use Rattle.cf_words.proofs.InTurn.{after, reads, reads-split, reads-step, none-left}
 use Rattle.cf_words.proofs.Settings.{both, put_all, Fresh, fresh-once, once-fresh, put-given, IsWhole, Tail, tail-read, settings-read}
 
--- with so many positional words more
+-- with that many more positional words
 abbrev grown : Subject → ℕ → Subject
 grown subject n = record { name = subject.name; count = subject.count + n }
 
--- the state is of a command with these positional words
+-- the state is that of a command with these positional words
 abbrev pub IsOf : State → Subject → Type 0
 IsOf start subject = ⊥
 IsOf (placed s) subject = s ≡ subject
 IsOf (options s given) subject = s ≡ subject
 IsOf (valued s given key) subject = s ≡ subject
 
--- the words behind some positional ones: more of these, and then options
+-- the words after some positional ones: more of these, and then options
 record Placing (subject : Subject) (words : List (List ℕ)) (last : State) : Type 0 where
   more : List (List ℕ)
   settings : List Setting
@@ -163,7 +163,7 @@ asked-enough names.Help words given asked h = omega arith
 asked-enough names.HelpOption words given asked h = omega arith
 asked-enough names.Version words given asked h = omega arith
 
--- the positional words of a command are those behind its first word
+-- the positional words of a command are those after its first word
 positional-are : (first : List ℕ) (more behind : List (List ℕ)) →
     positional_in (length more) (first ∷ (more ++ behind)) ≡ more
 positional-are first more behind =
@@ -214,7 +214,7 @@ reads-sound (word ∷ words) last asked h done =
     (placing-asks r.name words last asked d
     (placing words (bare r.name) last (omega arith) h1 whole))
 
--- the positional words behind which a state is reached, which misses no value
+-- the positional words after which a state is reached in which no value is missing
 pub record HasPositional (words : List (List ℕ)) (subject : Subject) : Type 0 where
   pub each : list_all (is_positional subject.name) (positional_in subject.count words) ≡ true
   pub count : length (positional_in subject.count words) ≡ subject.count
@@ -279,7 +279,7 @@ pub record Read (words : List (List ℕ)) (asked : Asked) : Type 0 where
   pub read : reads start words ≡ Some last
   pub done : completed words last ≡ Some asked
 
--- options behind enough positional words
+-- options after enough positional words
 behind-places : (subject : Subject) (settings : List Setting) (all : List (List ℕ)) (asked : Asked) →
     fewest subject.name ≤ subject.count → list_all (takes subject.name) settings ≡ true →
     Fresh nothing_given settings →
@@ -322,7 +322,7 @@ asks-read words asked asks =
       done = ap (λ (ws : List (List ℕ)). completed ws b.0) c.words_are ∙ b.2;
     }
 
--- words ask one thing at most
+-- words ask at most one thing
 pub asks-one : (words : List (List ℕ)) (one other : Asked) → Asks words one → Asks words other →
     one ≡ other
 asks-one words one other a b =

@@ -1,4 +1,4 @@
--- One turn of the loop over the words, and what is answered behind it.
+-- One turn of the loop over the words, and what is answered after it.
 use Rattle.std.proofs.Common.{◌≡◌, ◌≤◌, ◌<◌, ◌+◌, ℕ, List, [], ◌∷◌, length, map, take, get_or, arith, Option, Some, None, option_map, Result, Ok, Err, MatchResult, IfOk, sym, ◌∙◌, subst, ap}
 use Rattle.std.specs.Option.{ok_or}
 use Rattle.std.proofs.lemmas.List.{get_or-map, length-map, length-take-le, take_more, take_all}
@@ -31,7 +31,7 @@ stops bytes items index count item state word inside at counted h word-is none =
     bad-word (map bytes items) count state (omega (arith, length-map items bytes)) h
     (ap (λ (v : List ℕ). follow state v) w ∙ sym none)
 
--- a word that has one
+-- a word that has a place
 pub goes-on : {X : Type 0} → (bytes : X →
     List ℕ) (items : List X) (index count : ℕ) (item : X) (state behind : State)
     (word : List ℕ) → index < length items → item ≡ get_or items index item → count ≡ index →
@@ -68,7 +68,7 @@ pub answers-bounded : {C : Type 0} → (words : List (List ℕ)) (asks : C → A
 answers-bounded words asks (Ok command) answers = asks-bounded words (asks command) answers
 answers-bounded words asks (Err index) answers = tt
 
--- behind the last word
+-- after the last word
 pub ends : {X C : Type 0} → (bytes : X →
     List ℕ) (items : List X) (count : ℕ) (state : State) (asks : C → Asked)
     (found : Option C) → count ≡ length items → reads start (take count (map bytes items)) ≡ Some state →

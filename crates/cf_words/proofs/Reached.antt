@@ -18,13 +18,13 @@ has_value keys.Mul = false
 has_value keys.Run = false
 has_value _ = true
 
--- so many positional words as the command may have
+-- as many positional words as the command may have
 pub record HasPlaces (subject : Subject) : Type 0 where
   pub enough : fewest subject.name ≤ subject.count
   pub few : subject.count ≤ most subject.name
 
 -- which states are reached: not too many positional words, enough before the options, and an option of the command
--- that has a value and did not stand before
+-- that has a value and has not occurred before
 abbrev pub Reached : State → Type 0
 Reached start = Unit {0}
 Reached (placed subject) = subject.count ≤ most subject.name
@@ -159,12 +159,12 @@ size-last (word ∷ words) state last reached h =
     size-last words s.behind last (reached-next state word s.behind reached s.followed) s.rest in
     omega arith
 
--- the words that were read are as many
+-- the words that were read are as many as its state says
 pub words-read : (words : List (List ℕ)) (last : State) → reads start words ≡ Some last →
     size last ≡ length words
 words-read words last h = let s = size-last words start last tt h in omega (arith, s)
 
--- so behind a command and its positional words there are at least these
+-- so there are at least as many words as a command and its positional words have
 abbrev pub Stands : ℕ → State → Type 0
 Stands length start = Unit {0}
 Stands length (placed subject) = 1 + subject.count ≤ length

@@ -1,4 +1,4 @@
--- The options behind the positional words: read in turn they are a list of which none stands twice, and give what stands in it.
+-- The options after the positional words: read in turn they are a list in which none occurs twice, and give what is in it.
 use Rattle.std.proofs.Common.{◌≡◌, ◌≢◌, ℕ, List, [], ◌∷◌, ◌++◌, codes, Bool, true, false, refl, Option, Some, None, ◌&&◌, ◌||◌, sym, ◌∙◌, subst, ap}
 use Rattle.std.specs.Option.{option_or}
 use Rattle.std.specs.List.{list_all}
@@ -165,7 +165,7 @@ clear-nothing (setting ∷ settings) = (nothing-has (key_of setting), clear-noth
 pub once-fresh : (settings : List Setting) → NoneTwice settings → Fresh nothing_given settings
 once-fresh settings once = clear-fresh settings nothing_given (clear-nothing settings) once
 
--- what they give in turn is what stands among them
+-- what they give in turn is what is found among them
 abbrev joined : Given → Given → Given
 joined given more = record {
   limit = option_or given.limit more.limit;
@@ -229,7 +229,7 @@ IsWhole (placed subject) = Unit {0}
 IsWhole (options subject given) = Unit {0}
 IsWhole (valued subject given key) = ⊥
 
--- the words behind the positional ones, as a list of options
+-- the words after the positional ones, as a list of options
 pub record Tail (subject : Subject) (given : Given) (words : List (List ℕ)) (last : State) : Type 0 where
   pub settings : List Setting
   pub words_are : words ≡ written settings
@@ -256,7 +256,7 @@ tail-more subject given setting words last taken allowed fresh tail = record {
   last_is = tail.last_is;
 }
 
--- an option with a value: what the words behind its own word are
+-- an option with a value: what the words after its own word are
 tail-valued : (key : Key) (subject : Subject) (given : Given) (words : List (List ℕ)) (last : State) →
     takes_key subject.name key ≡ true → has_key given key ≡ false →
     reads (valued subject given key) words ≡ Some last → IsWhole last →

@@ -1,4 +1,4 @@
--- What one more word tells: which words may follow in each state, and what is known behind them.
+-- What one more word says: which words may follow in each state, and what is known after them.
 use Rattle.std.proofs.Common.{◌≡◌, ◌≤◌, ◌<◌, ◌⊎◌, ℕ, List, [], ◌∷◌, codes, Bool, true, false, refl, arith, if◌then◌else◌, Option, Some, None, inl, inr, not, ◌&&◌, sym, ap}
 use Rattle.std.specs.Prelude.{is_some, nat_le, nat_lt}
 use Rattle.std.specs.Str.Parse.{digits_value}
@@ -142,7 +142,7 @@ key-no-place : (subject : Subject) (key : Key) → has_place subject (key_word k
 key-no-place subject key =
     rw (key-no-positional subject.name key) (and-false (nat_lt subject.count (most subject.name)))
 
--- so behind enough positional words it is read as that of the first option
+-- so after enough positional words it is read as that of the first option
 pub first-option : (subject : Subject) (key : Key) → fewest subject.name ≤ subject.count →
     follow (placed subject) (key_word key) ≡ follow (options subject nothing_given) (key_word key)
 unfolding follow

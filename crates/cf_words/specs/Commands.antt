@@ -1,4 +1,4 @@
--- The commands of the project's command line: the first word of each, and how many positional words stand behind it.
+-- The commands of the project's command line: the first word of each, and how many positional words follow it.
 use Rattle.std.specs.Prelude.{ℕ, List, codes, Bool, true, false, is_some, if◌then◌else◌}
 use Rattle.cf_words.specs.declared.names.Name.{Name}
 use Rattle.cf_words.specs.declared.names.Name.TheVariants as names
@@ -38,7 +38,7 @@ fewest names.Help = 0
 fewest names.HelpOption = 0
 fewest names.Version = 0
 
--- and at most: `time` has up to seven layouts more, and no other command has more
+-- and how many at most: `time` may have seven more layouts, and no other command may have more words than it needs
 abbrev pub most : Name → ℕ
 most names.Time = 10
 most names.Machine = 1
@@ -55,7 +55,7 @@ most names.Help = 0
 most names.HelpOption = 0
 most names.Version = 0
 
--- whether they are numbers, and not the names of files
+-- whether its positional words are numbers, and not the names of files
 abbrev pub counts : Name → Bool
 counts names.Gen = true
 counts _ = false

@@ -45,7 +45,7 @@ show_word shows.Report = codes "report"
 show_word shows.Retired = codes "retired"
 show_word shows.Moves = codes "moves"
 
--- the value is one word behind it; `--mul` and `--run` have none
+-- the value is one word after it; `--mul` and `--run` have none
 abbrev pub value_words : Setting → List (List ℕ)
 value_words (limit_to digits) = digits ∷ []
 value_words (show_lines lines) = show_word lines ∷ []
@@ -77,7 +77,7 @@ takes_key names.Time keys.Show = true
 takes_key names.Gen keys.Run = true
 takes_key _ _ = false
 
--- what each command can show of a run: only one of the processor has moves
+-- what each command can show of a run: only a run of the processor has moves
 abbrev pub has_lines : Name → Show → Bool
 has_lines names.Run lines = true
 has_lines names.Machine shows.Report = true
@@ -133,7 +133,7 @@ abbrev pub Without : Matter → List Setting → Type 0
 Without matter [] = Unit {0}
 Without matter (setting ∷ settings) = (matter_of (key_of setting) ≢ matter) × Without matter settings
 
--- nothing is settled twice: no option stands twice, and a script excludes a seed
+-- nothing is settled twice: no option occurs twice, and a script excludes a seed
 abbrev pub NoneTwice : List Setting → Type 0
 NoneTwice [] = Unit {0}
 NoneTwice (setting ∷ settings) = Without (matter_of (key_of setting)) settings × NoneTwice settings

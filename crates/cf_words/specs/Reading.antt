@@ -1,4 +1,4 @@
--- How the words of the command line are read one by one: what is known behind each of them, and which words may follow.
+-- How the words of the command line are read one by one: what is known after each of them, and which words may follow.
 use Rattle.std.specs.Prelude.{ℕ, ◌+◌, List, codes, take, drop, nat_eq, nat_le, nat_lt, Bool, true, false, not, ◌&&◌, ◌||◌, Option, Some, None, if◌then◌else◌}
 use Rattle.std.specs.Str.Parse.{digits_value}
 use lib.Pointwise.{pointwise}
@@ -49,7 +49,7 @@ key_in word =
     else if is_text word (codes "--run") then Some keys.Run
     else None
 
--- what it asks to be shown of a run
+-- what a word asks to be shown of a run
 unfoldable pub lines_in : List ℕ → Option Show
 lines_in word =
     if is_text word (codes "report") then Some shows.Report
@@ -57,7 +57,7 @@ lines_in word =
     else if is_text word (codes "moves") then Some shows.Moves
     else None
 
--- the number that it writes, which is at most the given one
+-- the number that a word writes, which is at most the given one
 unfoldable pub number_in : ℕ → List ℕ → Option ℕ
 number_in most word = if is_number most word then Some (digits_value 10 word) else None
 
@@ -66,7 +66,7 @@ abbrev pub nothing_given : Given
 nothing_given =
     record { limit = None; show = None; sites = false; schedule = None; mul = false; run = false }
 
--- whether there is one
+-- whether there is a value
 abbrev pub is_there : {A : Type 0} → Option A → Bool
 is_there None = false
 is_there (Some x) = true
@@ -79,11 +79,11 @@ is_settled given schedules = is_there given.schedule
 is_settled given multiplies = given.mul
 is_settled given running = given.run
 
--- whether what an option settles is
+-- whether what an option settles is settled already
 abbrev pub has_key : Given → Key → Bool
 has_key given key = is_settled given (matter_of key)
 
--- what is known behind the words that were read: nothing yet, a command with so many positional words, options behind
+-- what is known after the words that were read: nothing yet, a command with that many positional words, options after
 -- them, or an option whose value comes next
 pub data State : Type 0 where
   start : State
@@ -96,19 +96,19 @@ abbrev pub when : {A : Type 0} → Bool → A → Option A
 when true x = Some x
 when false x = None
 
--- a command without positional words yet, and one with one more
+-- a command without positional words yet, and the command with one more
 abbrev pub bare : Name → Subject
 bare name = record { name = name; count = 0 }
 
 abbrev pub one_more : Subject → Subject
 one_more subject = record { name = subject.name; count = subject.count + 1 }
 
--- behind the first word
+-- after the first word
 abbrev pub behind_name : Option Name → Option State
 behind_name None = None
 behind_name (Some name) = Some (placed (bare name))
 
--- behind an option's own word
+-- after an option's own word
 abbrev pub behind_key : Subject → Given → Key → State
 behind_key subject given keys.Limit = valued subject given keys.Limit
 behind_key subject given keys.Show = valued subject given keys.Show
@@ -117,7 +117,7 @@ behind_key subject given keys.Seed = valued subject given keys.Seed
 behind_key subject given keys.Mul = options subject (record given { mul = true })
 behind_key subject given keys.Run = options subject (record given { run = true })
 
--- the same, where the word is one that the command has and that did not stand before
+-- the same, where the command has the option and what it settles is not settled yet
 abbrev pub behind_option : Subject → Given → Option Key → Option State
 behind_option subject given None = None
 behind_option subject given (Some key) =
@@ -127,7 +127,7 @@ behind_option subject given (Some key) =
 abbrev pub has_place : Subject → List ℕ → Bool
 has_place subject word = nat_lt subject.count (most subject.name) && is_positional subject.name word
 
--- behind one more positional word, or behind the first option's own word where there are enough of them
+-- after one more positional word, or after the first option's own word where there are enough of them
 abbrev pub behind_place : Subject → List ℕ → Option State
 behind_place subject word =
     if has_place subject word then Some (placed (one_more subject))
@@ -165,19 +165,19 @@ with_value name given keys.Seed word = with_seed given (number_in most_seed word
 with_value name given keys.Mul word = None
 with_value name given keys.Run word = None
 
--- behind an option's value
+-- after an option's value
 abbrev pub behind_value : Subject → Option Given → Option State
 behind_value subject None = None
 behind_value subject (Some given) = Some (options subject given)
 
--- what is known behind one more word, which has no place where there is no answer
+-- what is known after one more word, which has no place where there is no answer
 unfoldable pub follow : State → List ℕ → Option State
 follow start word = behind_name (name_in word)
 follow (placed subject) word = behind_place subject word
 follow (options subject given) word = behind_option subject given (key_in word)
 follow (valued subject given key) word = behind_value subject (with_value subject.name given key word)
 
--- the positional words: so many behind the first word
+-- the positional words: that many words after the first
 abbrev pub positional_in : ℕ → List (List ℕ) → List (List ℕ)
 positional_in count words = take count (drop 1 words)
 

@@ -30,7 +30,7 @@ given_of o = record {
   run = o.run;
 }
 
--- what is known behind the words that were read
+-- what is known after the words that were read
 abbrev pub state_of : rust_reading.Reading → State
 state_of readings.Start = start
 state_of (readings.Placed subject) = placed subject

@@ -12,7 +12,7 @@ use Rattle.cf_words.specs.Values.{count_in}
 use Rattle.cf_words.specs.Commands.{word_of, fewest, most, is_positional}
 use Rattle.cf_words.specs.Options.{Setting, written, takes, default_limit, NoneTwice, Schedule, by_rule, Given, given_in}
 
--- the words are a command's, with its positional words and behind them options of that command, which
+-- the words are a command's, with its positional words and after them options of that command, which
 -- settle nothing twice
 pub record IsCommand (words : List (List ℕ)) (name : Name) (positional : List (List ℕ))
     (settings : List Setting) : Type 0 where
@@ -28,7 +28,7 @@ pub data Layout : Type 0 where
   plain : Layout
   in_file : (name : List ℕ) → Layout
 
--- the word `plain` is the built-in layout, and no file's name
+-- the word `plain` names the built-in layout, and any other word names a file
 abbrev pub layout_in : List ℕ → Layout
 layout_in word = if pointwise nat_eq word (codes "plain") then plain else in_file word
 
@@ -48,7 +48,7 @@ pub data Asked : Type 0 where
   help : Asked
   version : Asked
 
--- the limit that is given, or the one where none is
+-- the limit that is given, or the default one
 abbrev pub limit_of : Given → ℕ
 limit_of given = unwrap_or given.limit default_limit
 
@@ -65,7 +65,7 @@ abbrev pub is_retired : Show → Bool
 is_retired shows.Retired = true
 is_retired _ = false
 
--- what a command asks with its positional words and what its options give; nothing where a word is missing, which of
+-- what a command asks with its positional words and what its options give; nothing where a word is missing, which for
 -- `moves` may be the script
 abbrev pub asked_by : Name → List (List ℕ) → Given → Option Asked
 asked_by names.Machine (program ∷ []) given =
@@ -97,7 +97,7 @@ pub record Asks (words : List (List ℕ)) (asked : Asked) : Type 0 where
   pub command : IsCommand words name positional settings
   pub means : asked_by name positional (given_in settings) ≡ Some asked
 
--- numbers that are asked are within their bounds
+-- numbers that are asked for are within their bounds
 abbrev pub IsBounded : Asked → Type 0
 IsBounded (machine program limit retired mul) = limit ≤ most_limit
 IsBounded (run layout program schedule limit lines) = limit ≤ most_limit

@@ -70,7 +70,7 @@ pub enum Command<'a> {
         program: &'a str,
         options: RunOptions<'a>,
     },
-    /// Runs the processor by a script, and tells which moves can be made at its end.
+    /// Runs the processor by a script, and says which moves can be made at its end.
     Moves {
         layout: LayoutWord<'a>,
         program: &'a str,
@@ -95,7 +95,7 @@ pub enum Command<'a> {
         layouts: &'a [String],
         options: TimeOptions,
     },
-    /// Tells whether a recorded trace is one of a run.
+    /// Says whether a recorded trace is that of a run.
     Audit {
         layout: LayoutWord<'a>,
         program: &'a str,
@@ -266,7 +266,7 @@ fn with_words<'a>(name: Name, positional: &'a [String], options: Options<'a>) ->
     }
 }
 
-/// The positional words: so many behind the first word.
+/// The positional words: `count` words after the first.
 fn positional(words: &[String], count: usize) -> &[String]
     ensures { result.now ≡ take count (drop 1 words.now) }
 {
@@ -292,7 +292,7 @@ fn complete<'a>(words: &'a [String], reading: Reading<'a>) -> Option<Command<'a>
     }
 }
 
-/// What the words ask, or the index of the first word that has no place: their number where one is missing.
+/// What the words ask, or the index of the first word that has no place, which is their number where a word is missing.
 pub fn read_words(words: &[String]) -> Result<Command<'_>, u32>
     ensures answers { MatchResult result
         (λ command. Asks (map string_bytes words.now) (asked_of command))

@@ -10,10 +10,10 @@ use crate::names::{Name, is_file_name};
 use crate::numbers::read_number;
 use cf_asked::Show;
 
-/// The greatest number of retired instructions behind `--limit`.
+/// The greatest number of retired instructions after `--limit`.
 const MOST_LIMIT: u64 = 1_000_000_000;
 
-/// The greatest seed behind `--seed`.
+/// The greatest seed after `--seed`.
 const MOST_SEED: u64 = 0xFFFF_FFFF;
 
 /// What chooses the moves of a run.
@@ -93,7 +93,7 @@ fn lines_of(word: &str) -> Option<Show>
     }
 }
 
-/// Whether a command can show this of a run: only one of the processor has moves.
+/// Whether a command can show this of a run: only a run of the processor has moves.
 fn can_show(name: Name, show: Show) -> bool
     ensures { result ≡ has_lines name show }
 {
@@ -118,7 +118,7 @@ impl<'a> Options<'a> {
         }
     }
 
-    /// Whether what this option settles was settled already: a script and a seed exclude each other.
+    /// Whether what this option settles has already been settled: a script and a seed exclude each other.
     pub(crate) fn has(&self, key: Key) -> bool
         ensures { result ≡ has_key (given_of self.now) key }
     {

@@ -1,4 +1,4 @@
-//! The words read one by one: what is known behind each of them.
+//! The words read one by one: what is known after each of them.
 #![tactic(auto, unfolding(crate::specs::Reading::follow))]
 
 ghost use Rattle.std.specs.Prelude.{◌≡◌, ◌+◌, ◌<◌, ◌^◌, option_map};
@@ -8,14 +8,14 @@ ghost use Rattle.cf_words.specs.Views.{given_of, state_of};
 use crate::names::Name;
 use crate::options::{Key, Options};
 
-/// A command with so many positional words.
+/// A command with this many positional words.
 #[derive(Clone, Copy)]
 pub(crate) struct Subject {
     pub(crate) name: Name,
     pub(crate) count: usize,
 }
 
-/// What is known behind the words that were read.
+/// What is known after the words that were read.
 #[derive(Clone, Copy)]
 pub(crate) enum Reading<'a> {
     /// No word yet.
@@ -48,7 +48,7 @@ impl Subject {
     }
 }
 
-/// An option's own word.
+/// What is known after an option's own word.
 fn behind_subject<'a>(
     subject: Subject,
     options: Options<'a>,
@@ -81,7 +81,7 @@ fn behind_subject<'a>(
     }
 }
 
-/// One more positional word, or the first option's own word.
+/// What is known after one more positional word, or after the first option's own word.
 fn behind_place<'a>(subject: Subject, word: &'a str) -> Option<Reading<'a>>
     ensures { option_map state_of result ≡ behind_place subject word.entry.now }
 {
@@ -95,7 +95,7 @@ fn behind_place<'a>(subject: Subject, word: &'a str) -> Option<Reading<'a>>
 }
 
 impl<'a> Reading<'a> {
-    /// What is known behind one more word, or None where that word has no place.
+    /// What is known after one more word, or None where that word has no place.
     pub(crate) fn follow(self, word: &'a str) -> Option<Self>
         ensures { option_map state_of result ≡ follow (state_of self.entry) word.entry.now }
     {

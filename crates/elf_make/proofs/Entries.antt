@@ -19,7 +19,7 @@ length-names-by : (b : Bool) (x : Named) → length (closed_names (cond b (x ∷
 length-names-by true x = rw (append-nil (closed x.name)) (omega arith)
 length-names-by false x = omega arith
 
--- the names of one label, or none
+-- the names of one label, or of none
 bound-name-shorter : (g : Bool) (x : Named) → length (closed_names (bound g (x ∷ []))) ≤ length (closed x.name)
 bound-name-shorter g x = length-names-by (is_bound g x) x
 
@@ -44,14 +44,14 @@ entries-append at (x ∷ xs) ys =
 pub names-append : (xs ys : List Named) → closed_names (xs ++ ys) ≡ closed_names xs ++ closed_names ys
 names-append xs ys = flat_map-append (λ (label : Named). closed label.name) xs ys
 
--- the labels of two lists were put behind the first symbol
+-- the labels of two lists were put after the first symbol
 pub symbols-put : (old none first second new : List ℕ) (start : ℕ) (xs ys : List Named)
     → new ≡ second ++ entries_from start ys → second ≡ first ++ entries_from 1 xs → first ≡ old ++ none
     → start ≡ 1 + length (closed_names xs) → new ≡ old ++ (none ++ entries_from 1 (xs ++ ys))
 symbols-put old none first second new start xs ys e h k at =
     rw (e, h, k, at, entries-append 1 xs ys) (simp append_assoc)
 
--- a label of 32 bits, or none
+-- a label whose value has 32 bits, or no label
 one-address : (b : Bool) (x : Named) → x.value < 2 ^ 32 → are_addresses (cond b (x ∷ []) []) ≡ true
 one-address true x h = let test : nat_lt x.value (2 ^ 32) ≡ true = grind (arith, nat_tests) in rw test refl
 one-address false x h = refl

@@ -1,4 +1,4 @@
--- What stands in a file behind an offset, and the numbers that are read there.
+-- What a file has from an offset on, and the numbers that are read there.
 use Rattle.std.proofs.Common.{◌≡◌, ℕ, ◌+◌, ◌^◌, ◌<◌, List, [], ◌∷◌, ◌++◌, length, take, drop, refl, sym, ap, ◌∙◌}
 use Rattle.std.proofs.lemmas.List.{drop-drop}
 use Rattle.std.proofs.Math.Seq.{drop-append_seam, take-append_seam}
@@ -6,7 +6,7 @@ use Rattle.byteorder.specs.Endian.{little_number, little_bytes}
 use Rattle.byteorder.specs.Numbers.{little_number-reads_back}
 use Rattle.elf_view.specs.Fields.{word, bytes_at}
 
--- behind a part stands the next
+-- after a part comes the next
 pub behind-part : (file part rest : List ℕ) (at next : ℕ) → drop at file ≡ part ++ rest → next ≡ at + length part → drop next file ≡ rest
 behind-part file part rest at next e h =
     ap (λ (n : ℕ). drop n file) h ∙ sym (drop-drop (length part) at file)

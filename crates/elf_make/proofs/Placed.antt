@@ -129,7 +129,7 @@ small-sizes o h = record {
   names = omega (arith, length-symbol_names o.labels, length-closed o.labels, h.labels, h.name_bytes);
 }
 
--- so all offsets are numbers of 32 bits, one behind the other
+-- so all offsets are numbers of 32 bits, one after the other
 pub record AreOrdered (s : Sizes) : Type 0 where
   pub text_first : text_at ≤ data_at s
   pub text_fits : text_at + s.text_len ≤ data_at s

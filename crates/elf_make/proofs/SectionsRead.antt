@@ -22,7 +22,7 @@ same-section : (k₁ k₂ o₁ o₂ s₁ s₂ l₁ l₂ e₁ e₂ : ℕ) → k�
     → section_with k₁ o₁ s₁ l₁ e₁ ≡ section_with k₂ o₂ s₂ l₂ e₂
 same-section k₁ k₂ o₁ o₂ s₁ s₂ l₁ l₂ e₁ e₂ k o s l e = rw (k, o, s, l, e) refl
 
--- a header of the end of the file, by its place there
+-- a header at the end of the file, by its place there
 pub section-in : (file part : List ℕ) (at k a : ℕ) → drop at file ≡ part → a ≡ at + k → section_header file a ≡ section_header part k
 section-in file part at k a e h =
     same-section _ _ _ _ _ _ _ _ _ _
@@ -45,7 +45,7 @@ names-header : (s : Sizes) → names_at s < 2 ^ 32 → s.names_len < 2 ^ 32 → 
 unfolding words word
 names-header s a l = same-section _ _ _ _ _ _ _ _ _ _ refl (word-is (names_at s) a) (word-is s.names_len l) refl refl
 
--- the kinds of the sections in front of the symbols
+-- the kinds of the sections up to the symbols
 kinds : (s : Sizes) → (word (section_headers s) 4 ≡ 0) × (word (section_headers s) 44 ≡ 1) × (word (section_headers s) 84 ≡ 1) × (word (section_headers s) 124 ≡ 2)
 unfolding words word
 kinds s = (refl, refl, refl, refl)

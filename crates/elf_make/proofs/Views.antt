@@ -210,7 +210,7 @@ elf-is o h a r =
           subst (λ (i : ℕ). IsReadable f (section_at f i)) same (subst (λ (table : SectionHeader). IsReadable f table) (sym r.symbols) (readable o h a r));
     }
 
--- a file that is that of an object is seen as it
+-- the file of an object is seen as that object
 pub viewed : (o : Object) → IsSmall o → o.entry < 2 ^ 32 → All IsAddress (in_order o.labels) → IsView o (elf_file o)
 viewed o h e a =
     let r = is-read o h e in

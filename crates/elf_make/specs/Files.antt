@@ -17,16 +17,16 @@ sizes_of o = record {
   names_len = length (names o.labels);
 }
 
--- the headers, in front of all
+-- the headers, which come first
 unfoldable pub front : Sizes → (entry : ℕ) → List ℕ
 front s entry = file_header s entry ++ program_headers s
 
--- text and data, each with zeros behind it
+-- text and data, each with zeros after it
 unfoldable pub contents : (text data_bytes : List ℕ) → List ℕ
 contents text data_bytes =
     text ++ zeros_behind (length text) ++ data_bytes ++ zeros_behind (length data_bytes)
 
--- the symbols and all names, with zeros behind them
+-- the symbols and all names, with zeros after them
 unfoldable pub tables : List Named → Sizes → List ℕ
 tables labels s =
     symbol_table labels ++ names labels ++ section_names ++ zeros_behind (section_names_end s)

@@ -8,7 +8,7 @@ use Rattle.elf_make.specs.Sizes.{text_at, data_at, symbols_at, symbols_len, name
 unfoldable pub identity : List ℕ
 identity = 0x7F ∷ 0x45 ∷ 0x4C ∷ 0x46 ∷ 1 ∷ 1 ∷ 1 ∷ replicate 9 0
 
--- an executable for RISC-V: its entry, two program headers of 32 bytes behind this header of 52, and six section headers of 40 bytes, of which the last has the names of the sections
+-- an executable for RISC-V: its entry, two program headers of 32 bytes after this header of 52, and six section headers of 40 bytes, the last for the names of the sections
 abbrev pub file_header : Sizes → ℕ → List ℕ
 file_header s entry =
     identity ++ halves (2 ∷ 243 ∷ []) ++ words (1 ∷ entry ∷ 52 ∷ sections_at s ∷ 0 ∷ [])
@@ -29,7 +29,7 @@ abbrev pub section_header : ℕ → ℕ → ℕ → ℕ → ℕ → ℕ → ℕ 
 section_header name kind flags address offset len link info align entry_size =
     words (name ∷ kind ∷ flags ∷ address ∷ offset ∷ len ∷ link ∷ info ∷ align ∷ entry_size ∷ [])
 
--- no section, then the text and the data (SHT_PROGBITS)
+-- the null header, then those of the text and the data (SHT_PROGBITS)
 abbrev pub content_headers : Sizes → List ℕ
 content_headers s =
     section_header 0 0 0 0 0 0 0 0 0 0

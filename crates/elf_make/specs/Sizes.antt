@@ -2,7 +2,7 @@
 use Rattle.std.specs.Prelude.{ℕ, ◌+◌, ◌-◌, ◌*◌, ◌%◌, ◌≤◌, List, replicate}
 use Rattle.elf_make.specs.declared.sizes.Sizes.{Sizes}
 
--- how many bytes are missing from a length up to a multiple of 4
+-- how many bytes bring a length up to a multiple of 4
 abbrev pub padding : ℕ → ℕ
 padding len = (4 - len % 4) % 4
 
@@ -14,7 +14,7 @@ zeros_behind len = replicate (padding len) 0
 abbrev pub padded : ℕ → ℕ
 padded len = len + padding len
 
--- the text stands behind the headers
+-- the text comes after the headers
 abbrev pub text_at : ℕ
 text_at = 116
 
@@ -44,7 +44,7 @@ section_names_end s = section_names_at s + section_names_len
 unfoldable pub sections_at : Sizes → ℕ
 sections_at s = padded (section_names_end s)
 
--- text and data have at most 1,048,576 bytes each, there are at most 524,288 labels, and their names have at most 1,048,576 bytes besides a NUL each and one in front
+-- text and data have at most 1,048,576 bytes each, there are at most 524,288 labels, and their names have at most 1,048,576 bytes besides a NUL for each and one before them
 pub record AreSmall (s : Sizes) : Type 0 where
   pub text : s.text_len ≤ 1048576
   pub data_section : s.data_len ≤ 1048576

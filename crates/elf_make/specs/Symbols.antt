@@ -25,7 +25,7 @@ in_order labels = bound false labels ++ bound true labels
 abbrev pub closed_names : List Named → List ℕ
 closed_names labels = flat_map (λ label. closed label.name) labels
 
--- the names of the symbols; the first, of the symbol that is none, is empty
+-- the names of the symbols; the first, of the null symbol, is empty
 unfoldable pub names : List Named → List ℕ
 names labels = 0 ∷ closed_names (in_order labels)
 
@@ -35,13 +35,13 @@ entry name label =
     words (name ∷ label.value ∷ 0 ∷ []) ++ (if label.global then 16 else 0) ∷ 0 ∷ []
     ++ halves ((if label.in_text then 1 else 2) ∷ [])
 
--- the entries of labels, of which the name of the first begins at an index
+-- the entries of labels; the name of the first begins at an index
 abbrev pub entries_from : ℕ → List Named → List ℕ
 entries_from name [] = []
 entries_from name (label ∷ labels) =
     entry name label ++ entries_from (name + length (closed label.name)) labels
 
--- the symbol table: a symbol that is none, then the labels
+-- the symbol table: the null symbol, then the labels
 unfoldable pub symbol_table : List Named → List ℕ
 symbol_table labels = replicate 16 0 ++ entries_from 1 (in_order labels)
 

@@ -33,7 +33,7 @@ data_segment o = record {
   exec = false;
 }
 
--- the first symbol, which is none
+-- the first symbol, the null symbol
 abbrev pub no_symbol : NamedSymbol
 no_symbol = record { name = []; value = 0; size = 0 }
 

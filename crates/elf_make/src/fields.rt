@@ -23,7 +23,7 @@ fn word_bytes(number: u32) -> [u8; 4]
     bytes
 }
 
-/// Puts numbers of two bytes behind the file.
+/// Appends numbers of two bytes to the file.
 #[tactic(auto, unfolding(crate::specs::Fields::halves))]
 pub fn push_halves(file: &mut Vec<u8>, numbers: &[u16]) -> Result<(), AllocError>
     ensures { OnOk result (file.new.items ≡ file.old.items ++ halves numbers.now) }
@@ -34,7 +34,7 @@ pub fn push_halves(file: &mut Vec<u8>, numbers: &[u16]) -> Result<(), AllocError
     Ok(())
 }
 
-/// Puts numbers of four bytes behind the file.
+/// Appends numbers of four bytes to the file.
 #[tactic(auto, unfolding(crate::specs::Fields::words))]
 pub fn push_words(file: &mut Vec<u8>, numbers: &[u32]) -> Result<(), AllocError>
     ensures { OnOk result (file.new.items ≡ file.old.items ++ words numbers.now) }

@@ -73,7 +73,7 @@ pub fn push_program_headers(file: &mut Vec<u8>, sizes: Sizes) -> Result<(), Allo
     )
 }
 
-/// Puts the headers of no section, of the text and of the data.
+/// Puts the null header and those of the text and of the data.
 fn push_content_headers(file: &mut Vec<u8>, sizes: Sizes) -> Result<(), AllocError>
     requires { AreSmall sizes }
     ensures { OnOk result (file.new.items ≡ file.old.items ++ content_headers sizes) }

@@ -10,7 +10,7 @@ ghost use Rattle.elf_make.specs.Symbols.{bound, closed_names, names};
 
 use rv_asm::{Label, Object};
 
-/// Where the text begins, behind the headers.
+/// Where the text begins, after the headers.
 pub const TEXT_AT: u32 = 116;
 
 /// How long the names of the sections are.
@@ -27,7 +27,7 @@ pub struct Sizes {
     pub names_len: u32,
 }
 
-/// How many bytes are missing from a length up to a multiple of 4.
+/// How many bytes bring a length up to a multiple of 4.
 #[tactic(auto)]
 pub fn padding(len: u32) -> u32
     ensures padding { result ≡ padding len }

@@ -47,8 +47,8 @@ fn push_entry(file: &mut Vec<u8>, name: u32, label: &Label) -> Result<(), AllocE
     push_halves(file, &[section])
 }
 
-/// Puts the entry of a label whose name begins at an index, where it is exported, or where it is not.
-/// The answer is where the names behind it begin.
+/// Puts the entry of a label whose name begins at an index, where it is exported or where it is not, as
+/// `global` says. The answer is where the names after it begin.
 #[tactic(auto, using(crate::proofs::Entries::address))]
 fn push_bound_entry(
     file: &mut Vec<u8>,
@@ -68,8 +68,8 @@ fn push_bound_entry(
     Ok(name + label.name.as_str().len() as u32 + 1)
 }
 
-/// Puts the entries of the labels that are exported, or of those that are not, of which the name of the
-/// first begins at an index. The answer is where the names behind theirs begin.
+/// Puts the entries of the labels that are exported, or of those that are not; the name of the first begins
+/// at an index. The answer is where the names after theirs begin.
 fn push_entries(
     file: &mut Vec<u8>,
     start: u32,
@@ -90,7 +90,7 @@ fn push_entries(
     Ok(name)
 }
 
-/// Puts the name of a label with a NUL, where it is exported, or where it is not.
+/// Puts the name of a label with a NUL, where it is exported or where it is not, as `global` says.
 fn push_bound_name(file: &mut Vec<u8>, label: &Label, global: bool) -> Result<(), AllocError>
     ensures { OnOk result (file.new.items ≡ file.old.items ++ closed_names (bound global (named label.now ∷ []))) }
 {
@@ -114,7 +114,7 @@ fn push_bound_names(file: &mut Vec<u8>, labels: &[Label], global: bool) -> Resul
     Ok(())
 }
 
-/// Puts the symbol table: a symbol that is none, then the labels, the local ones first.
+/// Puts the symbol table: the null symbol, then the labels, the local ones first.
 #[tactic(auto, unfolding(crate::specs::Symbols::symbol_table, crate::specs::Symbols::in_order), using(crate::proofs::Entries::entries))]
 pub fn push_symbols(file: &mut Vec<u8>, labels: &[Label]) -> Result<(), AllocError>
     requires { length (closed_names (map named labels.now)) ≤ 1572864 }

@@ -14,7 +14,7 @@ use crate::symbols::{push_names, push_symbols};
 use rv_asm::{Label, Object};
 use std::alloc::{AllocError, Global};
 
-/// Puts zeros behind what has a length, up to a multiple of 4.
+/// Puts zeros after something of this length, up to a multiple of 4.
 fn push_zeros(file: &mut Vec<u8>, len: u32) -> Result<(), AllocError>
     ensures { OnOk result (file.new.items ≡ file.old.items ++ zeros_behind len) }
 {
@@ -24,7 +24,7 @@ fn push_zeros(file: &mut Vec<u8>, len: u32) -> Result<(), AllocError>
     Ok(())
 }
 
-/// Puts bytes, and zeros behind them.
+/// Puts bytes, and zeros after them.
 fn push_content(file: &mut Vec<u8>, bytes: &[u8]) -> Result<(), AllocError>
     requires { length bytes.now ≤ 1048576 }
     ensures { OnOk result (file.new.items ≡ file.old.items ++ bytes.now ++ zeros_behind (length bytes.now)) }
@@ -33,7 +33,7 @@ fn push_content(file: &mut Vec<u8>, bytes: &[u8]) -> Result<(), AllocError>
     push_zeros(file, bytes.len() as u32)
 }
 
-/// Puts the headers in front of all.
+/// Puts the headers, which come first.
 #[tactic(auto, using(std::proofs::lemmas::List::append_assoc), unfolding(crate::specs::Files::front))]
 fn push_front(file: &mut Vec<u8>, sizes: Sizes, entry: u32) -> Result<(), AllocError>
     requires { AreSmall sizes }

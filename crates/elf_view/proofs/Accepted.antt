@@ -22,22 +22,22 @@ abbrev pub Pass : List (Option ElfErr) → Type 0
 Pass [] = Unit {0}
 Pass (test ∷ tests) = (test ≡ None) × Pass tests
 
--- of two tests that tell nothing the first does not
+-- where two tests together give no error, the first gives none
 first_passes : (a b : Option ElfErr) → option_or a b ≡ None → a ≡ None
 first_passes None b e = refl
 first_passes (Some x) b e = cc
 
--- and neither does the other
+-- and neither does the second
 others_pass : (a b : Option ElfErr) → option_or a b ≡ None → b ≡ None
 others_pass None b e = e
 others_pass (Some x) b e = cc
 
--- where no test tells an error each passes
+-- where no test gives an error, each passes
 pub all_pass : (tests : List (Option ElfErr)) → first_of tests ≡ None → Pass tests
 all_pass [] e = tt
 all_pass (test ∷ tests) e = (first_passes test (first_of tests) e, all_pass tests (others_pass test (first_of tests) e))
 
--- where no number is told as an error there is none
+-- where no number is given as an error, there is no number
 pub no_number : (f : ℕ → ElfErr) (o : Option ℕ) → option_map f o ≡ None → o ≡ None
 no_number f None e = refl
 no_number f (Some n) e = cc
@@ -67,7 +67,7 @@ pub sections_fit : (file : List ℕ) → refusal file ≡ None → FitsIn file (
 unfolding cut_section_header
 sections_fit file e = none_cut file _ 40 _ (no_number TooShort _ (tables_pass file e).1.1.1.0)
 
--- two tests of which neither holds
+-- of two tests that do not both hold, the second fails where the first holds
 neither : (a b : Bool) → (a && b) ≡ false → a ≡ true → b ≡ false
 neither true b e h = e
 neither false b e h = cc
@@ -98,7 +98,7 @@ told_sound : (b : Bool) (e : ElfErr) → where_so (not b) e ≡ None → b ≡ t
 told_sound true e h = refl
 told_sound false e h = cc
 
--- the same of the table at an index
+-- the same for the table at an index
 sound_at : (file : List ℕ) (o : Option ℕ) (i : ℕ) → o ≡ Some i → bad_table file o ≡ None → is_sound_table file (section_at file i) ≡ true
 sound_at file o i e h =
     let at : bad_table file (Some i) ≡ None = subst (λ (r : Option ℕ). bad_table file r ≡ None) e h in

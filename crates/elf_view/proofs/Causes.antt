@@ -1,4 +1,4 @@
--- Each refusal is told for its cause.
+-- Each refusal is given for its true cause.
 use Rattle.std.proofs.Common.{◌≡◌, ◌≢◌, ℕ, zero, suc, ◌+◌, ◌*◌, ◌<◌, ◌≤◌, List, [], ◌∷◌, length, get_or, take, Bool, true, false, cond, Option, Some, None, refl, sym, subst, arith, inl, inr}
 use Rattle.std.specs.Prelude.{position, find, nat_lt, not, ◌&&◌, ◌==◌, bit_and, slice_index}
 use Rattle.std.specs.Option.{option_or, option_map}
@@ -30,7 +30,7 @@ AllSay : List ℕ → List (Option ElfErr) → Type 0
 AllSay file [] = Unit {0}
 AllSay file (test ∷ tests) = Says file test × AllSay file tests
 
--- of two tests that say the truth the first that fails does
+-- where two tests say the truth, so does the first of them that fails
 says-option_or : (file : List ℕ) (a b : Option ElfErr) → Says file a → Says file b → Says file (option_or a b)
 unfolding Says
 says-option_or file None b s t = t
@@ -48,7 +48,7 @@ unfolding Says
 says-where_so file true e cause = cause refl
 says-where_so file false e cause = tt
 
--- a number that is told says the truth where it names the cause
+-- a number that is given says the truth where it names the cause
 says-option_map : (file : List ℕ) (f : ℕ → ElfErr) (o : Option ℕ) → ((n : ℕ) → o ≡ Some n → IsCause file (f n)) → Says file (option_map f o)
 unfolding Says
 says-option_map file f None cause = tt
@@ -63,7 +63,7 @@ fails false e h = cc
 apart : (a b : ℕ) → not (a == b) ≡ true → a ≢ b
 apart a b e = λ same. let test : (a == b) ≡ true = grind (arith, nat_tests) in fails (a == b) e test
 
--- bytes of which not all are 1
+-- bytes that are not all 1
 other_bytes : (file : List ℕ) → not (slice_index file 4 == 1 && slice_index file 5 == 1 && slice_index file 6 == 1) ≡ true → ¬ ((slice_index file 4 ≡ 1) × (slice_index file 5 ≡ 1) × (slice_index file 6 ≡ 1))
 other_bytes file e ones =
     let first = ones.0 in let second = ones.1 in let third = ones.2 in
@@ -188,7 +188,7 @@ larger-no h e so = let load = so.0 in let beyond = so.1 in let test : nat_lt h.m
 same_kind : (h : ProgramHeader) → is_interpreter h ≡ true → h.kind ≡ 3
 same_kind h e = grind (arith, nat_tests)
 
--- some header is of the name of an interpreter
+-- some header is that of an interpreter's name
 interpreter-any : (hs : List ProgramHeader) → list_any is_interpreter hs ≡ true → Any (λ h. h.kind ≡ 3) hs
 interpreter-any hs e = let a = Any-from_list_any is_interpreter hs e in (a.0, a.1, a.2, a.3, same_kind a.1 a.4)
 
@@ -220,12 +220,12 @@ says-refusal : (file : List ℕ) → Says file (refusal file)
 unfolding refusal AllSay
 says-refusal file = says-first_of file (groups file) (says-identity file, (says-target file, (says-tables file, (says-segments file, (says-symbols file, tt)))))
 
--- what is true of a refusal that is told
+-- what is true of a refusal that is given
 told-cause : (file : List ℕ) (o : Option ElfErr) (e : ElfErr) → o ≡ Some e → Says file o → IsCause file e
 unfolding Says
 told-cause file None e h s = cc
 told-cause file (Some x) e h s = let same : x ≡ e = cc in subst (λ (y : ElfErr). IsCause file y) same s
 
--- a refusal is told for its cause
+-- a refusal is given for its true cause
 pub refusal-cause : (file : List ℕ) (e : ElfErr) → refusal file ≡ Some e → IsCause file e
 refusal-cause file e h = told-cause file (refusal file) e h (says-refusal file)

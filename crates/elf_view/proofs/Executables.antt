@@ -23,12 +23,12 @@ use Rattle.elf_view.proofs.Readable.{both_hold, readable-sound, length-bytes_at,
 
 -- ---- what passes all tests is an executable that can be viewed
 
--- a test that tells nothing finds no fault
+-- a test that gives no error finds no fault
 no_fault : (fault : Bool) (e : ElfErr) → where_so fault e ≡ None → fault ≡ false
 no_fault true e h = cc
 no_fault false e h = refl
 
--- a turned test that fails holds
+-- a test whose negation fails holds
 unturned : (a : Bool) → not a ≡ false → a ≡ true
 unturned true e = refl
 unturned false e = cc
@@ -93,11 +93,11 @@ passed-tables file e =
       sections = sections_fit file e;
     }
 
--- no header that passes the test is of the name of an interpreter
+-- a header of which the test is false is not that of an interpreter's name
 other_kind : (h : ProgramHeader) → is_interpreter h ≡ false → h.kind ≢ 3
 other_kind h e = λ k. grind (arith, nat_tests)
 
--- a test that is found nowhere holds of no element
+-- a test that cannot be true of an element is false of it
 holds_of_none : {X : Type 0} (p : X → Bool) (x : X) (b : Bool) → p x ≡ b → (p x ≡ true → ⊥) → p x ≡ false
 holds_of_none p x true e never = absurd (never e)
 holds_of_none p x false e never = e
@@ -139,12 +139,12 @@ segments-loadable file e =
 
 -- ---- what can be viewed passes all tests
 
--- tests that all tell nothing tell nothing together
+-- tests that each give no error give none together
 none_tells : (tests : List (Option ElfErr)) → Pass tests → first_of tests ≡ None
 none_tells [] pass = refl
 none_tells (test ∷ tests) pass = rw pass.0 (none_tells tests pass.1)
 
--- a test that finds no fault tells nothing
+-- a test that finds no fault gives no error
 tells_none : (fault : Bool) (e : ElfErr) → fault ≡ false → where_so fault e ≡ None
 tells_none true e h = cc
 tells_none false e h = refl
@@ -190,7 +190,7 @@ size-passes count size right e true wrong f g h = refl
 size-passes count size right e false true f g h = refl
 size-passes count size right e false false f g h = absurd (grind (arith, nat_tests))
 
--- of a table in the file no entry is cut off
+-- no entry of a table in the file is cut off
 fits-none : (file : List ℕ) (at size count : ℕ) → FitsIn file at size count → find (λ p. ends_beyond file p size) (places at size count) ≡ None
 fits-none file at size zero fits = refl
 fits-none file at size (suc count) fits =
@@ -214,7 +214,7 @@ tables-pass file t =
       ),
     )
 
--- what holds of all that pass a test holds of each where it passes
+-- what holds of all that pass a test holds of the later ones, and of the first element where it passes
 all-filtered : {X : Type 0} (p : X → Bool) (P : X → Type 0) (x : X) (xs : List X) (b : Bool) → p x ≡ b → All P (cond b (x ∷ filter p xs) (filter p xs)) → All P (filter p xs) × (p x ≡ true → P x)
 all-filtered p P x xs true e all = (λ k d within. all (suc k) d (omega arith), λ _. all 0 x (omega arith))
 all-filtered p P x xs false e all = (all, λ h. absurd (never (p x) h e))
@@ -238,7 +238,7 @@ sound-inside file h s = loaded-fails (is_load h) (ends_beyond file h.offset h.fi
 sound-small : (file : List ℕ) (h : ProgramHeader) → (is_load h ≡ true → IsSound file h) → is_larger h ≡ false
 sound-small file h s = loaded-fails (is_load h) (nat_lt h.memsz h.filesz) (λ load. let room = (s load).room in grind (arith, nat_tests))
 
--- an index of an element that passes, where none does
+-- there is no index of an element that passes where none does
 no_index : (test : ProgramHeader → Bool) (hs : List ProgramHeader) (o : Option ℕ) → position test hs ≡ o → All (λ h. test h ≡ false) hs → o ≡ None
 no_index test hs None e all = refl
 no_index test hs (Some i) e all =
@@ -284,6 +284,6 @@ elf-accepted file elf =
       ),
     )
 
--- what is refused is none
+-- a file that is refused is not such an executable
 pub refused-no_elf : (file : List ℕ) (e : ElfErr) → refusal file ≡ Some e → ¬ IsElf file
 refused-no_elf file e h elf = let passes = elf-accepted file elf in cc

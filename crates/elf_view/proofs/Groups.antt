@@ -1,4 +1,4 @@
--- The tests of a file as lists: five groups, and what stands in each.
+-- The tests of a file as lists: five groups, and the tests in each.
 use Rattle.std.proofs.Common.{ℕ, List, [], ◌∷◌, Option}
 use Rattle.elf_view.specs.declared.headers.FileHeader.{FileHeader}
 use Rattle.elf_view.specs.declared.headers.ProgramHeader.{ProgramHeader}
@@ -26,6 +26,6 @@ segment_tests file = needs_interpreter file ∷ outside_file file ∷ larger_tha
 abbrev pub groups : List ℕ → List (Option ElfErr)
 groups file = identity_refusal file ∷ target_refusal (file_header file) ∷ table_refusal file ∷ segment_refusal file ∷ bad_symbols file ∷ []
 
--- a header to name where none is read
+-- a header to use as a default
 abbrev pub no_header : ProgramHeader
 no_header = record { kind = 0; offset = 0; vaddr = 0; filesz = 0; memsz = 0; flags = 0 }

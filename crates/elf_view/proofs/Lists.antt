@@ -2,7 +2,7 @@
 use Rattle.std.proofs.Common.{◌≡◌, suc, List, [], ◌∷◌, All, Option, Some, None, subst, sym, arith}
 use Rattle.std.specs.Prelude.{MatchOption}
 
--- what holds of each element holds of those behind the first
+-- what holds of each element holds of those after the first
 all_behind : {X : Type 0} (P : X → Type 0) (x : X) (xs : List X) → All P (x ∷ xs) → All P xs
 all_behind P x xs all k d within = all (suc k) d (omega arith)
 

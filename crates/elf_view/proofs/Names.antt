@@ -11,7 +11,7 @@ use Rattle.elf_view.proofs.Positions.{none_told}
 abbrev is_nul : ℕ → Bool
 is_nul byte = byte == 0
 
--- the index that is told is the one that was looked for
+-- the index that is given is the one that was looked for
 told_index : (t : Bool) (n i : ℕ) → Some i ≡ cond t (Some n) None → n ≡ i
 told_index true n i e = cc
 told_index false n i e = cc
@@ -20,7 +20,7 @@ told_index false n i e = cc
 pub stops_at_nul : (text : List ℕ) (end : ℕ) → Some end ≡ position (λ byte. byte == 0) text → take end text ≡ before_first (λ byte. byte == 0) text
 stops_at_nul text end e = let at : position_or_len is_nul text ≡ end = told_index (nat_lt (position_or_len is_nul text) (length text)) (position_or_len is_nul text) end e in rw at refl
 
--- where there is no NUL they are all
+-- where there is no NUL they are all the bytes
 pub goes_to_end : (text : List ℕ) → None ≡ position (λ byte. byte == 0) text → text ≡ before_first (λ byte. byte == 0) text
 goes_to_end text e = sym (take_all _ text (none_told (nat_lt (position_or_len is_nul text) (length text)) (position_or_len is_nul text) (length text) refl (sym e)))
 
@@ -28,7 +28,7 @@ goes_to_end text e = sym (take_all _ text (none_told (nat_lt (position_or_len is
 ended : (byte : ℕ) (behind : List ℕ) → is_nul byte ≡ true → length (first_text (byte ∷ behind)) ≡ 0
 ended byte behind e = rw e refl
 
--- and another has its first byte
+-- and any other has at least its first byte
 begun : (byte : ℕ) (behind : List ℕ) → is_nul byte ≡ false → 1 ≤ length (first_text (byte ∷ behind))
 begun byte behind e =
     let count = prefix_len (λ b. not (b == 0)) behind in

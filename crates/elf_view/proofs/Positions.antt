@@ -5,7 +5,7 @@ use Rattle.std.specs.List.{position_or_len}
 use Rattle.std.proofs.lemmas.List.Sums.{fails_before_first}
 use Rattle.std.proofs.lemmas.Bool.Decides.{nat_tests}
 
--- where no index is told it is the length
+-- where no index is given, the position is at or beyond the length
 pub none_told : (t : Bool) (n size : ℕ) → nat_lt n size ≡ t → cond t (Some n) None ≡ None → size ≤ n
 none_told true n size e h = cc
 none_told false n size e h = grind (arith, nat_tests)

@@ -35,7 +35,7 @@ all_true : {X : Type 0} (p : X → Bool) (xs : List X) → All (λ x. p x ≡ tr
 all_true p [] all = refl
 all_true p (x ∷ xs) all = both_true (p x) (list_all p xs) (all 0 x (omega arith)) (all_true p xs (λ k d within. all (suc k) d (omega arith)))
 
--- a test that fails holds when turned
+-- a test whose negation holds fails
 turned : (a : Bool) → not a ≡ true → a ≡ false
 turned true e = cc
 turned false e = refl
@@ -75,7 +75,7 @@ below-true a b h = grind (arith, nat_tests)
 true-below : (a b : ℕ) → nat_lt a b ≡ true → a < b
 true-below a b h = grind (arith, nat_tests)
 
--- names that are tested are what they are tested for
+-- names that pass the test are what they are tested for
 sound-names : (file : List ℕ) (table names : SectionHeader) → has_sound_names file table names ≡ true → HasNames file names (entries_of file table)
 sound-names file table names e =
     let lies = both_hold (lies_in file names) (ends_in_nul (content_of file names) && names_begin_in names (entries_of file table)) e in
@@ -89,7 +89,7 @@ sound-names file table names e =
       begin = λ k d below. true-below (get_or (entries_of file table) k d).name names.size (all_hold (λ e. nat_lt e.name names.size) (entries_of file table) rest.1 k d below);
     }
 
--- and what is such names passes the test
+-- and such names pass the test
 names-sound : (file : List ℕ) (table names : SectionHeader) → HasNames file names (entries_of file table) → has_sound_names file table names ≡ true
 names-sound file table names h =
     both_true (lies_in file names) (ends_in_nul (content_of file names) && names_begin_in names (entries_of file table))

@@ -5,7 +5,7 @@ use Rattle.std.specs.List.{position_or_len}
 use Rattle.std.proofs.lemmas.Bool.Decides.{nat_tests}
 use Rattle.elf_view.specs.Fields.{places, ends_beyond, entries}
 
--- the places that are left begin at the next
+-- the places that are left begin with the next
 pub next_place : (place size count counter : ℕ) → counter < count → places place size (count - counter) ≡ place ∷ places (place + size) size (count - (counter + 1))
 next_place place size count counter below = let e : count - counter ≡ suc (count - (counter + 1)) = omega arith in rw e refl
 
@@ -17,7 +17,7 @@ not_cut file place size count counter below within =
     let passes : nat_lt (length file) (place + size) ≡ false = grind (arith, nat_tests) in
     rw (next_place place size count counter below, passes) refl
 
--- where the first of two tests tells nothing, it does not hold, and the second tells nothing
+-- where neither of two tests gives a place, the first does not hold, and the second gives none
 told_none : (t : Bool) (place : ℕ) (o : Option ℕ) → cond t (Some place) o ≡ None → (t ≡ false) × (o ≡ None)
 told_none true place o e = cc
 told_none false place o e = (refl, e)
@@ -27,7 +27,7 @@ one_more_fits : (file : List ℕ) (at size count : ℕ) → at + size ≤ length
 one_more_fits file at size zero first others = omega arith
 one_more_fits file at size (suc count) first others = let more = others (omega arith) in grind arith
 
--- a table of which no entry ends beyond the file lies in it
+-- a table lies in the file where none of its entries ends beyond it
 pub none_cut : (file : List ℕ) (at size count : ℕ) → find (λ place. ends_beyond file place size) (places at size count) ≡ None → 0 < count → at + size * count ≤ length file
 none_cut file at size zero e some = absurd (omega arith)
 none_cut file at size (suc count) e some =
@@ -41,7 +41,7 @@ pub length-entries : {E : Type 0} (read : List ℕ → ℕ → E) (size : ℕ) (
 length-entries read size file at zero = refl
 length-entries read size file at (suc count) = let e = length-entries read size file (at + size) count in omega (arith, e)
 
--- an index that is told is one of the list
+-- an index that is given is one in the list
 told_within : (t : Bool) (n size count : ℕ) → size ≤ count → nat_lt n size ≡ t → IfSome (cond t (Some n) None) (λ i. i < count)
 told_within true n size count le e = grind (arith, nat_tests)
 told_within false n size count le e = tt

@@ -10,23 +10,23 @@ half file at = little_number 2 (drop at file)
 unfoldable pub word : List ℕ → ℕ → ℕ
 word file at = little_number 4 (drop at file)
 
--- so many bytes of the file from the offset on
+-- that many bytes of the file from the offset on
 abbrev pub bytes_at : List ℕ → ℕ → ℕ → List ℕ
 bytes_at file at count = take count (drop at file)
 
--- whether so many bytes from the offset on end beyond the file
+-- whether that many bytes from the offset on end beyond the file
 abbrev pub ends_beyond : List ℕ → ℕ → ℕ → Bool
 ends_beyond file at count = nat_lt (length file) (at + count)
 
--- the offsets at which the entries of a table begin: so many of one size, one behind the other
+-- the offsets at which the entries of a table begin: that many of one size, one after the other
 abbrev pub places : ℕ → ℕ → ℕ → List ℕ
 places at size zero = []
 places at size (suc count) = at ∷ places (at + size) size count
 
--- the entries of a table in the file: so many of one size, each read where it begins
+-- the entries of a table in the file: that many of one size, each read where it begins
 abbrev pub entries : {E : Type 0} → (List ℕ → ℕ → E) → ℕ → List ℕ → ℕ → ℕ → List E
 entries read size file at count = map (read file) (places at size count)
 
--- a table of so many entries of one size lies in the file; an empty one lies anywhere
+-- a table of that many entries of one size lies in the file; an empty one lies anywhere
 abbrev pub FitsIn : List ℕ → ℕ → ℕ → ℕ → Type 0
 FitsIn file at size count = 0 < count → at + size * count ≤ length file

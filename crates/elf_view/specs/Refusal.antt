@@ -28,7 +28,7 @@ no_file_header file = where_so (nat_lt (length file) 52) (TooShort 0)
 abbrev pub starts_with_elf : List ℕ → Bool
 starts_with_elf file = starts_with nat_eq file (0x7F ∷ 0x45 ∷ 0x4C ∷ 0x46 ∷ [])
 
--- the file does not begin so
+-- the file does not begin with these
 unfoldable pub not_elf : List ℕ → Option ElfErr
 not_elf file = where_so (not (starts_with_elf file)) NotElf
 
@@ -56,11 +56,11 @@ needs_float h = where_so (not (bit_and h.flags 6 == 0)) NeedsFloat
 unfoldable pub needs_rve : FileHeader → Option ElfErr
 needs_rve h = where_so (not (bit_and h.flags 8 == 0)) NeedsRve
 
--- there are program headers, and they have not 32 bytes
+-- there are program headers, and they do not have 32 bytes
 unfoldable pub bad_program_size : FileHeader → Option ElfErr
 bad_program_size h = where_so (not (h.program_count == 0) && not (h.program_size == 32)) (BadHeaderSize h.program_size)
 
--- there are section headers, and they have not 40 bytes
+-- there are section headers, and they do not have 40 bytes
 unfoldable pub bad_section_size : FileHeader → Option ElfErr
 bad_section_size h = where_so (not (number_of_sections h == 0) && not (h.section_size == 40)) (BadHeaderSize h.section_size)
 
@@ -92,7 +92,7 @@ is_larger h = is_load h && nat_lt h.memsz h.filesz
 unfoldable pub larger_than_memory : List ℕ → Option ElfErr
 larger_than_memory file = option_map FileLargerThanMemory (position is_larger (program_headers file))
 
--- the symbol table of an index cannot be read
+-- the symbol table at an index cannot be read
 abbrev pub bad_table : List ℕ → Option ℕ → Option ElfErr
 bad_table file None = None
 bad_table file (Some index) = where_so (not (is_sound_table file (section_at file index))) (BadSymbols index)

@@ -6,7 +6,7 @@ use Rattle.elf_view.specs.Headers.{file_header, section_header, section_headers,
 use Rattle.elf_view.specs.declared.headers.SectionHeader.{SectionHeader}
 use Rattle.elf_view.specs.declared.headers.SymbolEntry.{SymbolEntry}
 
--- the header is of a symbol table (SHT_SYMTAB)
+-- the header is that of a symbol table (SHT_SYMTAB)
 abbrev pub is_symbol_table : SectionHeader → Bool
 is_symbol_table s = s.kind == 2
 
@@ -14,7 +14,7 @@ is_symbol_table s = s.kind == 2
 abbrev pub first_symbol_table : List ℕ → Option ℕ
 first_symbol_table file = position is_symbol_table (section_headers file)
 
--- the section header of an index
+-- the section header at an index
 abbrev pub section_at : List ℕ → ℕ → SectionHeader
 section_at file index = section_header file ((file_header file).section_offset + 40 * index)
 
@@ -42,11 +42,11 @@ ends_in_nul bytes = nat_lt 0 (length bytes) && (slice_index bytes (length bytes 
 abbrev pub names_begin_in : SectionHeader → List SymbolEntry → Bool
 names_begin_in names entries = list_all (λ e. nat_lt e.name names.size) entries
 
--- the names lie in the file, end in NUL, and each symbol's name begins in them
+-- the names lie in the file and end in NUL, and each symbol's name begins in them
 abbrev pub has_sound_names : List ℕ → SectionHeader → SectionHeader → Bool
 has_sound_names file table names = lies_in file names && (ends_in_nul (content_of file names) && names_begin_in names (entries_of file table))
 
--- the symbol table can be read: whole entries that lie in the file, and a section of names that there is and that are sound
+-- the symbol table can be read: whole entries that lie in the file, and a section of names, which exists and is sound
 abbrev pub is_sound_table : List ℕ → SectionHeader → Bool
 is_sound_table file table =
     has_whole_entries table && (lies_in file table && (nat_lt table.link (number_of_sections (file_header file)) && has_sound_names file table (section_at file table.link)))

@@ -14,15 +14,15 @@ pub record LoadSegment : Type 0 where
   pub write : Bool
   pub exec : Bool
 
--- the header is of a segment that is loaded (PT_LOAD)
+-- the header is that of a segment that is loaded (PT_LOAD)
 abbrev pub is_load : ProgramHeader → Bool
 is_load h = h.kind == 1
 
--- the header is of the name of an interpreter (PT_INTERP)
+-- the header is that of an interpreter's name (PT_INTERP)
 abbrev pub is_interpreter : ProgramHeader → Bool
 is_interpreter h = h.kind == 3
 
--- the headers of segments that are loaded, of those of a table
+-- the headers in a table that belong to segments which are loaded
 abbrev pub loads_in : List ℕ → ℕ → ℕ → List ProgramHeader
 loads_in file at count = filter is_load (entries program_header 32 file at count)
 
@@ -37,7 +37,7 @@ segment_of file h = record {
   exec = not (bit_and h.flags 1 == 0);
 }
 
--- the segments of those headers that are of segments which are loaded, in their order
+-- the segments of those headers that belong to segments which are loaded, in their order
 abbrev pub segments_in : List ℕ → List ProgramHeader → List LoadSegment
 segments_in file headers = map (segment_of file) (filter is_load headers)
 
@@ -50,7 +50,7 @@ pub record IsSound (file : List ℕ) (h : ProgramHeader) : Type 0 where
   pub within : h.offset + h.filesz ≤ length file
   pub room : h.filesz ≤ h.memsz
 
--- that holds of each header of a segment that is loaded
+-- this holds of each header of a segment that is loaded
 abbrev pub AreSound : List ℕ → List ProgramHeader → Type 0
 AreSound file headers = All (IsSound file) (filter is_load headers)
 

@@ -29,7 +29,7 @@ symbol_of names e = record { name = text_at names e.name; value = e.value; size 
 abbrev pub symbols_in : List ℕ → SectionHeader → List NamedSymbol
 symbols_in file table = map (symbol_of (content_of file (section_at file table.link))) (entries_of file table)
 
--- the symbols of the section of an index, or none
+-- the symbols of the section at an index, and none without an index
 abbrev pub symbols_at : List ℕ → Option ℕ → List NamedSymbol
 symbols_at file None = []
 symbols_at file (Some index) = symbols_in file (section_at file index)
@@ -46,6 +46,6 @@ is_named symbol = not (length symbol.name == 0)
 abbrev pub shown_symbol : Symbol → NamedSymbol
 shown_symbol s = record { name = s.name.now; value = s.value; size = s.size }
 
--- what it shows of itself while its name is not looked for: the names begin with its own
+-- what it shows of itself before its name is looked for: the names begin with its own
 abbrev pub shown_lazy : LazySymbol → NamedSymbol
 shown_lazy s = record { name = first_text s.names.now; value = s.value; size = s.size }

@@ -80,7 +80,7 @@ impl<'a> Elf<'a> {
         Segments::new(self.file, self.header.programs(self.file))
     }
 
-    /// The symbols, in the order of the first symbol table, with names that are looked for where they are asked for.
+    /// The symbols, in the order of the first symbol table, with names that are looked for when they are asked for.
     #[tactic(auto, using(crate::proofs::Accepted::sections_fit, crate::proofs::Accepted::table_readable), unfolding(crate::specs::Symbols::symbols_of))]
     pub fn lazy_symbols(&self) -> LazySymbols<'a>
         ensures { lazy_left result ≡ symbols_of self.now }

@@ -1,11 +1,11 @@
-//! The entries of a table in a file, one behind the other.
+//! The entries of a table in a file, one after the other.
 
 ghost use Rattle.std.specs.Prelude.{◌≡◌, ℕ, ◌+◌, ◌*◌, ◌<◌, ◌≤◌, List, length};
 ghost use Rattle.elf_view.specs.Fields.{FitsIn};
 
 use std::marker::PhantomData;
 
-/// What a table has as its entries: a few fields of a number of bytes.
+/// What the entries of a table are: a few fields in a fixed number of bytes.
 pub trait Entry: Copy {
     ghost SIZE: { ℕ };
 
@@ -31,7 +31,7 @@ pub struct Entries<'a, E: Entry> {
 }
 
 impl<'a, E: Entry> Entries<'a, E> {
-    /// The table of so many entries that begins at the offset.
+    /// The table of `count` entries that begins at the offset.
     pub(crate) fn new(file: &'a [u8], at: usize, count: usize) -> Entries<'a, E>
         requires { FitsIn file.now at E.SIZE count }
         ensures { (result.file.now ≡ file.now) × (result.at ≡ at) × (result.left ≡ count) }

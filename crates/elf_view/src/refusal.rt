@@ -15,7 +15,7 @@ use crate::sections::{first_symbol_table, is_sound_table, section_at};
 #[derive(Clone, Copy, Debug, PartialEq, Eq)]
 pub enum ElfErr {
     /// The file ends before the file header does (then 0), or before the header at this offset does: the first such
-    /// program header, or where there is none the first such section header.
+    /// program header, or, where there is no such one, the first such section header.
     TooShort(u64),
     /// It does not begin with the bytes 7F 45 4C 46.
     NotElf,
@@ -25,11 +25,11 @@ pub enum ElfErr {
     NotRiscv(u16),
     /// It is of this type, which is not that of an executable.
     NotExecutable(u16),
-    /// Its flags tell of compressed instructions.
+    /// Its flags say that it has compressed instructions.
     NeedsCompressed,
-    /// Its flags tell of numbers in floating-point registers.
+    /// Its flags say that it passes numbers in floating-point registers.
     NeedsFloat,
-    /// Its flags tell of the embedded instruction set of 16 registers.
+    /// Its flags say that it is for the embedded instruction set of 16 registers.
     NeedsRve,
     /// Its program headers have this size in place of 32, or its section headers in place of 40.
     BadHeaderSize(u16),
@@ -39,7 +39,7 @@ pub enum ElfErr {
     FileLargerThanMemory(u32),
     /// A program header names an interpreter.
     NeedsInterpreter,
-    /// The first symbol table, the section of this index, is not sound: its entries do not have 16 bytes, it or the
+    /// The first symbol table, the section of this index, is not sound: its entries are not whole ones of 16 bytes, it or the
     /// section of its names does not lie in the file, there is no such section, the names do not end in NUL, or a
     /// symbol's name begins beyond them.
     BadSymbols(u32),
@@ -101,21 +101,21 @@ fn check_target(header: &FileHeader) -> Result<(), ElfErr>
 }
 
 impl ProgramHeader {
-    /// Whether the header is of the name of an interpreter.
+    /// Whether the header is that of an interpreter's name.
     fn is_interpreter(&self) -> bool
         ensures { result ≡ is_interpreter self.now }
     {
         self.kind == INTERPRETER
     }
 
-    /// Whether the bytes of the segment, which is loaded, end beyond the file.
+    /// Whether the segment is loaded, and its bytes end beyond the file.
     fn is_outside(&self, file: &[u8]) -> bool
         ensures { result ≡ is_outside file.now self.now }
     {
         self.is_load() && file.len() < self.offset as usize + self.filesz as usize
     }
 
-    /// Whether the segment, which is loaded, has more bytes in the file than in memory.
+    /// Whether the segment is loaded, and has more bytes in the file than in memory.
     fn is_larger(&self) -> bool
         ensures { result ≡ is_larger self.now }
     {
@@ -185,7 +185,7 @@ fn check_tables(file: &[u8], header: &FileHeader) -> Result<(), ElfErr>
     Ok(())
 }
 
-/// Whether a program header is of the name of an interpreter.
+/// Whether a program header is that of an interpreter's name.
 fn has_interpreter(file: &[u8], header: &FileHeader) -> bool
     requires header { header.now ≡ file_header file.now }
     requires fits { FitsIn file.now header.now.program_offset 32 header.now.program_count }

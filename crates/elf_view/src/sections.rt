@@ -71,7 +71,7 @@ fn names_begin_in(names: &SectionHeader, mut entries: Entries<SymbolEntry>) -> b
     entries.all(|entry| entry.name < names.size)
 }
 
-/// Whether the names lie in the file, end in NUL, and the name of each symbol begins in them.
+/// Whether the names lie in the file and end in NUL, and the name of each symbol begins in them.
 fn has_sound_names(file: &[u8], table: &SectionHeader, names: &SectionHeader) -> bool
     requires { IsTrue (lies_in file.now table.now) }
     ensures { result ≡ has_sound_names file.now table.now names.now }
@@ -81,7 +81,7 @@ fn has_sound_names(file: &[u8], table: &SectionHeader, names: &SectionHeader) ->
         && names_begin_in(names, table.entries(file))
 }
 
-/// The section header of an index.
+/// The section header at an index.
 pub(crate) fn section_at(file: &[u8], header: &FileHeader, index: u32) -> SectionHeader
     requires header { header.now ≡ file_header file.now }
     requires fits { FitsIn file.now header.now.section_offset 40 (number_of_sections header.now) }

@@ -11,9 +11,9 @@ use crate::headers::SymbolEntry;
 /// A symbol.
 #[derive(Drop)]
 pub struct Symbol<'a> {
-    /// The bytes of its name, without the NUL behind them.
+    /// The bytes of its name, without the NUL after them.
     pub name: &'a [u8],
-    /// Its value: of a label, the address.
+    /// Its value: for a label, its address.
     pub value: u32,
     /// How many bytes it names, or 0.
     pub size: u32,
@@ -47,12 +47,12 @@ fn names_from(names: &[u8], at: usize) -> &[u8]
     &names[at..]
 }
 
-/// A symbol, whose name is looked for where it is asked for: a name may be long, and be that of many symbols.
+/// A symbol whose name is looked for when it is asked for: a name may be long, and belong to many symbols.
 #[derive(Drop)]
 pub struct LazySymbol<'a> {
-    /// The names of the file, from the first byte of its own on.
+    /// The names of the file, from the first byte of its own name on.
     names: &'a [u8],
-    /// Its value: of a label, the address.
+    /// Its value: for a label, its address.
     pub value: u32,
     /// How many bytes it names, or 0.
     pub size: u32,

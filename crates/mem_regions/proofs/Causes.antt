@@ -13,7 +13,7 @@ use Rattle.mem_regions.proofs.Finding.{passes_none}
 use Rattle.mem_regions.proofs.Parts.{first_passes, next_passes, no_index}
 use Rattle.mem_regions.specs.Causes.{IsAddressOf, Share, Wraps, IsFirstToWrap, ShareAt, ApartAt, IsFirstOverlap, IsCause, IsAccepted}
 
--- parts overlap where they share an address: the greater base is one
+-- parts that overlap share an address: the greater base is one
 pub overlaps-share : (p q : Part) → overlaps p q ≡ true → Share p q
 overlaps-share p q e = (max p.base q.base, (grind (arith, nat_tests), grind (arith, nat_tests)), (grind (arith, nat_tests), grind (arith, nat_tests)))
 
@@ -25,15 +25,15 @@ apart-share p q e = λ s. let a = s.0 in let inp : IsAddressOf p s.0 = s.1 in le
 pub wraps-Wraps : (p : Part) → wraps p ≡ true → Wraps p
 wraps-Wraps p e = grind (arith, nat_tests)
 
--- one that is tested not to does not
+-- a part that is tested not to does not
 pub wraps-in : (p : Part) → wraps p ≡ false → ¬ Wraps p
 wraps-in p e = λ h. grind (arith, nat_tests)
 
--- an index from another on is that one or lies behind it
+-- an index at or after another is that one or comes after it
 here_or_behind : (m n : ℕ) → m ≤ n → (n ≡ m) ⊎ (m + 1 ≤ n)
 here_or_behind m n le = grind arith
 
--- a part to name where no part is read
+-- a part to use as a default
 abbrev no_part : Part
 no_part = record { base = 0; start = 0; len = 0; size = 0; write = false; exec = false }
 
@@ -45,7 +45,7 @@ first_to_wrap parts i e = record {
   first = λ k below d. wraps-in (get_or parts k d) ((position-Some wraps parts i d e).2 k below);
 }
 
--- the first overlap of the whole list whose second part stands at or behind an index
+-- the first overlap of the whole list whose second part stands at or after an index
 record IsOverlapFrom (whole : List Part) (from i j : ℕ) : Type 0 where
   before : i < j
   within : j < length whole
@@ -63,7 +63,7 @@ share_here before p ps k e d d' =
     let at = position-Some (λ b. overlaps b p) before k d' e in
     rw (get_or-append_seam before p ps d, get_or-append before (p ∷ ps) d' k at.0) (overlaps-share (get_or before k d') p at.1)
 
--- and with none before that one
+-- and shares none with those before that one
 apart_first : (before : List Part) (p : Part) (ps : List Part) (i k : ℕ) → position (λ b. overlaps b p) before ≡ Some i → k < i → ApartAt (before ++ p ∷ ps) k (length before)
 apart_first before p ps i k e below d d' =
     let at = position-Some (λ b. overlaps b p) before i d' e in let within : i < length before = at.0 in
@@ -84,12 +84,12 @@ found_here before p ps k e = record {
   least_first = λ n below. apart_first before p ps k n e below;
 }
 
--- parts apart, by whether the second is the part itself or lies behind it
+-- parts apart, by whether the second is the part itself or comes after it
 behind_second : (before : List Part) (p : Part) (ps : List Part) (i j : ℕ) → position (λ b. overlaps b p) before ≡ None → IsOverlapFrom (before ++ p ∷ ps) (length before + 1) i j → (k n : ℕ) → k < n → length before ≤ n → n < j → (n ≡ length before) ⊎ (length before + 1 ≤ n) → ApartAt (before ++ p ∷ ps) k n
 behind_second before p ps i j e r k n below from to (inl here) = rw here (apart_here before p ps k e (omega arith))
 behind_second before p ps i j e r k n below from to (inr behind) = r.least_second k n below behind to
 
--- where a part overlaps none before it, the first overlap behind it is the first from it on
+-- where a part overlaps none before it, the first overlap after it is the first from it on
 found_behind : (before : List Part) (p : Part) (ps : List Part) (i j : ℕ) → position (λ b. overlaps b p) before ≡ None → IsOverlapFrom (before ++ p ∷ ps) (length before + 1) i j → IsOverlapFrom (before ++ p ∷ ps) (length before) i j
 found_behind before p ps i j e r = record {
   before = r.before;
@@ -99,11 +99,11 @@ found_behind before p ps i j e r = record {
   least_first = r.least_first;
 }
 
--- a part that is taken over to those before it leaves the list as it is
+-- moving a part over to those before it leaves the list as it is
 more_before : (before : List Part) (p : Part) (ps : List Part) → (before ++ p ∷ []) ++ ps ≡ before ++ p ∷ ps
 more_before before p ps = append_assoc before (p ∷ []) ps
 
--- and makes those before it one more
+-- and makes them one more
 one_more : (before : List Part) (p : Part) → length (before ++ p ∷ []) ≡ length before + 1
 one_more before p = length-append before (p ∷ [])
 
@@ -115,7 +115,7 @@ found_step before p ps i j (Some k) behind e h later =
     subst (λ (n : ℕ). IsOverlapFrom (before ++ p ∷ ps) (length before) i n) second
     (subst (λ (n : ℕ). IsOverlapFrom (before ++ p ∷ ps) (length before) n (length before)) first (found_here before p ps k e))
 
--- the overlap that the test tells is the first from the index on where it begins
+-- the overlap that the test finds is the first from the index on where it begins
 found_from : (whole before ps : List Part) (i j : ℕ) → before ++ ps ≡ whole → overlap_from before ps ≡ Some (Overlap i j) → IsOverlapFrom whole (length before) i j
 found_from whole before [] i j e h = cc
 found_from whole before (p ∷ ps) i j e h =
@@ -123,7 +123,7 @@ found_from whole before (p ∷ ps) i j e h =
     (found_step before p ps i j (position (λ b. overlaps b p) before) (overlap_from (before ++ p ∷ []) ps) refl h
     (λ g. subst (λ (n : ℕ). IsOverlapFrom (before ++ p ∷ ps) n i j) (one_more before p) (found_from (before ++ p ∷ ps) (before ++ p ∷ []) ps i j (more_before before p ps) g)))
 
--- the overlap that the test tells is the first
+-- the overlap that the test finds is the first
 pub first_overlap-is_first : (parts : List Part) (i j : ℕ) → first_overlap parts ≡ Some (Overlap i j) → IsFirstOverlap parts i j
 unfolding first_overlap
 first_overlap-is_first parts i j e = let r = found_from parts [] parts i j refl e in record { before = r.before; within = r.within; share = r.share; least_second = λ k n below to. r.least_second k n below (omega arith) to; least_first = r.least_first }
@@ -132,17 +132,17 @@ first_overlap-is_first parts i j e = let r = found_from parts [] parts i j refl 
 abbrev ApartFrom : List Part → ℕ → Type 0
 ApartFrom whole from = (k n : ℕ) → k < n → from ≤ n → n < length whole → ApartAt whole k n
 
--- the same by whether the second is the part itself or lies behind it
+-- the same by whether the second is the part itself or comes after it
 behind_apart : (before : List Part) (p : Part) (ps : List Part) → position (λ b. overlaps b p) before ≡ None → ApartFrom (before ++ p ∷ ps) (length before + 1) → (k n : ℕ) → k < n → n < length (before ++ p ∷ ps) → (n ≡ length before) ⊎ (length before + 1 ≤ n) → ApartAt (before ++ p ∷ ps) k n
 behind_apart before p ps e later k n below to (inl here) = rw here (apart_here before p ps k e (omega arith))
 behind_apart before p ps e later k n below to (inr behind) = later k n below behind to
 
--- a part and those behind it are apart from all before them where the test tells no overlap
+-- a part and those after it are apart from all before them where the test finds no overlap
 apart_step : (before : List Part) (p : Part) (ps : List Part) (o : Option ℕ) (behind : Option LoadErr) → position (λ b. overlaps b p) before ≡ o → overlap_or o (length before) behind ≡ None → (behind ≡ None → ApartFrom (before ++ p ∷ ps) (length before + 1)) → ApartFrom (before ++ p ∷ ps) (length before)
 apart_step before p ps None behind e h later = λ k n below from to. behind_apart before p ps e (later h) k n below to (here_or_behind (length before) n from)
 apart_step before p ps (Some k) behind e h later = cc
 
--- the same of all parts from the index on where the test begins
+-- the same for all parts from the index on where the test begins
 apart_from : (whole before ps : List Part) → before ++ ps ≡ whole → overlap_from before ps ≡ None → ApartFrom whole (length before)
 apart_from whole before [] e h = λ k n below from to. let same : length before ≡ length whole = rw (← e, length-append, add-zero) refl in absurd (omega arith)
 apart_from whole before (p ∷ ps) e h =
@@ -150,7 +150,7 @@ apart_from whole before (p ∷ ps) e h =
     (apart_step before p ps (position (λ b. overlaps b p) before) (overlap_from (before ++ p ∷ []) ps) refl h
     (λ g. subst (λ (n : ℕ). ApartFrom (before ++ p ∷ ps) n) (one_more before p) (apart_from (before ++ p ∷ ps) (before ++ p ∷ []) ps (more_before before p ps) g)))
 
--- where the test tells no overlap no two parts share an address
+-- where the test finds no overlap, no two parts share an address
 pub first_overlap-none : (parts : List Part) → first_overlap parts ≡ None → (k n : ℕ) → k < n → n < length parts → ApartAt parts k n
 unfolding first_overlap
 first_overlap-none parts e = λ k n below to. apart_from parts [] parts refl e k n below (omega arith) to
@@ -160,7 +160,7 @@ Says : List Part → Option LoadErr → Type 0
 Says parts None = Unit
 Says parts (Some e) = IsCause parts e
 
--- of two tests that say the truth the first that fails does
+-- where two tests say the truth, so does the first of them that fails
 says-or_else : (parts : List Part) (a b : Option LoadErr) → Says parts a → Says parts b → Says parts (or_else a b)
 unfolding Says
 says-or_else parts None b s t = t
@@ -184,7 +184,7 @@ unfolding Says
 says-too_large parts true e = (grind (arith, nat_tests), refl)
 says-too_large parts false e = tt
 
--- the test for overlaps tells no other refusal
+-- the test for overlaps gives no other refusal
 TellsOverlap : Option LoadErr → Type 0
 TellsOverlap (Some (TooMany n)) = ⊥
 TellsOverlap (Some (WrapsAround i)) = ⊥
@@ -193,7 +193,7 @@ TellsOverlap (Some NoMemory) = ⊥
 TellsOverlap (Some (Overlap i j)) = Unit
 TellsOverlap None = Unit
 
--- an overlap, or what the parts behind tell
+-- an overlap, or what the later parts give
 tells-overlap_or : (o : Option ℕ) (j : ℕ) (behind : Option LoadErr) → TellsOverlap behind → TellsOverlap (overlap_or o j behind)
 unfolding TellsOverlap
 tells-overlap_or None j behind t = t
@@ -205,7 +205,7 @@ unfolding TellsOverlap
 tells-overlap_from before [] = tt
 tells-overlap_from before (p ∷ ps) = tells-overlap_or (position (λ b. overlaps b p) before) (length before) (overlap_from (before ++ p ∷ []) ps) (tells-overlap_from (before ++ p ∷ []) ps)
 
--- what the test for overlaps tells is true
+-- what the test for overlaps gives is true
 says-overlap_told : (parts : List Part) (o : Option LoadErr) → TellsOverlap o → first_overlap parts ≡ o → Says parts o
 unfolding Says TellsOverlap
 says-overlap_told parts None t e = tt
@@ -225,7 +225,7 @@ says-refusal : (parts : List Part) → Says parts (refusal parts)
 unfolding refusal too_many first_wrapping too_large
 says-refusal parts = says-or_else parts _ _ (says-too_many parts _ refl) (says-or_else parts _ _ (says-wraps parts _ refl) (says-or_else parts _ _ (says-too_large parts _ refl) (says-overlap parts)))
 
--- the refusal of an answer is the one that was told
+-- the refusal in an answer is the one that was found
 says_where : (parts : List Part) (o : Option LoadErr) (e : LoadErr) → Says parts o → Err e ≡ unless o → IsCause parts e
 unfolding Says
 says_where parts None e s h = cc

@@ -18,14 +18,14 @@ find-passes p (y ∷ ys) x e = passes_step p y x (find p ys) (p y) refl e (find-
 
 pub ruleset finding = (find-passes)
 
--- a test of images passes where the test behind the function does
+-- some image passes a test where for some element the test of its image passes
 pub list_any-map : {A B : Type 0} (p : B → Bool) (f : A → B) (xs : List A) → list_any p (map f xs) ≡ list_any (λ x. p (f x)) xs
 list_any-map p f [] = refl
 list_any-map p f (x ∷ xs) = rw (list_any-map p f xs) refl
 
 pub ruleset passing = (list_any-map)
 
--- an index in a list is one more with an element before
+-- an index in a list is one more with an element before the list
 shifted : (t u : Bool) (n : ℕ) → t ≡ u → cond t (Some (1 + n)) None ≡ option_map (λ x. suc x) (cond u (Some n) None)
 shifted t true n e = rw e (ap Some (omega arith))
 shifted t false n e = rw e refl
@@ -35,11 +35,11 @@ index_step : (b : Bool) (n m : ℕ) → cond (nat_lt (cond (not b) (1 + n) 0) (s
 index_step true n m = grind (arith, nat_tests)
 index_step false n m = shifted _ _ n (grind (arith, nat_tests))
 
--- the index of the first that passes is 0, or one more than that behind
+-- the index of the first that passes is 0, or one more than that in the rest
 pub position-cons : {A : Type 0} (p : A → Bool) (x : A) (xs : List A) → position p (x ∷ xs) ≡ cond (p x) (Some 0) (option_map (λ i. suc i) (position p xs))
 position-cons p x xs = index_step (p x) (position_or_len p xs) (length xs)
 
--- without an index the count of those that fail is that of all
+-- where there is no index, as many elements fail as there are
 none_before : (n m : ℕ) → cond (nat_lt n m) (Some n) None ≡ None → m ≤ n
 none_before n m e = grind (arith, nat_tests)
 

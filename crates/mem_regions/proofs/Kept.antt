@@ -20,7 +20,7 @@ length-overwritten bytes at w = simp (length-take, length-append, length-drop) (
 pub area_bounds-area_with : (addr : ℕ) (w : List ℕ) (a : Area) → area_bounds (area_with addr w a) ≡ area_bounds a
 area_bounds-area_with addr w a = rw (length-overwritten a.bytes (addr - a.base) w) refl
 
--- a view of a list of which the first element was changed, or a later one
+-- a view of a list in which the first element was changed, or a later one
 changed_step : {A B : Type 0} (view : A → B) (change : A → A) (x : A) (xs changed : List A) (b : Bool) → ((y : A) → view (change y) ≡ view y) → map view changed ≡ map view xs → map view (cond b (change x ∷ xs) (x ∷ changed)) ≡ view x ∷ map view xs
 changed_step view change x xs changed true kept e = ap (λ y. y ∷ map view xs) (kept x)
 changed_step view change x xs changed false kept e = ap (λ ys. view x ∷ ys) e
@@ -35,7 +35,7 @@ pub bounds-memory_with : (m : Memory) (addr len : ℕ) (w : List ℕ) → bounds
 unfolding bounds_of memory_with
 bounds-memory_with m addr len w = map-first_changed area_bounds (writes_in addr len) (area_with addr w) (area_bounds-area_with addr w) m.areas
 
--- what a write keeps stays also where the address is misaligned and nothing is written
+-- what a write keeps is kept also where the address is misaligned and nothing is written
 aligned_keeps : {B : Type 0} (view : Memory → B) (m n : Memory) (b : Bool) → view n ≡ view m → view (cond b n m) ≡ view m
 aligned_keeps view m n true e = e
 aligned_keeps view m n false e = refl
@@ -45,7 +45,7 @@ pub bounds-stored : (m : Memory) (addr width n : ℕ) → bounds_of (stored m ad
 unfolding stored
 bounds-stored m addr width n = aligned_keeps bounds_of m (memory_with m addr width (le_bytes width n)) (is_aligned addr width) (bounds-memory_with m addr width (le_bytes width n))
 
--- a view of a list of which each element was changed
+-- a view of a list in which each element was changed
 map_again : {A B : Type 0} (view : A → B) (change : A → A) → ((y : A) → view (change y) ≡ view y) → (xs : List A) → map view (map change xs) ≡ map view xs
 map_again view change kept [] = refl
 map_again view change kept (x ∷ xs) = rw (kept x, map_again view change kept xs) refl

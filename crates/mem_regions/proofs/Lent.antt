@@ -22,17 +22,17 @@ use Rattle.mem_regions.proofs.Writes.{place_permits, writable_of-none}
 use Rattle.mem_regions.specs.contracts.regions.Regions.{the_row as R}
 use Rattle.mem_regions.proofs.regions.Regions.TheLaws.{the_row_laws}
 
--- a test that is turned round is false
+-- a test whose negation holds is false
 pub off : (t : Bool) → T (not t) → t ≡ false
 off true h = absurd h
 off false h = refl
 
--- a test that is not turned round is true
+-- a test whose double negation holds is true
 can_of : (t c : Bool) → t ≡ c → T (not (not t)) → c ≡ true
 can_of true c e h = sym e
 can_of false c e h = absurd h
 
--- the test tells that the range can be written
+-- the test says that the range can be written
 pub can : (m : Memory) (at len : ℕ) (t : Bool) → t ≡ can_write m at len → T (not (not t)) → IsTrue (can_write m at len)
 can m at len t e h = can_of t (can_write m at len) e h
 

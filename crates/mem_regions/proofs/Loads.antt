@@ -26,7 +26,7 @@ aligned_step : (b : Bool) (found : Result ℕ MemErr) (allowed : Bool) → permi
 aligned_step true found allowed e = e
 aligned_step false found allowed e = refl
 
--- a load gives a number where it is permitted, and is refused as it is forbidden
+-- a load gives a number where it is permitted, and is otherwise refused for the same reason
 pub load_at-permits : (m : Memory) (addr width : ℕ) → permission_told (load_at m addr width) ≡ permits_at (bounds_of m) addr width false
 unfolding load_at range_of permits_at
 load_at-permits m addr width = aligned_step (is_aligned addr width) (number_of (option_map (bytes_in addr width) (find (lies_in addr width) m.areas))) (is_permitted (bounds_of m) addr width false) (found-permitted addr width m.areas ∙ ap (λ (b : Bool). let r : Result (Unit {0}) MemErr = cond b (Ok tt) (Err NoAccess) in r) (sym (permitted-areas m addr width false)))

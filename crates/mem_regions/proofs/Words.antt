@@ -3,7 +3,7 @@ use Rattle.std.proofs.Common.{◌≡◌, ℕ, ◌+◌, ◌*◌, List, [], ◌∷
 use Rattle.std.specs.Int.{w32, from_le_bytes}
 use Rattle.mem_regions.specs.Bytes.{le_number}
 
--- the bytes by their worth add up to their number
+-- the bytes, each times its worth, add up to their number
 worths : (a b c d : ℕ) → a + b * 256 + c * 65536 + d * 16777216 ≡ a + 256 * (b + 256 * (c + 256 * (d + 256 * 0)))
 worths a b c d = omega arith
 

@@ -25,7 +25,7 @@ overwritten-between xs ys zs w e =
 back_between : (xs ys zs w bytes : List ℕ) (at : ℕ) → (xs ++ ys) ++ zs ≡ bytes → length xs ≡ at → length w ≡ length ys → overwritten (overwritten bytes at w) at ys ≡ bytes
 back_between xs ys zs w bytes at e f g = rw (← e, ← f, overwritten-between xs ys zs w g) (overwritten-between xs w zs ys (sym g))
 
--- bytes that were written over stand again once they are written back
+-- bytes that were written over are there again once they are written back
 pub overwritten-back : (bytes : List ℕ) (at len : ℕ) (w : List ℕ) → at + len ≤ length bytes → length w ≡ len → overwritten (overwritten bytes at w) at (take len (drop at bytes)) ≡ bytes
 overwritten-back bytes at len w within e =
     let whole : (take at bytes ++ take len (drop at bytes)) ++ drop len (drop at bytes) ≡ bytes = rw (append_assoc, take-append-drop, take-append-drop) refl in
@@ -44,7 +44,7 @@ area_with-back addr len w a e f =
 writes_in-area_with : (addr len : ℕ) (w : List ℕ) (a : Area) → writes_in addr len (area_with addr w a) ≡ writes_in addr len a
 writes_in-area_with addr len w a = rw (length-overwritten a.bytes (addr - a.base) w) refl
 
--- the same of a list of regions, by whether the first may be written
+-- the same for a list of regions, by whether the first may be written
 back_step : (addr len : ℕ) (w old : List ℕ) (x : Area) (xs changed : List Area) (b : Bool) → writes_in addr len x ≡ b → writes_in addr len (area_with addr w x) ≡ b → length w ≡ len → option_map (bytes_in addr len) (cond b (Some x) (find (writes_in addr len) xs)) ≡ Some old
     → (option_map (bytes_in addr len) (find (writes_in addr len) xs) ≡ Some old → first_changed (writes_in addr len) (area_with addr old) changed ≡ xs)
     → first_changed (writes_in addr len) (area_with addr old) (cond b (area_with addr w x ∷ xs) (x ∷ changed)) ≡ x ∷ xs
@@ -60,7 +60,7 @@ pub memory_with-back : (m : Memory) (addr len : ℕ) (w old : List ℕ) → leng
 unfolding memory_with writable_of
 memory_with-back m addr len w old g h = ap (λ (areas : List Area). let n : Memory = record m { areas = areas } in n) (first_changed-back addr len w old m.areas g h)
 
--- a number has as many bytes as are asked
+-- a number has as many bytes as are asked for
 pub length-le_bytes : (count n : ℕ) → length (le_bytes count n) ≡ count
 length-le_bytes zero n = refl
 length-le_bytes (suc count) n = ap suc (length-le_bytes count (n / 256))

@@ -37,7 +37,7 @@ place_holds m addr len i e = writes-lies addr len (area_at m i) (place_of (write
 pub place_permits : (m : Memory) (addr len i : ℕ) → Some i ≡ position (writes_in addr len) m.areas → is_permitted (bounds_of m) addr len true ≡ true
 place_permits m addr len i e = permitted-areas m addr len true ∙ (place_of (writes_in addr len) m.areas i no_area e).any
 
--- a write that has none is not
+-- a write that has no place is not
 pub no_place_permits : (m : Memory) (addr len : ℕ) → None ≡ position (writes_in addr len) m.areas → is_permitted (bounds_of m) addr len true ≡ false
 no_place_permits m addr len e = permitted-areas m addr len true ∙ (none_of (writes_in addr len) m.areas e).any
 

@@ -25,7 +25,7 @@ bounds_of m = map area_bounds m.areas
 abbrev pub holds : ℕ → ℕ → Bounds → Bool
 holds addr len b = nat_le b.base addr && nat_le (addr + len) (b.base + b.size)
 
--- the range lies in the region, which may be written where that is asked
+-- the range lies in the region, and the region may be written where that is asked
 abbrev pub permits_in : ℕ → ℕ → Bool → Bounds → Bool
 permits_in addr len write b = holds addr len b && (not write || b.write)
 
@@ -45,7 +45,7 @@ is_permitted bs addr len write = list_any (permits_in addr len write) bs
 unfoldable pub permits_at : List Bounds → ℕ → ℕ → Bool → Result (Unit {0}) MemErr
 permits_at bs addr width write = if is_aligned addr width then (if is_permitted bs addr width write then Ok tt else Err NoAccess) else Err Misaligned
 
--- whether an answer permits, and else why not, whatever it gives
+-- whether an answer permits, and otherwise why not, whatever it gives
 abbrev pub permission_told : {A : Type 0} → Result A MemErr → Result (Unit {0}) MemErr
 permission_told (Ok x) = Ok tt
 permission_told (Err e) = Err e

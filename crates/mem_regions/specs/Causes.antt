@@ -6,11 +6,11 @@ use Rattle.mem_regions.specs.declared.refusal.LoadErr.{LoadErr}
 use Rattle.mem_regions.specs.declared.refusal.LoadErr.TheVariants.{Overlap, TooMany, TooLarge, WrapsAround, NoMemory}
 use Rattle.mem_regions.specs.Refusal.{end_of, total_size}
 
--- the address is one of the part's
+-- the address belongs to the part
 abbrev pub IsAddressOf : Part → ℕ → Type 0
 IsAddressOf p addr = (p.base ≤ addr) × (addr < end_of p)
 
--- some address is one of both parts'
+-- some address belongs to both parts
 abbrev pub Share : Part → Part → Type 0
 Share p q = (addr : ℕ) × IsAddressOf p addr × IsAddressOf q addr
 

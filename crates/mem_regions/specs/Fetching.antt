@@ -7,7 +7,7 @@ use Rattle.mem_regions.specs.Bytes.{le_number}
 use Rattle.mem_regions.specs.declared.access.MemErr.{MemErr}
 use Rattle.mem_regions.specs.declared.access.MemErr.TheVariants.{Misaligned, NoAccess}
 
--- the word lies in the region, which is executable
+-- the word lies in the region, and the region is executable
 abbrev pub fetches_in : ℕ → Area → Bool
 fetches_in pc a = holds pc 4 (area_bounds a) && a.exec
 

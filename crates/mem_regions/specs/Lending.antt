@@ -16,7 +16,7 @@ lent_bytes (Some bytes) = Some bytes.now
 abbrev pub LendsRange : MutBor Area → ℕ → MutBor (List ℕ) → Fml
 LendsRange a addr r = Lends region_row (Array u8 0) a r (λ w. area_with addr w a.now)
 
--- what stands in place of a region that there is not
+-- what is used in place of a region that does not exist
 abbrev pub no_area : Area
 no_area = record { base = 0; write = false; exec = false; bytes = []; code = [] }
 
@@ -36,6 +36,6 @@ LendsAt m place addr r = Lends regions_row (Array u8 0) m r (λ w. memory_at m.n
 abbrev pub LendsWritable : MutBor Memory → ℕ → ℕ → MutBor (List ℕ) → Fml
 LendsWritable m addr len r = Lends regions_row (Array u8 0) m r (λ w. memory_with m.now addr len w)
 
--- memory comes back with the bytes in the range where it was lent, and else as it was
+-- memory comes back with the bytes in the range where it was lent, and otherwise as it was
 abbrev pub LendsPart : MutBor Memory → ℕ → ℕ → Option (MutBor (List ℕ)) → Fml
 LendsPart m addr len r = LendsIf regions_row (Array u8 0) m r (λ w. memory_with m.now addr len w) m.now

@@ -16,7 +16,7 @@ lies_in addr len a = holds addr len (area_bounds a)
 abbrev pub permits_area : ℕ → ℕ → Bool → Area → Bool
 permits_area addr len write a = permits_in addr len write (area_bounds a)
 
--- the range lies in the region, which may be written
+-- the range lies in the region, and the region may be written
 abbrev pub writes_in : ℕ → ℕ → Area → Bool
 writes_in addr len = permits_area addr len true
 

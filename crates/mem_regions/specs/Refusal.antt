@@ -1,10 +1,10 @@
--- Why the parts of a program cannot be loaded: the first failing test is told.
+-- Why the parts of a program cannot be loaded: the first test that fails gives the refusal.
 use Rattle.std.specs.Prelude.{ℕ, ◌+◌, ◌-◌, ◌^◌, List, [], ◌∷◌, ◌++◌, length, position, sum_by, Bool, min, max, nat_lt, if◌then◌else◌, Option, Some, None, Result, Ok, Err}
 use Rattle.mem_regions.specs.declared.part.Part.{Part}
 use Rattle.mem_regions.specs.declared.refusal.LoadErr.{LoadErr}
 use Rattle.mem_regions.specs.declared.refusal.LoadErr.TheVariants.{Overlap, TooMany, TooLarge, WrapsAround, NoMemory}
 
--- the first address behind a part
+-- the first address after a part
 abbrev pub end_of : Part → ℕ
 end_of p = p.base + p.size
 
@@ -37,12 +37,12 @@ total_size parts = sum_by (λ p. p.size) parts
 unfoldable pub too_large : List Part → Option LoadErr
 too_large parts = if nat_lt 67108864 (total_size parts) then Some (TooLarge (total_size parts)) else None
 
--- the first overlap of a part with those before it, or else of the parts behind
+-- the first overlap of a part with those before it, or else that of the later parts
 abbrev pub overlap_or : Option ℕ → ℕ → Option LoadErr → Option LoadErr
 overlap_or None j behind = behind
 overlap_or (Some i) j behind = Some (Overlap i j)
 
--- the first overlap at or behind the parts `before`
+-- the first overlap whose second part comes after the parts `before`
 abbrev pub overlap_from : List Part → List Part → Option LoadErr
 overlap_from before [] = None
 overlap_from before (p ∷ ps) = overlap_or (position (λ b. overlaps b p) before) (length before) (overlap_from (before ++ p ∷ []) ps)
@@ -65,7 +65,7 @@ abbrev pub unless : Option LoadErr → Result (Unit {0}) LoadErr
 unless None = Ok tt
 unless (Some e) = Err e
 
--- the refusal of the parts that an answer tells: none for want of memory
+-- the refusal of the parts that an answer gives: none where it is lack of memory
 abbrev pub refusal_told : LoadErr → Option LoadErr
 refusal_told NoMemory = None
 refusal_told e = Some e

@@ -6,7 +6,7 @@ use Rattle.mem_regions.specs.Access.{is_aligned}
 use Rattle.mem_regions.specs.Ranges.{writes_in}
 use Rattle.mem_regions.specs.Bytes.{le_bytes}
 
--- the bytes with others written over them from an index on, of which none goes beyond the end
+-- the bytes with others written over them from an index on, none of these beyond the end
 abbrev pub overwritten : List ℕ → ℕ → List ℕ → List ℕ
 overwritten bytes at w = take (length bytes) (take at bytes ++ w ++ drop (at + length w) bytes)
 

@@ -140,7 +140,7 @@ impl Regions {
         }
     }
 
-    /// The answer that a load of 1, 2 or 4 bytes at the address would give, or where `write` is set a store.
+    /// The answer that a load of 1, 2 or 4 bytes at the address would give, or, where `write` is set, a store.
     #[inline(always)]
     #[tactic(auto, using(crate::proofs::Writes::permitting), unfolding(crate::specs::Access::permits_at))]
     pub fn permits(&self, addr: u32, width: u32, write: bool) -> Result<(), MemErr>

@@ -61,7 +61,7 @@ fn make_regions(alloc: Global, file: &[u8], parts: &[Part]) -> Result<Vec<Region
 
 impl Regions {
     /// The memory of a program whose parts are those of the file: a region for each part that takes room, with the
-    /// part's bytes and behind them zeros, and as its code a copy of this where it is executable. The break stands at
+    /// part's bytes and then zeros, and, where it is executable, a copy of these as its code. The break stands at
     /// the beginning of the heap.
     ///
     /// `TooMany`, `WrapsAround`, `TooLarge` and `Overlap` are looked for in this order, and then `NoMemory` comes where

@@ -10,7 +10,7 @@ pub struct Part {
     pub start: u32,
     /// How many bytes of the file it has.
     pub len: u32,
-    /// How many bytes it takes in memory: behind the file's bytes stand zeros.
+    /// How many bytes it takes in memory: zeros follow the file's bytes.
     pub size: u32,
     /// Whether the program may write to it.
     pub write: bool,

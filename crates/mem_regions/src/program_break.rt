@@ -4,11 +4,11 @@ ghost use Rattle.std.specs.Prelude.{◌≡◌, ◌≤◌};
 
 use crate::Regions;
 
-/// Where the heap begins, and the break of a program that was just loaded.
+/// Where the heap begins, and the break of a program that has just been loaded.
 pub(crate) const HEAP_START: u32 = 0x7f00_0000;
 
 impl Regions {
-    /// The program break: the first address behind the heap.
+    /// The program break: the first address after the heap.
     pub fn brk(&self) -> u32
         ensures { result ≡ self.now.program_break }
     {

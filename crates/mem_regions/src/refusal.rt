@@ -8,8 +8,8 @@ use crate::Part;
 /// Why parts cannot be loaded. A part is named by its index in the list.
 #[derive(Clone, Copy, Debug, PartialEq, Eq)]
 pub enum LoadErr {
-    /// Two parts share an address: of all such pairs the one whose second part comes first, and for that part the
-    /// first part before it.
+    /// Two parts share an address: of all such pairs the one whose second part comes first, and for that second part the
+    /// first part that shares an address with it.
     Overlap(u32, u32),
     /// There are more than 16 parts: their number, or the greatest number of 32 bits where there are more than that.
     TooMany(u32),
@@ -28,7 +28,7 @@ const MOST_BYTES: u64 = 67_108_864;
 const ADDRESSES: u64 = 4_294_967_296;
 
 impl Part {
-    /// The first address behind the part, which may be 2^32 and more.
+    /// The first address after the part, which may be 2^32 or more.
     fn end(&self) -> u64
         ensures { result ≡ end_of self.now }
     {

@@ -68,7 +68,7 @@ impl Region {
         self.holds_some(addr, len) && (!write || self.write)
     }
 
-    /// Whether the word lies in the region, which is executable.
+    /// Whether the word lies in the region, and the region is executable.
     #[inline(always)]
     pub(crate) fn fetches(&self, pc: u32) -> bool
         ensures { result ≡ fetches_in pc self.now }

@@ -9,7 +9,7 @@ ghost use Rattle.mem_regions.specs.Writing.{memory_with};
 
 use crate::Regions;
 
-/// The number of 1, 2 or 4 bytes, of which these are the low ones.
+/// A number whose low 1, 2 or 4 bytes these are.
 #[inline(always)]
 fn number_in(bytes: &[u8]) -> u32
     requires { IsWidth (length bytes.now) }

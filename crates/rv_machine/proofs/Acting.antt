@@ -1,4 +1,4 @@
--- What a hart does alone, it does beside streams that stay as they are; and what an environment call comes to, its instruction comes to.
+-- What a hart does alone, it does beside streams that stay as they are; and as an environment call ends, so does its instruction.
 use Rattle.std.proofs.Common.{◌≡◌, ◌∙◌, ◌≢◌, ℕ, ◌%◌, List, [], Some, None, Ok, Err, true, false, ◌==◌, refl, ap, sym, subst, IsTrue, arith}
 use Rattle.std.proofs.lemmas.Bool.Decides.{nat_tests}
 use Rattle.mem_regions.specs.Memory.{Memory}
@@ -78,7 +78,7 @@ acts-trapping : (calls : Type 0) (outcome : List ℕ → Outcome Machine) (h : H
 acts-trapping calls outcome h s cause pc detail result is trap =
     acts-alone calls outcome (Trap cause pc detail) h h s result is (refl, trap)
 
--- an outcome that is another's
+-- an outcome that is the same as another
 acts-as : (calls more : Type 0) (outcome other : List ℕ → Outcome Machine) (old new : Hart)
     (before after : Streams) (result : Stepped) → (calls → more) →
     ((rest : List ℕ) → outcome rest ≡ other rest) →
@@ -113,7 +113,7 @@ acts-as calls more outcome other old new before after stepped.ReadFault f is act
 acts-as calls more outcome other old new before after stepped.WriteFault f is acts =
     (f acts.0, acts.1, acts.2)
 
--- what the classes share whose instructions compute
+-- what the classes whose instructions compute have in common
 executed : (c : Class) (h : Hart) (word : ℕ) (i : Instr) → IsTrue (computes c) →
     (rest : List ℕ) → execute c h rest word i ≡ beside rest [] (compute h word i)
 unfolding execute
@@ -236,7 +236,7 @@ pub acts-failed-writing : (word : ℕ) (h : Hart) (mem : Memory) (before after :
 unfolding Acts Serves
 acts-failed-writing word h mem before after fails = (tt, fails.0, same-memory h mem fails.1)
 
--- the word is no instruction
+-- the word is not an instruction
 pub acts-unknown : (isa : Isa) (word : ℕ) (h : Hart) (s : Streams) (result : Stepped) →
     decoded_as isa word ≡ None → result ≡ stepped.Trap 2 h.pc word →
     Acts (decoded_as isa word ≡ Some instr.Ecall)
@@ -253,7 +253,7 @@ pub acts-known : (isa : Isa) (word : ℕ) (i : Instr) (h new : Hart) (before aft
 acts-known isa word i h new before after result d acts =
     acts-as _ _ _ _ h new before after result (λ e. d ∙ ap Some e) (λ rest. rw d refl) acts
 
--- the program counter is no multiple of 4
+-- the program counter is not a multiple of 4
 pub steps-misaligned : (isa : Isa) (h : Hart) (s : Streams) (result : Stepped) → h.pc % 4 ≢ 0 →
     result ≡ stepped.Trap 0 h.pc h.pc → Steps isa h h s s result
 unfolding step_on

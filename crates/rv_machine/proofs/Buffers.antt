@@ -1,4 +1,4 @@
--- A read leaves the bytes that were taken at the front of its buffer, and the old ones behind them.
+-- A read leaves the bytes that were taken at the front of its buffer, and the old ones after them.
 use Rattle.std.proofs.Common.{◌≡◌, ◌∙◌, ℕ, ◌+◌, ◌-◌, ◌≤◌, List, [], ◌∷◌, ◌++◌, Bool, true, false, Option, Some, None, Result, Ok, Err, IsTrue, length, take, drop, find, cond, refl, ap, sym, arith, append_assoc}
 use Rattle.std.specs.Prelude.{IfOk, OnErr}
 use Rattle.std.specs.Option.{option_map}
@@ -13,7 +13,7 @@ use Rattle.mem_regions.proofs.Writes.{writes-lies}
 use Rattle.rv_machine.specs.Streams.{Gives}
 use Rattle.rv_machine.specs.Buffers.{TakesInto, Fills, FillsSome}
 
--- what stands behind the part of a slice is not changed by a part of the same front
+-- a part and what comes after it are the part's front and what comes after that, where the part has the old bytes after its front
 tail-kept : (bytes new : List ℕ) (at len n : ℕ) → at + len ≤ length bytes → length new ≡ len →
     n ≤ len → drop n new ≡ drop n (take len (drop at bytes)) →
     new ++ drop (at + length new) bytes ≡ take n new ++ drop (at + length (take n new)) bytes
@@ -29,7 +29,7 @@ tail-kept bytes new at len n within size some same =
     let front : length (take n new) ≡ n = length-take-le n new (omega (arith, size, some)) in
     rw (size, front, ← behind, ← same, ← append_assoc (take n new) (drop n new) (drop (at + len) bytes), take-append-drop n new) refl
 
--- a slice is the same where a front of it is written over
+-- to write such a part over a slice is to write its front
 overwritten-front : (bytes new : List ℕ) (at len n : ℕ) → at + len ≤ length bytes →
     length new ≡ len → n ≤ len → drop n new ≡ drop n (take len (drop at bytes)) →
     overwritten bytes at new ≡ overwritten bytes at (take n new)
@@ -38,7 +38,7 @@ overwritten-front bytes new at len n within size some same =
     ∙ ap (λ tail. take at bytes ++ tail) (tail-kept bytes new at len n within size some same)
     ∙ sym (append_assoc (take at bytes) (take n new) (drop (at + length (take n new)) bytes)))
 
--- the same of a region
+-- the same for a region
 area_with-front : (addr len n : ℕ) (new : List ℕ) (a : Area) → writes_in addr len a ≡ true →
     length new ≡ len → n ≤ len → drop n new ≡ drop n (bytes_in addr len a) →
     area_with addr new a ≡ area_with addr (take n new) a
@@ -48,7 +48,7 @@ area_with-front addr len n new a e size some same =
     ap (λ (bytes : List ℕ). let b : Area = record a { bytes = bytes } in b)
     (overwritten-front a.bytes new (addr - a.base) len n within size some same)
 
--- the same of a list of regions, by whether the first may be written
+-- the same for a list of regions, by whether the first may be written
 front_step : (addr len n : ℕ) (new old : List ℕ) (x : Area) (xs one other : List Area) (b : Bool) →
     writes_in addr len x ≡ b → length new ≡ len → n ≤ len → drop n new ≡ drop n old →
     option_map (bytes_in addr len) (cond b (Some x) (find (writes_in addr len) xs)) ≡ Some old →

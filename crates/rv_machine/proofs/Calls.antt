@@ -1,4 +1,4 @@
--- What an environment call comes to, by its number and its tests.
+-- How an environment call ends, by its number and its tests.
 use Rattle.std.proofs.Common.{◌≡◌, ◌∙◌, ◌≢◌, ℕ, ◌≤◌, ◌%◌, List, [], ◌++◌, Bool, true, false, not, Option, Some, None, ◌==◌, length, min, cond, refl, ap, sym, subst, IsTrue, arith}
 use Rattle.std.proofs.Math.Seq.{take-append_seam, drop-append_seam}
 use Rattle.std.proofs.lemmas.List.{length-append}
@@ -58,7 +58,7 @@ unfolding call read
 reads-nowhere regs mem s n fd len can =
     serves-plain regs mem mem s bad_address (λ rest. rw (n, fd, other 0 len, can) refl)
 
--- the bytes that a read takes, and those behind them
+-- the bytes that a read takes, and those after them
 read_into-is : (addr len : ℕ) (mem : Memory) (taken later : List ℕ) →
     min len (length (taken ++ later)) ≡ length taken → read_into addr len mem (taken ++ later)
     ≡ Value (record {
@@ -87,7 +87,7 @@ read-is regs mem taken later n fd len can count =
     rw (n, fd, other 0 len, can)
     (read_into-is (second_argument regs) (third_argument regs) mem taken later count)
 
--- the rest that a read finds: all that is told, or else just the bytes that it takes
+-- the rest that a read finds: all that is told, or else exactly the bytes that it takes
 record Finds (left after : Option (List ℕ)) (len : ℕ) (taken : List ℕ) : Type 0 where
   pub later : List ℕ
   pub told : IsTold left (taken ++ later)
@@ -267,7 +267,7 @@ unfolding asks_output
 writes-asking regs mem bytes n fd len some asks =
     let no : true ≡ false = rw (n, fd, other 0 len, some) at asks in cc
 
--- what a call came to, with another rest of the input
+-- what a call gives, with another rest of the input
 abbrev with_rest : List ℕ → Called → Called
 with_rest rest (Value a) = Value (record a { rest = rest })
 with_rest rest (Exit status) = Exit status
@@ -350,7 +350,7 @@ unfolding call
 serves-break regs mem new s value n is answer =
     serves-plain regs mem new s value (λ rest. rw (n, answer, is) refl)
 
--- a number that is no call
+-- the number of no call
 pub serves-nothing : (regs : List ℕ) (mem : Memory) (s : Streams) → number_in regs ≢ 63 →
     number_in regs ≢ 64 → is_exit (number_in regs) ≡ false → number_in regs ≢ 214 →
     Serves regs mem mem s s (served.Value no_such_call)

@@ -1,4 +1,4 @@
--- The instructions that compute: each operation has a class of theirs.
+-- The instructions that compute: each operation has one of their classes.
 use Rattle.std.proofs.Common.{refl, IsTrue}
 use Rattle.rv_inst.specs.declared.instruction.RegOp.{RegOp}
 use Rattle.rv_inst.specs.declared.instruction.RegOp.TheVariants as regop

@@ -59,7 +59,7 @@ read_from-misaligned (Ok v) e = absurd (read_as-misaligned v (decoded_m v) e)
 read_from-misaligned (Err Misaligned) e = refl
 read_from-misaligned (Err NoAccess) e = grind arith
 
--- a word comes from an aligned address alone
+-- a word comes only from an aligned address
 word-aligned : (m : Memory) (pc w : ℕ) → fetch_at m pc ≡ Ok w → pc % 4 ≡ 0
 unfolding fetch_at
 word-aligned m pc w e = grind (arith, nat_tests)
@@ -68,7 +68,7 @@ unpermitted-aligned : (m : Memory) (pc : ℕ) → fetch_at m pc ≡ Err NoAccess
 unfolding fetch_at
 unpermitted-aligned m pc e = grind (arith, nat_tests)
 
--- a region that was found, or none, is no question of alignment
+-- what is read from a region that was found, or from none, is never misaligned
 word_of-aligned : (pc : ℕ) (o : Option Area) → word_of pc o ≢ Err Misaligned
 word_of-aligned pc None e = grind arith
 word_of-aligned pc (Some a) e = grind arith

@@ -13,12 +13,12 @@ use Rattle.rv_machine.specs.declared.decode_cache.Found.TheVariants as found
 use Rattle.rv_machine.specs.declared.decode_cache.Decoded.{Decoded}
 use Rattle.rv_machine.specs.Decoded.{read_from, found_at, is_instruction, IsEmpty, IsKeptOf, IsCacheOf, place_at, nothing_kept, keeps}
 
--- what stands at an address depends on the word that is fetched there alone
+-- what stands at an address depends only on the word that is fetched there
 found_at-same : (m n : Memory) (pc : ℕ) → fetch_at n pc ≡ fetch_at m pc → found_at n pc ≡ found_at m pc
 unfolding found_at
 found_at-same m n pc e = ap read_from e
 
--- a cache is one of each memory whose instruction words are the same
+-- a cache of a memory is one of each memory with the same instruction words
 pub cache-same : (m n : Memory) (places : List Decoded) → ((pc : ℕ) → fetch_at n pc ≡ fetch_at m pc) →
     IsCacheOf m places → IsCacheOf n places
 unfolding IsCacheOf

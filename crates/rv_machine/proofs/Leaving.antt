@@ -13,7 +13,7 @@ use Rattle.rv_machine.specs.Acts.{Serves}
 use Rattle.rv_machine.specs.Decoded.{IsCacheOf}
 use Rattle.rv_machine.proofs.Keeping.{cache-same}
 
--- the memory behind a call
+-- the memory after a call
 abbrev memory_behind : Memory → Called → Memory
 memory_behind mem (Value answer) = answer.mem
 memory_behind mem (Exit status) = mem

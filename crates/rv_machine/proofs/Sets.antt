@@ -16,7 +16,7 @@ use Rattle.rv_machine.specs.Decoded.{in_set}
 read-in-both : (w : ℕ) (i : Instr) → decoded w ≡ Some i → decoded_m w ≡ Some i
 read-in-both w i e = decoded_m_complete w i (decoded-encodes w i e)
 
--- where the larger set has an instruction of the M extension, the smaller one has none
+-- where the larger set has an instruction of the M extension, the smaller one has no instruction
 lacking : (w : ℕ) (i : Instr) (o : Option Instr) → decoded w ≡ o → decoded_m w ≡ Some i → is_base i ≡ false → o ≡ None
 lacking w i None d e base = refl
 lacking w i (Some j) d e base =

@@ -1,4 +1,4 @@
--- What a call of the machine does, of all that the definitions say and the streams tell.
+-- What a call of the machine does, by what the definitions say and the streams tell.
 use Rattle.std.specs.Prelude.{◌≡◌, ℕ, ◌+◌, ◌%◌, List, Some, Ok}
 use Rattle.mem_regions.specs.Memory.{Memory}
 use Rattle.mem_regions.specs.Fetching.{fetch_at}
@@ -45,7 +45,7 @@ pub record Stops (outcome : List ℕ → Outcome Machine) (end : Outcome Machine
   pub hart : new ≡ old
   pub streams : after ≡ before
 
--- the outcome came about; or a stream failed the instruction, of which `calls` holds then
+-- the outcome came about; or a stream failed the instruction, and then `calls` holds
 unfoldable pub Acts : Type 0 → (List ℕ → Outcome Machine) → Hart → Hart → Streams → Streams →
     Stepped → Type 0
 Acts calls outcome old new before after (stepped.Next line) = Retires outcome new before after line
@@ -102,7 +102,7 @@ Serves regs mem new before after served.ReadFault = FailsReading regs mem new be
 Serves regs mem new before after served.WriteFault =
     FailsWriting regs mem before after × (new ≡ mem)
 
--- the count is one higher where an instruction retired, and the same elsewhere
+-- the count is one higher where an instruction retired, and the same otherwise
 abbrev pub Counts : ℕ → ℕ → Stepped → Type 0
 Counts before now (stepped.Next line) = now ≡ before + 1
 Counts before now (stepped.Trap cause pc detail) = now ≡ before

@@ -11,12 +11,12 @@ next_machine (Next m line) = Some m
 next_machine (Trap cause pc detail) = None
 next_machine (Exit status) = None
 
--- a step from a machine that there is
+-- a step from a machine, where there is one
 abbrev pub step_from : Isa → Option Machine → Option Machine
 step_from isa None = None
 step_from isa (Some m) = next_machine (step isa m)
 
--- the machine after n steps that all retire an instruction; there is none where one of them does not
+-- the machine after n steps that all retire an instruction; there is no such machine where one of them does not
 unfoldable pub after : Isa → Machine → ℕ → Option Machine
 after isa m zero = Some m
 after isa m (suc n) = step_from isa (after isa m n)

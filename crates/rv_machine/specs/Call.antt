@@ -38,7 +38,7 @@ bad_file = word_of (negsuc 8)
 abbrev pub bad_address : ℕ
 bad_address = word_of (negsuc 13)
 
--- ENOSYS, 38 below zero: the number is that of no call
+-- ENOSYS, 38 below zero: no call has this number
 abbrev pub no_such_call : ℕ
 no_such_call = word_of (negsuc 37)
 
@@ -65,7 +65,7 @@ read fd addr len mem rest =
     if not (can_write mem addr len) then answered bad_address mem rest else
     read_into addr len mem rest
 
--- the bytes of the buffer go to the output, where it lies in memory; the answer is their number
+-- the bytes of the buffer go to the output, where the buffer lies in memory; the answer is their number
 abbrev pub write_from : Option (List ℕ) → ℕ → Memory → List ℕ → Called
 write_from None len mem rest = answered bad_address mem rest
 write_from (Some bytes) len mem rest =
@@ -86,7 +86,7 @@ write fd addr len mem rest =
 abbrev pub is_break : ℕ → Bool
 is_break addr = nat_le 0x7f000000 addr && nat_le addr 0x7f080000
 
--- the memory with its break there, where it may stand there
+-- the memory with its break at the address, where it may be there
 unfoldable pub with_break : ℕ → Memory → Memory
 with_break addr mem = if is_break addr then record mem { program_break = addr } else mem
 

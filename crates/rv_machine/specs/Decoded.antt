@@ -39,7 +39,7 @@ is_instruction (found.Unknown word) = false
 is_instruction found.Nothing = false
 is_instruction found.Misaligned = false
 
--- the trap where it is none
+-- the trap where it is not one
 abbrev pub trap_of : ℕ → Found → Stepped
 trap_of pc (found.Instruction word i) = stepped.Trap 2 pc word
 trap_of pc (found.Unknown word) = stepped.Trap 2 pc word
@@ -71,7 +71,7 @@ IsCacheOf mem places = All (IsKeptOf mem) places
 abbrev pub place_at : ℕ → ℕ
 place_at pc = pc / 4 % 4096
 
--- what an index out of range would give, which is none of a cache
+-- what an index out of range would give, which never occurs in a cache
 abbrev pub nothing_kept : Decoded
 nothing_kept = record { address = 0; word = 0; instr = Lui 0 0 }
 

@@ -1,4 +1,4 @@
--- What an environment call leaves that one of the streams failed, and what the streams' counts of faults say of it.
+-- What an environment call leaves where one of the streams failed it, and what the streams' counts of faults say of it.
 use Rattle.std.specs.Prelude.{◌≡◌, ℕ, List, IsTrue, Some, Result, Ok, Err}
 use Rattle.cf_io.specs.Puts.{WritesFront}
 use Rattle.mem_regions.specs.Memory.{Memory}
@@ -11,7 +11,7 @@ use Rattle.rv_machine.specs.Call.{second_argument, third_argument, asks_input, a
 use Rattle.rv_machine.specs.Streams.{Streams}
 use Rattle.rv_machine.specs.Buffers.{TakesInto}
 
--- the call asked the input, which failed behind some bytes; the output tells what it told
+-- the call asked the input, which failed after some bytes; the output tells what it told before
 pub record FailsReading (regs : List ℕ) (mem new : Memory) (before after : Streams) : Type 0 where
   pub asks : IsTrue (asks_input regs mem)
   pub taken : List ℕ
@@ -19,7 +19,7 @@ pub record FailsReading (regs : List ℕ) (mem new : Memory) (before after : Str
       before.input after.input taken
   pub output : after.output ≡ before.output
 
--- the call asked the output, which failed behind a front of the buffer's bytes; the input tells what it told
+-- the call asked the output, which failed after a front of the buffer's bytes; the input tells what it told before
 pub record FailsWriting (regs : List ℕ) (mem : Memory) (before after : Streams) : Type 0 where
   pub asks : IsTrue (asks_output regs mem)
   pub bytes : List ℕ
@@ -27,21 +27,21 @@ pub record FailsWriting (regs : List ℕ) (mem : Memory) (before after : Streams
   pub output : WritesFront before.output after.output bytes
   pub input : after.input ≡ before.input
 
--- an error where the call was failed by the input
+-- an error where the input failed the call
 abbrev pub input_served : Served → Result (Unit {0}) (Unit {0})
 input_served served.ReadFault = Err tt
 input_served served.WriteFault = Ok tt
 input_served (served.Value value) = Ok tt
 input_served (served.Exit status) = Ok tt
 
--- an error where the call was failed by the output
+-- an error where the output failed the call
 abbrev pub output_served : Served → Result (Unit {0}) (Unit {0})
 output_served served.ReadFault = Ok tt
 output_served served.WriteFault = Err tt
 output_served (served.Value value) = Ok tt
 output_served (served.Exit status) = Ok tt
 
--- an error where the step was failed by the input
+-- an error where the input failed the step
 abbrev pub input_stepped : Stepped → Result (Unit {0}) (Unit {0})
 input_stepped (stepped.Next line) = Ok tt
 input_stepped (stepped.Trap cause pc detail) = Ok tt
@@ -49,7 +49,7 @@ input_stepped (stepped.Exit status) = Ok tt
 input_stepped stepped.ReadFault = Err tt
 input_stepped stepped.WriteFault = Ok tt
 
--- an error where the step was failed by the output
+-- an error where the output failed the step
 abbrev pub output_stepped : Stepped → Result (Unit {0}) (Unit {0})
 output_stepped (stepped.Next line) = Ok tt
 output_stepped (stepped.Trap cause pc detail) = Ok tt

@@ -3,7 +3,7 @@ use Rattle.std.specs.Prelude.{ℕ, List, replicate, slice_set}
 use Rattle.mem_regions.specs.Memory.{Memory}
 use Rattle.rv_machine.specs.Hart.{Hart}
 
--- a hart, the input that was not read yet, and the output that was written
+-- a hart, the input that has not been read yet, and the output that was written
 pub record Machine : Type 0 where
   pub hart : Hart
   pub rest : List ℕ

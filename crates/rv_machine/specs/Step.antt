@@ -45,7 +45,7 @@ first_value h i = register_value h.regs (sources_of i).0
 abbrev pub second_value : Hart → Instr → ℕ
 second_value h i = register_value h.regs (sources_of i).1
 
--- arithmetic, products and quotients, branches and jumps: a target that is no multiple of 4 is a trap of the instruction that jumps
+-- arithmetic, products and quotients, branches and jumps: a target that is not a multiple of 4 is a trap of the instruction that jumps
 unfoldable pub compute : Hart → ℕ → Instr → Outcome Hart
 compute h word i =
     let a = first_value h i in
@@ -141,7 +141,7 @@ unfoldable pub step_on : Isa → Hart → List ℕ → Outcome Machine
 step_on isa h rest =
     if h.pc % 4 == 0 then fetched isa h rest (fetch_at h.mem h.pc) else Trap 0 h.pc h.pc
 
--- the output of a step stands behind that of the steps before
+-- the output of a step comes after that of the steps before
 abbrev pub behind : List ℕ → Outcome Machine → Outcome Machine
 behind output (Next m line) = Next (record m { output = output ++ m.output }) line
 behind output (Trap cause pc detail) = Trap cause pc detail

@@ -10,27 +10,27 @@ pub record Streams : Type 0 where
 abbrev pub streams_of : Option (List ℕ) → Option (List ℕ) → Streams
 streams_of input output = record { input = input; output = output }
 
--- these are the bytes, where they are told
+-- these are the bytes that are told, if any are
 abbrev pub IsTold : Option (List ℕ) → List ℕ → Type 0
 IsTold None bytes = Unit {0}
 IsTold (Some told) bytes = bytes ≡ told
 
--- where bytes were told, these are told now
+-- where bytes were told before, these are told now
 abbrev pub Becomes : Option (List ℕ) → Option (List ℕ) → List ℕ → Type 0
 Becomes None after bytes = Unit {0}
 Becomes (Some told) after bytes = after ≡ Some bytes
 
--- where they tell: this is left of the input, and this was added to the output
+-- where they tell it: this is left of the input, and this was added to the output
 pub record Leaves (before after : Streams) (rest added : List ℕ) : Type 0 where
   pub input : Becomes before.input after.input rest
   pub output : Writes before.output after.output added
 
--- an input that does not tell what it has left is thought of as having just the bytes that are taken, so that nothing is left of them
+-- an input that does not tell what it has left is thought of as having exactly the bytes that are taken, so that nothing is left of them
 abbrev pub IsSpent : Option (List ℕ) → List ℕ → Type 0
 IsSpent None rest = rest ≡ []
 IsSpent (Some told) rest = Unit {0}
 
--- where the input tells: these were the first bytes that it had left, and the others are left now
+-- where the input tells what it has left: these were the first bytes that it had left, and the others are left now
 abbrev pub Gives : Option (List ℕ) → Option (List ℕ) → List ℕ → Type 0
 Gives None after taken = Unit {0}
 Gives (Some told) after taken = (rest : List ℕ) × (told ≡ taken ++ rest) × (after ≡ Some rest)

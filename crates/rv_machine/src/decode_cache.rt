@@ -17,7 +17,7 @@ pub(crate) enum Found {
     /// A word, and the instruction of RV32IM that it stands for.
     Instruction { word: u32, instr: Instr },
 
-    /// A word that stands for none.
+    /// A word that stands for no instruction.
     Unknown(u32),
 
     /// Nothing that can be fetched.
@@ -74,7 +74,7 @@ pub(crate) fn look_up(mem: &Regions, pc: u32) -> Found
 }
 
 impl DecodeCache {
-    /// A cache of nothing.
+    /// An empty cache.
     pub(crate) fn new() -> DecodeCache
         ensures { All IsEmpty result.places }
     {
@@ -83,7 +83,7 @@ impl DecodeCache {
         }
     }
 
-    /// Forgets all.
+    /// Forgets everything.
     pub(crate) fn clear(&mut self)
         ensures { All IsEmpty self.new.places }
     {
@@ -99,7 +99,7 @@ impl DecodeCache {
         self.places[place_of(pc)].address == u64::from(pc)
     }
 
-    /// Decodes and keeps the instruction at the address, where one stands there.
+    /// Decodes and keeps the instruction at the address, if there is one.
     #[inline(never)]
     #[tactic(auto, using(crate::proofs::Keeping::keeping))]
     fn keep(&mut self, mem: &Regions, pc: u32) -> bool
@@ -121,7 +121,7 @@ impl DecodeCache {
         }
     }
 
-    /// Whether an instruction stands at the address, which is kept then.
+    /// Whether an instruction stands at the address; it is then kept.
     #[inline(always)]
     #[tactic(auto, using(crate::proofs::Keeping::having))]
     fn comes_to_have(&mut self, mem: &Regions, pc: u32) -> bool
@@ -133,8 +133,8 @@ impl DecodeCache {
         self.has(pc) || self.keep(mem, pc)
     }
 
-    /// The instruction at the address, where one stands there. It is read from its place also where it was decoded just
-    /// now, which keeps what is done seldom out of the way of the compiler.
+    /// The instruction at the address, if there is one. It is read from its place even where it has just been decoded,
+    /// which keeps what is done seldom out of the compiler's way.
     #[inline(always)]
     #[tactic(auto, using(crate::proofs::Keeping::keeping))]
     pub(crate) fn find(&mut self, mem: &Regions, pc: u32) -> Option<Decoded>

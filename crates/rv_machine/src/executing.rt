@@ -17,7 +17,7 @@ use mem_regions::MemErr;
 use rv_inst::{Access, Class, Instr, access_of, dest, extend, next_of, sources};
 use rv_mul::value;
 
-/// EBREAK, where the program asks a debugger.
+/// EBREAK, with which the program asks for a debugger.
 #[inline(always)]
 fn breaks(i: Instr) -> bool
     ensures { result ≡ is_breaking i }
@@ -81,7 +81,7 @@ impl Machine {
         (self.regs[first as usize], self.regs[second as usize])
     }
 
-    /// An instruction that computes; an address that 4 does not divide traps.
+    /// An instruction that computes; a next address that 4 does not divide traps.
     #[inline(always)]
     pub(crate) fn compute(&mut self, word: u32, i: Instr) -> Stepped
         requires fits { Fits i }

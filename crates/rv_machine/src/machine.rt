@@ -23,7 +23,7 @@ pub struct MachineParts {
     /// The address of the next instruction.
     pub pc: u32,
 
-    /// The 32 registers, of which x0 is zero.
+    /// The 32 registers; x0 is zero.
     pub regs: [u32; 32],
 
     /// The memory.
@@ -70,7 +70,7 @@ impl Machine {
         self.pc
     }
 
-    /// The 32 registers, of which x0 is always zero.
+    /// The 32 registers; x0 is always zero.
     pub fn regs(&self) -> &[u32; 32]
         ensures registers { result.now ≡ self.now.regs }
         ensures zero { slice_index result.now 0 ≡ 0 }

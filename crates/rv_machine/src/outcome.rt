@@ -1,4 +1,4 @@
-//! What a step and an environment call come to.
+//! How a step and an environment call end.
 
 /// The line of an instruction that retired.
 #[derive(Clone, Copy, Debug, PartialEq, Eq)]
@@ -16,7 +16,7 @@ pub struct Retired {
     pub value: u32,
 }
 
-/// What a step of the machine came to.
+/// How a step of the machine ended.
 #[derive(Clone, Copy, Debug, PartialEq, Eq)]
 pub enum Stepped {
     /// The instruction retired.
@@ -37,7 +37,7 @@ pub enum Stepped {
     WriteFault,
 }
 
-/// What an environment call came to.
+/// How an environment call ended.
 #[derive(Clone, Copy, Debug, PartialEq, Eq)]
 pub enum Served {
     /// The answer, for register x10.

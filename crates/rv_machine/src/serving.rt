@@ -19,7 +19,7 @@ const BAD_FILE: u32 = 0xffff_fff7;
 /// EFAULT: the buffer does not lie in memory.
 const BAD_ADDRESS: u32 = 0xffff_fff2;
 
-/// ENOSYS: the number is that of no call.
+/// ENOSYS: no call has this number.
 const NO_SUCH_CALL: u32 = 0xffff_ffda;
 
 /// Takes bytes to the front of the buffer until it is full or the input is at its end, and answers how many.
@@ -98,7 +98,7 @@ fn is_exit(number: u32) -> bool
     number == 93 || number == 94
 }
 
-/// brk(addr): moves the break to the address where it may stand there, and answers the break.
+/// brk(addr): moves the break to the address if it may be there, and answers the break.
 #[tactic(auto, unfolding(crate::specs::Call::with_break))]
 fn move_break(mem: &mut Regions, addr: u32) -> u32
     ensures memory { mem.new ≡ with_break addr mem.old }
@@ -111,14 +111,14 @@ fn move_break(mem: &mut Regions, addr: u32) -> u32
     mem.brk()
 }
 
-/// Answers one environment call: its number is in x17, its arguments stand from x10 on.
+/// Answers one environment call: its number is in x17, its arguments are in the registers from x10 on.
 ///
 /// 63 and 64 (`read` and `write`) move bytes from the input (file 0) and to the output (files 1 and 2), which are lent
 /// the buffer itself; a read asks the input until the buffer is full or the input is at its end. 93 and 94 (`exit` and
 /// `exit_group`) end the program with the low eight bits of x10. 214 (`brk`) moves the program break within the heap
-/// and answers it. Any other number is answered by -38. The numbers and the errors are those of Linux on RISC-V.
+/// and answers it. Any other number is answered with -38. The numbers and the errors are those of Linux on RISC-V.
 ///
-/// After `ReadFault` the bytes taken so far stand at the front of the buffer, and its old bytes stand behind them; after
+/// After `ReadFault` the bytes taken so far stand at the front of the buffer, and its old bytes follow them; after
 /// `WriteFault` a front of the buffer's bytes was written.
 pub fn serve<S: Source, K: Sink>(
     regs: &[u32; 32],

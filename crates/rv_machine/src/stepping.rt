@@ -20,7 +20,7 @@ use cf_io::{Sink, Source};
 use rv_inst::{Instr, Isa};
 
 impl Machine {
-    /// The instruction at the program counter, where one stands there.
+    /// The instruction at the program counter, if there is one.
     #[inline(always)]
     fn find(&mut self) -> Option<Decoded>
         ensures some { IfSome result (λ d. found_at self.old.mem self.old.pc ≡ Found.Instruction d.word d.instr) }
@@ -30,7 +30,7 @@ impl Machine {
         self.cache.find(&self.mem, self.pc)
     }
 
-    /// The trap where none does.
+    /// The trap where there is no instruction.
     #[inline(always)]
     fn stop(&self) -> Stepped
         ensures { result ≡ trap_of self.now.pc (found_at self.now.mem self.now.pc) }
@@ -65,7 +65,7 @@ impl Machine {
         ensures input_asked { (i ≡ Instr.Ecall → asks_input self.old.regs self.old.mem ≡ false) → input.new ≡ input.old }
         ensures output_asked { (i ≡ Instr.Ecall → asks_output self.old.regs self.old.mem ≡ false) → output.new ≡ output.old }
     {
-        // An arm for each instruction: what is inlined there is made for it.
+        // An arm for each instruction: what is inlined there is specialized for it.
         match i {
             Instr::Lui { .. } => self.compute(word, i),
             Instr::Auipc { .. } => self.compute(word, i),
@@ -114,7 +114,7 @@ impl Machine {
 
     /// Makes one step of a machine that has this instruction set: the rest is as in [`Machine::step`].
     ///
-    /// Who steps at one place of a program, whatever the instruction set, calls this one: the whole step is then
+    /// A program that steps in one place, whatever the instruction set, calls this one: the whole step is then
     /// compiled into that place.
     #[inline(always)]
     pub fn step_as<S: Source, K: Sink>(
@@ -142,8 +142,8 @@ impl Machine {
     /// Makes one step of an RV32I machine: the instruction at the program counter retires, traps or ends the program.
     ///
     /// After `Next` the machine is the one after the instruction; after a trap, an exit or a fault its program
-    /// counter, registers and count are what they were. A fault comes only of an environment call, as [`serve`] tells it.
-    /// Where the instruction is no environment call that asks the input, the input is left as it was, whatever it tells of
+    /// counter, registers and count are what they were. A fault comes only from an environment call, as [`serve`] says.
+    /// Unless the instruction is an environment call that asks the input, the input is left as it was, whatever it tells of
     /// itself; the output likewise.
     #[inline(always)]
     pub fn step<S: Source, K: Sink>(&mut self, input: &mut S, output: &mut K) -> Stepped

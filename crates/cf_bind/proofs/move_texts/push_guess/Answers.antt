@@ -1,4 +1,4 @@
--- The address of a guess stands behind its word.
+-- The address of a guess comes after its word.
 use Rattle.std.proofs.Common.{append_assoc}
 use Rattle.cf_bind.proofs.move_texts.push_guess.Goals as goal
 

@@ -1,4 +1,4 @@
--- What the results answer decides for the lists of them.
+-- As `==` decides whether two results are the same, it decides whether two lists of them are.
 use Rattle.std.proofs.lemmas.Slice.Eq.{slice_eq-Decides}
 use Rattle.cf_stages.proofs.Deciding.{option_decides, packet_decides}
 use Rattle.cf_stages.proofs.comparing.same_packets.Goals as goal

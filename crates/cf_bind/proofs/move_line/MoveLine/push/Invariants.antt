@@ -1,6 +1,6 @@
 use Rattle.std.proofs.Common.{◌≡◌, ◌++◌, take}
 use Rattle.cf_bind.proofs.move_line.MoveLine.push.Given as goal
 
--- the bytes so far stand behind what the line had
+-- the bytes so far come after what the line had
 abbrev pub invariant-loop-byte : goal.invariant-loop-byte
 invariant-loop-byte l = l.self-inside.text.items ≡ l.initial.self-inside.text.items ++ take l.byte-index l.text
