@@ -1,4 +1,4 @@
--- The candidates: every allowed move but an Issue to an address is one of them; there is one where the program goes on; and under the hold rule an Issue is one only where no other move is allowed.
+-- The candidates: every allowed move but an Issue to an address is one of them; there is a candidate where the program goes on; and under the hold rule an Issue is a candidate only where no other move is allowed.
 use Rattle.std.proofs.Common.{◌≡◌, ℕ, zero, suc, ◌+◌, ◌-◌, ◌≤◌, ◌<◌, List, [], ◌∷◌, ◌++◌, length, map, filter, Option, Some, None, Bool, true, false, not, refl, sym, ap, subst, ◌∙◌, arith, cond}
 use Rattle.std.specs.Prelude.{slice_get, nat_lt, unwrap_or, if◌then◌else◌}
 use Rattle.cf_layout.specs.Layout.{Plan, SidingPlan, cells_of, no_siding}
@@ -103,7 +103,7 @@ pub record HasShape (l : Plan) (s : State) : Type 0 where
   pub cells : length s.cells ≡ l.stages
   pub sidings : (k : ℕ) → length (siding_at s k) ≡ cells_of l k
 
--- a stage that there is
+-- a stage that exists
 at_there : (cells : List Cell) (i : ℕ) (f : Cell → Option Bar) → on (cell_at cells i) (Some NoSuchSite) f ≡ None → (1 ≤ i) × (i ≤ length cells)
 at_there cells zero f e = absurd (cc)
 at_there cells (suc k) f e = go cells k e
@@ -159,7 +159,7 @@ all_has l s mv h i e = go mv i (bar_row l s mv e)
     last : List Move
     last = Leave ∷ Exit ∷ Serve ∷ []
 
-    -- all that stands before a kind of moves
+    -- all moves up to a kind, that kind included
     upto_climbs : List Move
     upto_climbs = Issue guess.Next ∷ Issue guess.Taken ∷ Issue guess.Wait ∷ Emit ∷ at_stages l Climb
 
@@ -230,7 +230,7 @@ all_has l s mv h i e = go mv i (bar_row l s mv e)
     go Exit i e = at_end Exit (record { place = 1; there = refl })
     go Serve i e = at_end Serve (record { place = 2; there = refl })
 
--- an allowed move of them all is a candidate
+-- each of all these moves that is allowed is a candidate
 candidate : (l : Plan) (s : State) (mv : Move) → bar l s mv ≡ None → Has (all_moves l) mv → Has (candidates l s) mv
 unfolding candidates
 candidate l s mv e h = has_filter (λ v. not (is_some (bar l s v))) (all_moves l) mv (rw e refl) h
@@ -272,7 +272,7 @@ held_stuck l s k mv h e i = go (other_moves (candidates l s)) refl e
         let g : slice_get (other_moves (candidates l s)) k ≡ Some mv = ap (λ (q : List Move). slice_get q k) f ∙ sym (ap (λ (b : Bool). slice_get (if b then y ∷ xs else candidates l s) k) (some_there y xs)) ∙ e in
         absurd (clash (ap not (sym i) ∙ (kept_passes (λ v. not (is_issue v)) (candidates l s) k mv g).0))
 
--- one is there to be picked, held back or not
+-- a move is there to be picked, with Issue held back or not
 pub some_pick : (l : Plan) (s : State) → HasShape l s → (IsStuck l s → bar l s (Issue Next) ≡ None) → ((mv : Move) × Has (candidates l s) mv) × ((mv : Move) × Has (held_back (candidates l s)) mv)
 unfolding held_back
 some_pick l s h r = go (other_moves (candidates l s)) refl

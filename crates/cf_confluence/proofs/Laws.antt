@@ -1,4 +1,4 @@
--- Drain and confluence: what every order of moves comes to, of each accepted layout and each machine with its 32 registers.
+-- Drain and confluence: where every order of moves leads, for each accepted layout and each machine with its 32 registers.
 use Rattle.std.proofs.Common.{◌≡◌, ℕ, ◌+◌, ◌*◌, ◌≤◌, suc, List, ◌∷◌, Option, Some, None, true, false, refl, sym, subst, ◌∙◌, arith, length}
 use Rattle.std.specs.Prelude.{slice_get}
 use Rattle.rv_machine.specs.Machine.{Machine}

@@ -27,7 +27,7 @@ back-free p k h = subst (λ (s : State). row_bar p.plan s k.move ≡ None) (sym 
 pub back-within : (p : Processor) (k : Kept) (t : Touched) → IsAfter p k → t ≡ touched p.plan (restored p.state k) k.move → Within p.plan t
 back-within p k t h e = subst (Within p.plan) (sym e) (touched-within p.plan (restored p.state k) k.move (back-facts p k h) (back-free p k h))
 
--- the stages that the move touched are those of which something else can hold
+-- the stages that the move touched are those for which what holds can have changed
 marks_back : (plan : Plan) (s : State) (mv : Move) → IsProcessor plan s → row_bar plan s mv ≡ None →
     remarked plan s (marks_of plan (moved plan s mv)) (touched plan s mv) ≡ marks_of plan s
 marks_back plan s mv h free =

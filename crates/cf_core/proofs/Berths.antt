@@ -10,7 +10,7 @@ use Rattle.cf_semantics.specs.state.Options.{on}
 use Rattle.cf_semantics.specs.state.State.{State, siding_at}
 use Rattle.cf_core.specs.Processors.{AreOps, IsOp, IsProcessor}
 
--- the cells of the siding of this number are as many as its plan says; where there is none, none
+-- the siding of this number has as many cells as its plan says; where there is no such siding, none
 counted : (sidings : List (List (Option Op))) (plans : List SidingPlan) (k : ℕ) → map length sidings ≡ map (λ siding. siding.cells) plans → length (on (slice_get sidings k) [] (λ ops. ops)) ≡ (unwrap_or (slice_get plans k) no_siding).cells
 counted [] [] k e = refl
 counted [] (p ∷ ps) k e = absurd (cc)
@@ -22,7 +22,7 @@ pub length-siding : (plan : Plan) (s : State) (k : ℕ) → IsProcessor plan s �
 unfolding cells_of
 length-siding plan s k h = counted s.sidings plan.sidings k h.sidings
 
--- there is no siding behind the last
+-- there is no siding after the last
 pub cells-none : (plan : Plan) (k : ℕ) → length plan.sidings ≤ k → cells_of plan k ≡ 0
 unfolding cells_of
 cells-none plan k h = ap (λ (o : Option SidingPlan). (unwrap_or o no_siding).cells) (slice_get_past plan.sidings k h)

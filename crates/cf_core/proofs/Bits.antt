@@ -1,4 +1,4 @@
--- The words of all stages after something else holds of two of them.
+-- The words of all stages once what holds of two of them has changed.
 use Rattle.std.proofs.Common.{◌≡◌, ◌≢◌, ◌∙◌, ℕ, zero, suc, ◌-◌, ◌^◌, ◌<◌, ◌≤◌, Bool, true, false, refl, sym, ap, arith}
 use Rattle.std.specs.Int.{bit_not, w32}
 use Rattle.std.specs.Int.RustNames.{bit_and, bit_or}

@@ -5,7 +5,7 @@ use Rattle.mem_regions.specs.Memory.{Memory}
 use Rattle.mem_regions.specs.Ranges.{range_of, can_write}
 use Rattle.rv_machine.specs.Call.{Called, Value, Exit, Answer, call, read, write, brk, exit, answered, write_from, is_exit, is_output, number_in, first_argument, second_argument, third_argument, no_such_call}
 
--- it is no exit
+-- it is not an exit
 abbrev IsAnswer : Called → Type 0
 IsAnswer c = (status : ℕ) → c ≡ Exit status → ⊥
 
@@ -28,7 +28,7 @@ write_answers : (fd addr len : ℕ) (mem : Memory) (rest : List ℕ) → IsAnswe
 unfolding write
 write_answers fd addr len mem rest = either (not (is_output fd)) _ _ (value_answers _) (either (len == 0) _ _ (value_answers _) (written_answers (range_of mem addr len) len mem rest))
 
--- of two choices that differ in answers alone
+-- of two choices that differ only in answers
 alike : (b : Bool) (c c' d d' : Called) (status : ℕ) → (c ≡ Exit status → c' ≡ Exit status) → (d ≡ Exit status → d' ≡ Exit status) → (if b then c else d) ≡ Exit status → (if b then c' else d') ≡ Exit status
 alike true c c' d d' status h k e = h e
 alike false c c' d d' status h k e = k e

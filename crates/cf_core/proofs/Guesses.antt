@@ -34,7 +34,7 @@ use Rattle.cf_core.specs.Processors.{IsProcessor}
 with_guess : Passenger → Guess → Passenger
 with_guess p g = record p { guess = g }
 
--- two guesses make passengers that differ in the guess alone
+-- two guesses make passengers that differ only in the guess
 ended_as : (o : Option End) (i : Instr) (pc : ℕ) (g h : Guess) → on o (fresh_fence i pc h) (fresh_end (Some i) pc h) ≡ with_guess (on o (fresh_fence i pc g) (fresh_end (Some i) pc g)) h
 unfolding with_guess
 ended_as None i pc g h = refl
@@ -50,7 +50,7 @@ unfolding fresh with_guess
 fresh_alike cache (Bad e) pc g h = refl
 fresh_alike cache (Got i) pc g h = class_as (kind_of i) cache i pc g h
 
--- so what they request is the same, and which guesses they may have
+-- so they request the same registers, and may have the same guesses
 same_requests : (p : Passenger) (h : Guess) → requests (with_guess p h) ≡ requests p
 unfolding with_guess
 same_requests p h = refl

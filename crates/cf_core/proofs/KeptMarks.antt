@@ -32,7 +32,7 @@ use Rattle.cf_core.proofs.Sites.{touched-within}
 use Rattle.cf_core.proofs.Steps.{next_moved}
 use Rattle.cf_core.proofs.Touched.{moved-but}
 
--- what the environment answers changes the highest stage alone
+-- what the environment answers changes only the highest stage
 served_but : (plan : Plan) (m : Moment) (n : ℕ) (c : Cell) (p : Passenger) (o : Called) → SameBut plan m.state (served m n c p o).state n n
 served_but plan m n c p (Value a) k off far =
     let t = with_cell m.state n (with_passenger c (moves.answered p a.value)) in

@@ -35,7 +35,7 @@ stage_in plan cells (suc i) c h e = all-at (IsStage (isa_of plan)) cells i c h e
 pub stage-at : (plan : Plan) (s : State) (i : ℕ) (c : Cell) → IsProcessor plan s → cell_at s.cells i ≡ Some c → IsStage (isa_of plan) c
 stage-at plan s i c h e = stage_in plan s.cells i c h.cells e
 
--- a stage gets another content
+-- a stage gets other contents
 length_put : (cells : List Cell) (i : ℕ) (c : Cell) → length (put_cell cells i c) ≡ length cells
 length_put cells zero c = refl
 length_put cells (suc i) c = length-set cells i c

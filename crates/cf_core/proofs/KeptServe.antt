@@ -112,7 +112,7 @@ makes_kept old new mv before after free h k =
     subst (λ (l : Plan). IsProcessor l new.state) (sym h.plan)
     (subst (λ (m : Moment). IsProcessor old.plan m.state) h.is (next_kept old.plan (record { state = old.state; rest = h.rest; output = [] }) mv free k))
 
--- one that fails
+-- a move that fails
 read_kept : (old new : Processor) (before after : Streams) → FailsToRead old new before after → IsProcessor old.plan old.state → IsProcessor new.plan new.state
 read_kept old new before after h k =
     subst (λ (p : Processor). IsProcessor p.plan p.state) (sym h.processor)
@@ -121,7 +121,7 @@ read_kept old new before after h k =
 write_kept : (old new : Processor) (before after : Streams) → FailsToWrite old new before after → IsProcessor old.plan old.state → IsProcessor new.plan new.state
 write_kept old new before after h k = subst (λ (p : Processor). IsProcessor p.plan p.state) (sym h.processor) (failed_kept old.plan old.state k)
 
--- nothing that bars a move bars its row
+-- the row of an allowed move bars nothing
 pub unbarred : (plan : Plan) (s : State) (mv : Move) → bar plan s mv ≡ None → row_bar plan s mv ≡ None
 unfolding bar
 unbarred plan s mv e = grind arith

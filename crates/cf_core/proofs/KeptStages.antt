@@ -77,7 +77,7 @@ fall-kept plan s i h =
     (cell-kept plan s i (without_packet c) h (packet-gone (isa_of plan) c high))
     (packet-new (isa_of plan) d c.packet low high.packet)))
 
--- a change of the passenger of a stage alone
+-- a change of only the passenger of a stage
 pub change-kept : (plan : Plan) (s : State) (i : ℕ) (f : Cell → Passenger → State) → IsProcessor plan s → ((c : Cell) (p : Passenger) → IsStage (isa_of plan) c → c.passenger ≡ Some p → IsPassenger (isa_of plan) p → IsProcessor plan (f c p)) → IsProcessor plan (on (cell_at s.cells i) s (λ c. on c.passenger s (f c)))
 change-kept plan s i f h g =
     kept-where plan s (cell_at s.cells i) _ h (λ c e. kept-where plan s c.passenger (f c) h (λ p there.
@@ -96,7 +96,7 @@ execute-kept plan s i h =
     change-kept plan s i _ h (λ c p stage there rider.
     cell-kept plan s i (with_passenger c (finish p None)) h (passenger-changed (isa_of plan) c (finish p None) stage (finish-passenger (isa_of plan) p None rider)))
 
--- who owes nothing sends nothing
+-- a passenger that owes nothing sends nothing
 send_owes : (c : Cell) (p : Passenger) → c.passenger ≡ Some p → send_bar c ≡ None → IsTrue (is_some p.owes)
 send_owes c p e f = grind arith
 

@@ -24,7 +24,7 @@ use Rattle.cf_core.proofs.Ported.{last-all, memory-port, port-cells, siding-cell
 use Rattle.cf_core.proofs.Sites.{port-number, slide-number}
 use Rattle.cf_core.proofs.Weights.{few-cells}
 
--- of a slide: both of its cells, of which there are few
+-- of a slide: both of its cells; a siding has few
 slides_within : (ops : List (Option Op)) (c : ℕ) (o : Option (Option Op)) → slice_get ops (c + 1) ≡ o → slide_bar ops c ≡ None → c + 1 < length ops
 slides_within ops c None e free = absurd (grind arith)
 slides_within ops c (Some op) e free = slice_get_within ops (c + 1) op e

@@ -1,4 +1,4 @@
--- A processor in which nothing stands is one.
+-- What holds of every processor holds of one in which nothing stands.
 use Rattle.std.proofs.Common.{◌≡◌, ℕ, zero, suc, List, [], ◌∷◌, Option, Some, None, Bool, false, map, length, refl, sym, ap, ◌∙◌}
 use Rattle.std.specs.Prelude.{replicate, IfSome, slice_get}
 use Rattle.std.proofs.lemmas.List.{length-replicate}
@@ -36,12 +36,12 @@ cells_empty : (siding : SidingPlan) → length (empty_siding siding) ≡ siding.
 unfolding no_op
 cells_empty siding = length-replicate siding.cells no_op
 
--- as many cells as the layout says
+-- each siding has as many cells as the layout says
 cells_laid : (sidings : List SidingPlan) → map length (map empty_siding sidings) ≡ map (λ siding. siding.cells) sidings
 cells_laid [] = refl
 cells_laid (s ∷ ss) = rw (cells_empty s, cells_laid ss) refl
 
--- none of them holds an operation
+-- no cell of them holds an operation
 none_holds : (plan : Plan) (bounds : List Bounds) (n : ℕ) (sidings : List SidingPlan) (k : ℕ) → AreOps plan bounds n (on (slice_get (map empty_siding sidings) k) [] (λ ops. ops))
 none_holds plan bounds n [] k = All-nil (λ (o : Option Op). IfSome o (IsOp plan bounds n))
 none_holds plan bounds n (s ∷ ss) zero = All-replicate (λ (o : Option Op). IfSome o (IsOp plan bounds n)) s.cells None tt
@@ -58,7 +58,7 @@ opened-processor plan fetch cache regs mem retired ending failed acc = record {
   lane = All-nil IsWritable;
 }
 
--- so is each whose stages, sidings and lane are empty
+-- so it does of each whose stages, sidings and lane are empty
 pub opened-is : (plan : Plan) (s : State) → IsAccepted plan → s.cells ≡ replicate plan.stages empty_cell → s.sidings ≡ empty_sidings plan → s.lane ≡ [] → IsProcessor plan s
 opened-is plan s acc stages sidings lane = rw (← stages, ← sidings, ← lane) at (opened-processor plan s.fetch s.cache s.regs s.mem s.retired s.ending s.failed acc)
 

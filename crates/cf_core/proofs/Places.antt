@@ -129,7 +129,7 @@ ops_stand plan s Leave = tt
 ops_stand plan s Exit = tt
 ops_stand plan s Serve = tt
 
--- a cell of a siding that there is
+-- a cell of a siding that exists
 record HasPlace (sizes : List ℕ) (k c : ℕ) : Type 0 where
   siding : k < length sizes
   place : c < slice_index_or sizes k 0

@@ -9,7 +9,7 @@ use Rattle.cf_passengers.proofs.Computing.{siding-computes}
 use Rattle.cf_semantics.specs.moves.Instructions.{is_memory}
 use Rattle.cf_semantics.specs.state.Options.{is_some}
 
--- without an answer it is no load or store
+-- without an answer it is not a load or a store
 unanswered : (b : Bool) (answer : Option ℕ) → (b && not (is_some answer)) ≡ false → answer ≡ None → b ≡ false
 unanswered true answer e n = grind arith
 unanswered false answer e n = refl

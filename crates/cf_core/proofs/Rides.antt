@@ -127,7 +127,7 @@ recover-none plan s i p e at =
 pub owes-here : (s : State) (i : ℕ) (p : Passenger) → passenger_at s.cells i ≡ Some p → owes_at s i ≡ is_some p.owes
 owes-here s i p e = let h = here-by (cell_at s.cells i) p e in rw (h.1, h.2) refl
 
--- and where there is none
+-- and where there is no passenger
 none_row : (o : Option Cell) (row : Cell → Option Bar) → ((c : Cell) → c.passenger ≡ None → row c ≡ Some NoPassenger) → on o None (λ c. c.passenger) ≡ None → false ≡ not (is_some (on o (Some NoSuchSite) row))
 none_row None row bars e = refl
 none_row (Some c) row bars e = rw (bars c e) refl
@@ -147,7 +147,7 @@ mark-none plan s i e =
     let recover = none_row o (λ c. recover_bar plan s c i) (λ c none. rw none refl) e in
     λ x. record { owes = owes x; stops = stops x; execute = execute x; launch = launch x; recover = recover x }
 
--- and of one that neither a unit nor a siding has to do with
+-- and of one with which no unit and no siding has anything left to do
 idle_parts : (dead done launched recovered : Bool) → (not (not dead && not done) && not (launched && not recovered)) ≡ true → ((not dead && not done) ≡ false) × ((launched && not recovered) ≡ false)
 idle_parts false false launched recovered e = absurd (cc)
 idle_parts true done true false e = absurd (cc)

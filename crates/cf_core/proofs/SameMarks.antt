@@ -38,7 +38,7 @@ pub beside : (plan : Plan) (s : State) (cells : List Cell) (i : ℕ) (o : Option
 unfolding mark_by
 beside plan s cells i o = refl
 
--- another content of one stage changes no other
+-- other contents of one stage change no other stage
 pub cell-but : (plan : Plan) (s : State) (i j : ℕ) (c : Cell) → SameBut plan s (with_cell s i c) i j
 cell-but plan s i j c k off far =
     mark_is plan (with_cell s i c) k

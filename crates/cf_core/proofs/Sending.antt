@@ -11,7 +11,7 @@ pub put-twice : (cells : List Cell) (i : ℕ) (c d : Cell) → put_cell (put_cel
 put-twice cells zero c d = refl
 put-twice cells (suc k) c d = set-set cells k c d
 
--- a stage that there is has one of the numbers
+-- a stage that exists has a number within their count
 pub cell-within : (cells : List Cell) (i : ℕ) (c : Cell) → cell_at cells i ≡ Some c → i ≤ length cells
 cell-within cells zero c e = omega arith
 cell-within cells (suc k) c e = let w = slice_get_within cells k c e in omega arith

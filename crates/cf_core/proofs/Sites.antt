@@ -31,11 +31,11 @@ use Rattle.cf_layout.specs.Layout.{cells_of}
 one_within : (plan : Plan) (i : ℕ) → 0 < i → i ≤ plan.stages → Within plan (alone i)
 one_within plan i low high = record { low = low; low_in = high; high = low; high_in = high }
 
--- a stage that there is
+-- a stage that exists
 there : (plan : Plan) (s : State) (i : ℕ) (c : Cell) → IsProcessor plan s → cell_at s.cells i ≡ Some c → (0 < i) × (i ≤ plan.stages)
 there plan s i c h e = let a = stage-low s.cells i c e in let b = stage-high s.cells i c e in let n = h.stages in (a, omega arith)
 
--- a row that names a stage names one that there is
+-- a row that names a stage names one that exists
 cell_in : (cells : List Cell) (i : ℕ) (f : Cell → Option Bar) (o : Option Cell) → cell_at cells i ≡ o → on o (Some NoSuchSite) f ≡ None → (c : Cell) × (cell_at cells i ≡ Some c) × (f c ≡ None)
 cell_in cells i f None e free = absurd (cc)
 cell_in cells i f (Some c) e free = (c, e, free)
@@ -46,7 +46,7 @@ at_stage plan s i f h free =
     let t = there plan s i c.0 h c.1 in
     one_within plan i t.0 t.1
 
--- the stages of a siding that there is
+-- the stages of a siding that exists
 siding_within : (plan : Plan) (k : ℕ) → IsAccepted plan → k < length plan.sidings → Within plan (sites plan k)
 unfolding launch_stage recover_stage
 siding_within plan k a within =
@@ -64,7 +64,7 @@ home_within : (plan : Plan) (s : State) (i : ℕ) (f : Cell → Option Bar) (o :
 home_within plan s i f None h e free = at_stage plan s i f h free
 home_within plan s i f (Some k) h e free = siding_within plan k h.accepted (home_number plan (passenger_at s.cells i) k e)
 
--- a siding with a cell is one that there is
+-- a siding with a cell exists
 cell_there : (ops : List (Option Op)) (c : ℕ) (o : Option (Option Op)) → slice_get ops (c + 1) ≡ o → slide_bar ops c ≡ None → 0 < length ops
 cell_there ops c None e free = absurd (grind arith)
 cell_there ops c (Some op) e free = let w = slice_get_within ops (c + 1) op e in omega arith

@@ -43,7 +43,7 @@ unchanged plan s k = refl
 both : (plan : Plan) (s t u : State) → Same plan s t → Same plan t u → Same plan s u
 both plan s t u one two k = two k ∙ one k
 
--- A stage with another content --
+-- A stage with other contents --
 
 one_stage : (plan : Plan) (s t : State) (i : ℕ) → SameBut plan s t i i → mark_at plan t i ≡ mark_at plan s i → Same plan s t
 one_stage plan s t i but here k = by_stage (nat_eq k i) refl
@@ -81,7 +81,7 @@ packet_mark plan s i c q met launch =
     let m = mark_by plan s i (Some c) in
     λ x. record { owes = m.owes; stops = m.stops; execute = m.execute; launch = launch x; recover = m.recover }
 
--- where both are as full, it does not
+-- where both stages are full or both are not, it does not change
 as_full : (plan : Plan) (s : State) (i : ℕ) (o : Option Passenger) (f g : Bool) → f ≡ g →
     not (is_some (on o (Some NoPassenger) (entry_row plan s f i))) ≡ not (is_some (on o (Some NoPassenger) (entry_row plan s g i)))
 as_full plan s i o f g e = ap (λ (b : Bool). not (is_some (on o (Some NoPassenger) (entry_row plan s b i)))) e
@@ -197,7 +197,7 @@ spent_parts true false e = (refl, refl)
 spent_parts true true e = absurd (cc)
 spent_parts false owes e = absurd (cc)
 
--- nobody is there, or one that is spent
+-- nobody is there, or a passenger that is spent
 abbrev is_blank : Option Passenger → Bool
 is_blank o = on o true is_spent
 
@@ -413,7 +413,7 @@ moved-same plan s Access free keeps = absurd (cc)
 moved-same plan s (Recover i) free keeps = absurd (cc)
 moved-same plan s Serve free keeps = absurd (cc)
 
--- the bit of a stage tells whether an operation can be launched there
+-- the bit of a stage says whether an operation can be launched there
 pub launch-bit : (plan : Plan) (s : State) (marks : Marks) (i : ℕ) → marks ≡ marks_of plan s → 0 < i → i ≤ plan.stages → has_bit marks.launch (i - 1) ≡ is_free plan s (Launch i)
 unfolding marks_of mark_at
 launch-bit plan s marks i is low within =

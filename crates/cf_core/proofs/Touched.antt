@@ -178,7 +178,7 @@ recover-but plan s i free = by_cell (cell_at s.cells i) refl free
     by_cell None here row = unchanged plan s i i
     by_cell (Some c) here row = by_rider c c.passenger here refl row
 
--- Serve of itself changes nothing
+-- Serve by itself changes nothing
 serve-but : (plan : Plan) (s : State) → SameBut plan s (moved plan s Serve) plan.stages plan.stages
 unfolding moved
 serve-but plan s = unchanged plan s plan.stages plan.stages

@@ -30,7 +30,7 @@ pub most-next : (plan : Plan) (k most : ℕ) → k < length plan.sidings →
 unfolding cells_of
 most-next plan k most h = let next : k + 1 ≡ suc k = omega arith in rw (next) (most_next plan.sidings k most h)
 
--- behind the last nothing joins
+-- after the last nothing joins
 larger-none : (most : ℕ) → larger most 0 ≡ most
 larger-none most = grind (arith, nat_tests)
 
@@ -53,7 +53,7 @@ pub weight-next : (sidings : List (List (Option Op))) (k : ℕ) (ops : List (Opt
     sidings_weight (drop k sidings) ≡ siding_weight (length ops) 0 ops + sidings_weight (drop (k + 1) sidings)
 weight-next sidings k ops h e = let next : k + 1 ≡ suc k = omega arith in rw (e, next) (weight_next sidings k h)
 
--- there are as many sidings as the layout says, and none has more than 8 cells
+-- there are as many sidings as the layout says, and no siding has more than 8 cells
 count : (sidings : List (List (Option Op))) (plans : List SidingPlan) → map length sidings ≡ map (λ siding. siding.cells) plans → length sidings ≡ length plans
 count [] [] e = refl
 count [] (p ∷ ps) e = absurd (cc)
@@ -90,7 +90,7 @@ stage-next n d cells k c e =
     let x : 1 + suc k ≡ suc (suc k) = omega arith in
     rw (z, y, x) (stage_next n d (suc k) cells k c (sym (subst (λ (m : ℕ). Some c ≡ cell_at cells m) z e)))
 
--- behind the last nothing is left
+-- after the last nothing is left
 pub stage-last : (n d i : ℕ) (cells : List Cell) (k : ℕ) → length cells ≤ k → cells_weight n d i (drop k cells) ≡ 0
 stage-last n d i [] zero h = refl
 stage-last n d i [] (suc k) h = refl

@@ -15,7 +15,7 @@ use Rattle.cf_semantics.specs.moves.Moves.{keeps, turned, written}
 abbrev pub issued_at : Plan → State → ℕ → Guess → Passenger
 issued_at plan s pc g = fresh s.cache (fetched (isa_of plan) s.mem pc) pc g
 
--- these registers are requested, behind all others
+-- these registers are requested, after all others
 abbrev pub requested : State → List ℕ → State
 requested s registers = record s { lane = s.lane ++ registers }
 

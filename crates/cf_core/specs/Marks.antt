@@ -66,7 +66,7 @@ sites plan k = record { low = launch_stage plan k; high = recover_stage plan k }
 abbrev pub home_at : Plan → State → ℕ → Option ℕ
 home_at plan s i = on (passenger_at s.cells i) None (λ p. siding_of plan (kind p))
 
--- the stages of which something else can hold after the move: where the contents changed, and where the siding launches and recovers whose first or last cell may have changed
+-- the stages for which what holds can change with the move: where the contents changed, and where the siding launches and recovers whose first or last cell may have changed
 unfoldable pub touched : Plan → State → Move → Touched
 touched plan s (Issue g) = alone 1
 touched plan s Emit = alone plan.stages

@@ -37,7 +37,7 @@ Each P Nothing = Unit {0}
 Each P (One a) = P a
 Each P (Two a b) = P a × P b
 
--- the old contents of a stage that there is
+-- the old contents of a stage that exists
 pub record IsOldCell (count : ℕ) (c : OldCell) : Type 0 where
   pub above : 0 < c.stage
   pub within : c.stage ≤ count

@@ -36,7 +36,7 @@ pub record IsStage (isa : Isa) (c : Cell) : Type 0 where
   pub packet : IfSome c.packet IsPacket
   pub met : IsCell c
 
--- what holds of an operation in the siding of a number, beside memory of these bounds: it is of a class of its siding, and memory permits it
+-- what holds of an operation in siding k, over memory of these bounds: it is of a class of its siding, and memory permits it
 pub record IsOp (plan : Plan) (bounds : List Bounds) (k : ℕ) (op : Op) : Type 0 where
   pub instr : IsOperation (isa_of plan) op
   pub siding : siding_of plan (kind_of op.instr) ≡ Some k

@@ -1,4 +1,4 @@
--- What is told of an instruction in a stage ("Counterflow Pipeline Processor Architecture", 1994).
+-- What can be said of an instruction in a stage ("Counterflow Pipeline Processor Architecture", 1994).
 use Rattle.std.specs.Prelude.{◌≡◌, ℕ, ◌<◌, ◌≤◌, Bool, false, ◌&&◌, ◌==◌, not, Option, Some, None, length}
 use Rattle.rv_inst.specs.declared.classes.Class.{Class}
 use Rattle.cf_layout.specs.Layout.{Plan, siding_of}

@@ -25,7 +25,7 @@ use Rattle.cf_core.specs.declared.step.Step.TheVariants.{Moved, Barred, ReadFaul
 use Rattle.cf_core.specs.declared.fault.Fault.{Fault}
 use Rattle.cf_core.specs.declared.fault.Fault.TheVariants as fault
 
--- the move was made: it is the next moment of one with an input that agrees with what is told; the output that it adds was written
+-- the move was made: the processor is at the next moment, over some rest of the input that agrees with what is told; the output that it adds was written
 pub record Makes (old new : Processor) (mv : Move) (before after : Streams) : Type 0 where
   pub rest : List ℕ
   pub told : IsTold before.input rest
@@ -40,13 +40,13 @@ pub record Makes (old new : Processor) (mv : Move) (before after : Streams) : Ty
 abbrev pub CallsHere : Processor → Type 0
 CallsHere p = Where (passenger_at p.state.cells p.plan.stages) ⊥ (λ q. instruction q ≡ Ecall)
 
--- the input failed the call behind some bytes: the buffer holds them, and the processor has failed
+-- the input failed the call after some bytes: the buffer holds them, and the processor has failed
 pub record FailsToRead (old new : Processor) (before after : Streams) : Type 0 where
   pub calls : CallsHere old
   pub fails : FailsReading old.state.regs old.state.mem new.state.mem before after
   pub processor : new ≡ in_state old (record old.state { mem = new.state.mem; failed = true })
 
--- the output failed the call behind a front of the buffer's bytes, and the processor has failed
+-- the output failed the call after a front of the buffer's bytes, and the processor has failed
 pub record FailsToWrite (old new : Processor) (before after : Streams) : Type 0 where
   pub calls : CallsHere old
   pub fails : FailsWriting old.state.regs old.state.mem before after
@@ -107,7 +107,7 @@ output_stepped WriteFault = Err tt
 output_stepped (Moved e) = Ok tt
 output_stepped (Barred b) = Ok tt
 
--- the same of Serve alone
+-- the same for Serve alone
 abbrev pub input_served : Result (Unit {0}) Fault → Result (Unit {0}) (Unit {0})
 input_served (Ok done) = Ok tt
 input_served (Err fault.Read) = Err tt
@@ -118,7 +118,7 @@ output_served (Ok done) = Ok tt
 output_served (Err fault.Read) = Ok tt
 output_served (Err fault.Write) = Err tt
 
--- and of a move that is made
+-- and for a move that is made
 abbrev pub input_made : Result Event Fault → Result (Unit {0}) (Unit {0})
 input_made (Ok e) = Ok tt
 input_made (Err fault.Read) = Err tt

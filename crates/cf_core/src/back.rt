@@ -13,7 +13,7 @@ use crate::processor::Processor;
 use crate::undo::{Few, OldCell, OldLane, OldOp, OldRegister, Undo};
 use cf_ends::Ends;
 
-/// Takes the last requests out, so many or all.
+/// Takes the last requests out: this many, or all where there are fewer.
 fn cut_lane(ends: &mut Ends, count: u32)
     ensures { ends.new ≡ record ends.old { lane = take (length ends.old.lane - count) ends.old.lane } }
 {

@@ -16,7 +16,7 @@ use crate::rows::first_of;
 use cf_bind::{Bar, Binding, Cell, Fetch, Guess, Packet, Passenger};
 use cf_passengers::{Asked, fetched, fresh, goto, isa_of, may_guess, requests};
 
-/// Fetch runs at the address, or waits where there is none.
+/// Fetch runs at the address, or waits where none is given.
 #[inline(always)]
 fn fetch_at(place: Option<u32>) -> Fetch
     ensures { result ≡ fetch_there place }
@@ -129,7 +129,7 @@ impl Processor {
     }
 
     /// Takes in a result that has left. A value is kept where the layout has the cache. Fetch goes on where a
-    /// turn sends it and waits behind a halt; in both cases nothing is kept any more.
+    /// turn sends it and waits after a halt; in both cases nothing is kept any more.
     #[inline(always)]
     fn take_in(&mut self, packet: Packet)
         requires { IsPacket packet }

@@ -30,11 +30,11 @@ use std::alloc::{AllocError, Global};
 use std::marker::Model;
 
 /// A counterflow pipeline processor (Sproull, Sutherland and Molnar, "Counterflow Pipeline Processor Architecture", 1994),
-/// seen as its layout and its state. It changes by `make`, `step` and `back` alone: one local move is made, or taken back.
+/// seen as its layout and its state. It changes only by `make`, `step` and `back`: one local move is made, or taken back.
 /// No call but `new` takes memory.
 ///
-/// Of every processor it holds that each instruction in the pipes is one of its instruction set, that one without an
-/// instruction has ended the program, that each operation in a siding is of a class of the siding, and that memory permits
+/// It holds of every processor that each instruction in the pipes is one of its instruction set, or ends the program where
+/// none could be read, that each operation in a siding is of a class of the siding, and that memory permits
 /// each load and store there.
 #[derive(Drop)]
 pub struct Core {
@@ -113,7 +113,7 @@ impl Core {
         self.processor.sidings.cell(k, c)
     }
 
-    /// The cells of a siding, from the one that operations enter by; sidings are counted from 0.
+    /// The cells of a siding, from the one by which operations enter; sidings are counted from 0.
     #[inline(always)]
     #[tactic(auto, using(crate::proofs::Berths::berths, crate::proofs::Berths::reading))]
     pub fn siding(&self, k: u32) -> &[Option<Op>]
@@ -169,7 +169,7 @@ impl Core {
         self.processor.ends.regs()
     }
 
-    /// The value that is kept at the bottom for a register, if one is.
+    /// The value that is kept at the bottom for a register, if any.
     #[inline(always)]
     pub fn cached(&self, r: u8) -> Option<u32>
         requires { r < 32 }
@@ -210,14 +210,14 @@ impl Core {
         self.processor.failed
     }
 
-    /// Makes an allowed move, without testing its bars again, and tells what is seen of it from outside.
+    /// Makes an allowed move, without testing its bars again, and answers what is seen of it from outside.
     ///
-    /// An error comes only of Serve with ECALL in the highest stage, where the input or the output failed the call of the
+    /// An error comes only from Serve with ECALL in the highest stage, where the input or the output failed the call of the
     /// environment: the processor bars every move from then on, the guest's buffer is as [`rv_machine::serve`] leaves it, and
     /// all else is as before.
     ///
     /// The input is asked only by Serve where the instruction in the highest stage is an ECALL whose call asks the input; the
-    /// output likewise. Every other move leaves it as it is, whatever it tells of itself.
+    /// output likewise. Every other move leaves both as they are, whatever they tell of themselves.
     #[inline(always)]
     #[tactic(auto, using(crate::proofs::KeptServe::making))]
     pub fn make<S: Source, K: Sink>(
@@ -248,13 +248,13 @@ impl Core {
 
     /// Makes a move, if nothing bars it.
     ///
-    /// `Barred` tells the first bar of the move's row in the table of moves; nothing has changed then. `Moved` tells what is
-    /// seen of the move from outside. `ReadFault` and `WriteFault` come only of Serve with ECALL in the highest stage, where
+    /// `Barred` has the first bar of the move's row in the table of moves; nothing has changed then. `Moved` has what is
+    /// seen of the move from outside. `ReadFault` and `WriteFault` come only from Serve with ECALL in the highest stage, where
     /// the input or the output failed the call of the environment: the processor bars every move from then on, the guest's
     /// buffer is as [`rv_machine::serve`] leaves it, and all else is as before.
     ///
     /// The input is asked only by Serve, where nothing bars it and the instruction in the highest stage is an ECALL whose call
-    /// asks the input; the output likewise. Every other move leaves it as it is, whatever it tells of itself.
+    /// asks the input; the output likewise. Every other move leaves both as they are, whatever they tell of themselves.
     #[inline(always)]
     #[tactic(auto, unfolding(crate::specs::Stepping::Steps, crate::specs::Stepping::MakesOrFails))]
     pub fn step<S: Source, K: Sink>(&mut self, m: Move, input: &mut S, output: &mut K) -> Step

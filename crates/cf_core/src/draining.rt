@@ -18,7 +18,7 @@ impl Processor {
 }
 
 impl Core {
-    /// Whether no instruction, result, request or operation is anywhere.
+    /// Whether there is no instruction, result, request or operation anywhere.
     #[inline(always)]
     #[tactic(auto, unfolding(cf_semantics::specs::state::Drained::is_drained))]
     pub fn drained(&self) -> bool

@@ -14,7 +14,7 @@ use crate::processor::Processor;
 use cf_bind::{Fetch, Guess};
 use cf_passengers::{may_guess, requests};
 
-/// The guesses that an instruction can be issued with now, but for an address.
+/// The guesses, other than an address, that an instruction can be issued with now.
 #[derive(Clone, Copy, PartialEq, Eq)]
 pub struct Issuable {
     /// The next word.
@@ -23,7 +23,7 @@ pub struct Issuable {
     /// The target of a branch or of JAL.
     pub taken: bool,
 
-    /// None: fetch waits for the outcome.
+    /// To wait: fetch waits for the outcome.
     pub wait: bool,
 }
 
@@ -42,8 +42,8 @@ impl Issuable {
 }
 
 impl Processor {
-    /// The guesses that the row of Issue allows at this address, where the lowest stage is free. They differ in the guess
-    /// alone, so that the instruction is decoded once.
+    /// The guesses that the row of Issue allows at this address, where the lowest stage is free. They differ only in
+    /// the guess, so that the instruction is decoded once.
     #[inline(always)]
     fn issuable_at(&self, pc: u32) -> Issuable
         requires facts { IsProcessor self.now.plan self.now.state }

@@ -73,7 +73,7 @@ impl Processor {
 
     /// Whether an allowed move leaves what is kept of all stages as it is, as most moves do: those of an instruction that has
     /// nothing left to do, a meeting with a value that the instruction does not await, where it does not stop, and those of a
-    /// result, unless it comes to where an operation can be launched, which it may bar.
+    /// result, unless it comes to a stage where an operation can be launched, which it may bar.
     #[inline(always)]
     #[tactic(auto, using(crate::proofs::Sites::moving), unfolding(crate::specs::Marks::keeps_marks))]
     pub(crate) fn keeps_marks(&self, marks: Marks, m: Move) -> bool

@@ -74,8 +74,8 @@ pub fn t4_3()
         Heeds plan x (run plan (start plan x) moves) mv }
 {}
 
-/// The retirement lines of two runs of one program, under any two layouts and orders of moves, are one a prefix of the
-/// other.
+/// The retirement lines of two runs of one program, under any two layouts and orders of moves: one list is a prefix
+/// of the other.
 pub fn t4_4()
     ensures { (plan other : Plan) (x : Sequential) (moves others : List Move) → IsAccepted plan → IsAccepted other →
         length x.hart.regs ≡ 32 → IsRun plan (start plan x) moves → IsRun other (start other x) others →
@@ -147,8 +147,8 @@ pub fn runs_are_taken_back()
 {}
 
 /// The refinement move by move. Seen through count, registers and ending a move is no step of the sequential machine, or it is
-/// Leave, and exactly the machine's next step; seen through input and output Serve alone is one, and seen through memory
-/// Access and Serve alone. A rank, the weight, falls at each move but Issue, which no view sees.
+/// Leave, and exactly the machine's next step; seen through input and output only Serve is a step, and seen through memory
+/// only Access and Serve. A rank, the weight, falls at each move but Issue, which no view sees.
 pub fn stutters()
     ensures views { (plan : Plan) (x : Sequential) (m : Moment) (mv : Move) → IsAccepted plan → length x.hart.regs ≡ 32 →
         IsReached plan x m → bar plan m.state mv ≡ None → Stutters plan x m mv }

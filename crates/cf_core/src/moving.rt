@@ -56,8 +56,8 @@ impl Processor {
         }
     }
 
-    /// Makes an allowed move, which is not Serve, and tells what is seen of it.
-    // The moves that are rare are calls, so that the others become a part of the loop of a run.
+    /// Makes an allowed move, which is not Serve, and answers what is seen of it.
+    // Rare moves are calls, so that the others become a part of the loop of a run.
     #[inline(always)]
     fn make_inside(&mut self, m: Move) -> Event
         requires facts { IsProcessor self.old.plan self.old.state }
@@ -86,7 +86,7 @@ impl Processor {
         Event::Plain
     }
 
-    /// Makes an allowed move, and tells what is seen of it, or that the input or the output failed it.
+    /// Makes an allowed move, and answers what is seen of it, or that the input or the output failed it.
     #[inline(always)]
     #[tactic(auto, using(crate::proofs::Steps::stepping), unfolding(cf_semantics::specs::moves::Bars::bar, crate::specs::Stepping::MakesOrFails))]
     pub(crate) fn make<S: Source, K: Sink>(

@@ -1,8 +1,8 @@
-//! What a store wrote over.
+//! What a store overwrote.
 
 ghost use Rattle.std.specs.Prelude.{◌==◌, ◌||◌, IsTrue};
 
-/// The number of 1, 2 or 4 bytes that a store wrote over.
+/// The number of 1, 2 or 4 bytes that a store overwrote.
 #[derive(Clone, Copy)]
 pub(crate) struct OldNumber {
     pub(crate) addr: u32,

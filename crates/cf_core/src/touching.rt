@@ -10,7 +10,7 @@ use crate::processor::Processor;
 use cf_bind::Move;
 use cf_passengers::kind;
 
-/// The stages of which something else can hold after a move: one or two.
+/// The stages for which what holds can change with a move: one or two.
 #[derive(Clone, Copy)]
 pub(crate) struct Touched {
     pub(crate) low: u32,
@@ -57,7 +57,7 @@ impl Processor {
         }
     }
 
-    /// The stages of which something else can hold after an allowed move.
+    /// The stages for which what holds can change with an allowed move.
     #[inline(always)]
     #[tactic(auto, using(crate::proofs::Sites::touching), unfolding(crate::specs::Marks::touched))]
     pub(crate) fn touched(&self, m: Move) -> Touched

@@ -6,7 +6,7 @@ ghost use Rattle.cf_core.specs.Undo.{kept_by};
 use crate::old_number::OldNumber;
 use cf_bind::{Cell, End, Fetch, Move, Op};
 
-/// Nothing, one or two of what a move writes.
+/// Nothing, or one or two of the things that a move writes.
 #[derive(Clone, Copy)]
 pub(crate) enum Few<T> {
     Nothing,
@@ -38,7 +38,7 @@ pub(crate) enum OldLane {
     /// It took out the first request.
     Taken(u8),
 
-    /// It added so many behind the others.
+    /// It added this many after the others.
     Added(u32),
 }
 

@@ -1,4 +1,4 @@
--- The first move of a list that stands behind another.
+-- The first move of a list that comes after another.
 use Rattle.std.proofs.Common.{◌≡◌, ◌∙◌, sym, refl, ap, ℕ, ◌^◌, ◌<◌, ◌≤◌, List, [], ◌∷◌, ◌++◌, length, Bool, true, false, cond, nat_lt, Option, Some, None, arith}
 use Rattle.std.specs.Prelude.{filter, find, not, slice_get}
 use Rattle.std.specs.List.{position_or_len}
@@ -50,7 +50,7 @@ found_second p (x ∷ xs) ys e = second_choice (p x) x (find p xs) (find p (xs +
 abbrev pub others_allowed : Plan → State → List Move
 others_allowed plan s = filter (is_allowed plan s) (all_passing plan) ++ (filter (is_allowed plan s) (slides_from 0 plan.sidings) ++ filter (is_allowed plan s) (all_leaving plan))
 
--- nothing that enters stands behind Emit or a move of a later kind
+-- nothing that enters comes after Emit or a move of a later kind
 step_none : (p : Move → Bool) (b : Bool) (x : Move) (xs : List Move) → p x ≡ false → find p xs ≡ None → find p (cond b (x ∷ xs) xs) ≡ None
 step_none p true x xs off rest = rw off rest
 step_none p false x xs off rest = rest
@@ -73,7 +73,7 @@ found_candidate plan s last m behind found =
     found_second (stands_behind last) (filter q all_entering) _ (entering_none last q behind) ∙ found in
     ap (find (stands_behind last)) (sym parts) ∙ whole
 
--- and among those that are held back, where it is no Issue
+-- and among those that are held back, where it is not an Issue
 others_choice : (p : Move → Bool) (x : Move) (xs rest : List Move) (m : Move) (b i : Bool) → p x ≡ b → (b ≡ true → i ≡ false) → (find p xs ≡ Some m → find p rest ≡ Some m) → cond b (Some x) (find p xs) ≡ Some m → find p (cond (not i) (x ∷ rest) rest) ≡ Some m
 others_choice p x xs rest m true false e other more at = rw e at
 others_choice p x xs rest m true true e other more at = absurd (cc (other refl))
@@ -95,7 +95,7 @@ found_held p xs m other e =
     let some : nat_lt 0 (length (other_moves xs)) ≡ true = grind (arith, nat_tests) in
     rw some f
 
--- the first that is found stands at the place of the first behind
+-- the first that is found stands at the place of the first after the last move
 pub found_behind : (last : Move) (xs : List Move) (m : Move) → find (stands_behind last) xs ≡ Some m → Some m ≡ slice_get xs (first_behind (Some last) xs)
 unfolding first_behind
 found_behind last xs m e =

@@ -50,7 +50,7 @@ filter_first p k (suc n) t low high here before =
     (λ at. grind (arith, before k))
     (λ off. filter_first p (suc k) n t (grind (arith, here)) (omega arith) here (λ i above below. before i (omega arith) below))
 
--- a filter over moves f of the numbers from a on is g of the numbers from b on that pass t, of which those behind the n-th pass t no more
+-- a filter over moves f of the numbers from a on is g of the numbers from b on that pass t, of which those after the n-th pass t no more
 pub filter_chosen : {X : Type 0} (p : X → Bool) (f g : ℕ → X) (t : ℕ → Bool) (a b n total : ℕ) → n ≤ total → ((c : ℕ) → c < total → t (b + c) ≡ (nat_lt c n && p (f (a + c)))) → ((c : ℕ) → c < n → g (b + c) ≡ f (a + c)) → filter p (map f (counted_from a n)) ≡ map g (filter t (counted_from b total))
 filter_chosen p f g t a b zero total few test same = rw (filter_none t b total (λ i low high. let e : b + (i - b) ≡ i = omega arith in let off : nat_lt (i - b) 0 ≡ false = grind (arith, nat_tests) in rw (e, off) at (test (i - b) (omega arith)))) refl
 filter_chosen p f g t a b (suc n) zero few test same = absurd (omega arith)

@@ -20,7 +20,7 @@ use Rattle.cf_index.specs.Listed.{flagged, at_word, slide_at, slides_of, passing
 use Rattle.cf_index.specs.Allowed.{is_allowed, HasStages, all_entering, all_passing, all_leaving}
 use Rattle.cf_index.proofs.Counted.{counted_split, filter_none, filter_chosen}
 
--- before any was gone over the word has none
+-- before any siding was visited the word has no bit
 pub none_of_any : (j : ℕ) (b : Bool) → has_bit 0 j ≡ (nat_lt (j / 8) 0 && b)
 none_of_any j b = let e : nat_lt (j / 8) 0 ≡ false = grind (arith, nat_tests) in rw (no_bits j, e) refl
 
@@ -94,7 +94,7 @@ within p w k (suc n) (siding ∷ sidings) few small has =
     rw e (filter-append p (map (Slide k) (counted_from 0 (siding.cells - 1))) (slides_from (suc k) sidings)
     ∙ rw (first, rest) (sym (ap (map slide_at) right ∙ map-append slide_at low high)))
 
--- a siding that there is not has no cells
+-- a siding that does not exist has no cells
 no_cells : (sidings : List SidingPlan) (m : ℕ) → length sidings ≤ m → cells_in sidings m ≡ 0
 unfolding cells_in
 no_cells sidings m past = ap (λ (o : Option SidingPlan). (unwrap_or o no_siding).cells) (slice_get_past sidings m past)

@@ -20,7 +20,7 @@ use Rattle.cf_index.proofs.Filled.{all_chosen}
 use Rattle.cf_index.proofs.Held.{others_parts}
 use Rattle.cf_index.proofs.Passed.{later}
 
--- the first that is no Issue
+-- the first that is not an Issue
 pub emit_first : (plan : Plan) (s : State) → is_allowed plan s Emit ≡ true → Some Emit ≡ slice_get (allowed_others plan s) 0
 emit_first plan s e = rw e refl
 
@@ -126,9 +126,9 @@ unfolding rest_of
 first_free plan s held None e next taken wait first = tt
 first_free plan s held (Some m) e next taken wait first = rw (e, in_parts plan s, next, taken, wait) first
 
--- Behind a move --
+-- After a move --
 
--- the first of all stands behind an Issue, where it is none
+-- the first of all comes after an Issue, where it is not one itself
 pub behind_issue : (xs : List Move) (last m : Move) → Some m ≡ slice_get xs 0 → stands_behind last m ≡ true → Some m ≡ slice_get xs (first_behind (Some last) xs)
 behind_issue [] last m e behind = absurd (cc)
 behind_issue (x ∷ xs) last m e behind = found_behind last (x ∷ xs) m (let is : x ≡ m = cc in rw (is, behind) refl)
@@ -153,7 +153,7 @@ pub unissued : (xs : List Move) (last : Move) (o : Option Move) → kind_place l
 unissued xs last None issue first other = tt
 unissued xs last (Some m) issue first other = behind_issue xs last m first (later last m (let behind = other_kind m other in omega (arith, issue, behind)))
 
--- where none stands behind, it is the first of all
+-- where none comes after, it is the first of all
 past_end : {X : Type 0} (xs : List X) (k : ℕ) → slice_get xs k ≡ None → length xs ≤ k
 past_end [] k e = omega arith
 past_end (x ∷ xs) zero e = absurd (cc)

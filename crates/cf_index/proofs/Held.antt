@@ -1,4 +1,4 @@
--- Which moves are no Issue, and when there are none.
+-- Which moves are not Issue, and when there are no such moves.
 use Rattle.std.proofs.Common.{◌≡◌, ◌∙◌, refl, ℕ, ◌+◌, ◌<◌, ◌≤◌, List, [], ◌∷◌, ◌++◌, length, map, Bool, true, false, nat_lt, arith}
 use Rattle.std.specs.Prelude.{not}
 use Rattle.std.proofs.lemmas.Bool.Decides.{nat_tests}
@@ -18,7 +18,7 @@ kept : (f : ℕ → Move) (ks : List ℕ) → ((k : ℕ) → is_issue (f k) ≡ 
 kept f [] none = refl
 kept f (k ∷ ks) none = rw (none k, kept f ks none) refl
 
--- the moves of a word are none, where their kind is not
+-- the moves of a word are not Issue, where their kind is not
 others_word : (kind : ℕ → Move) (w : ℕ) → ((k : ℕ) → is_issue (kind k) ≡ false) → other_moves (at_word kind w) ≡ at_word kind w
 unfolding at_word
 others_word kind w none = kept (λ k. kind (k + 1)) (places 64 w) (λ k. none (k + 1))
@@ -64,7 +64,7 @@ held_others es others rest e none some =
     let t : nat_lt 0 (length (others ++ rest)) ≡ true = rw (length-append others rest) (grind (arith, nat_tests)) in
     rw (f, t) refl
 
--- and not where there are none
+-- and not where no others are there
 held_alone : (es others rest : List Move) → others ≡ other_moves es → other_moves rest ≡ rest → length others + length rest ≡ 0 → es ++ rest ≡ held_back (es ++ rest)
 unfolding held_back
 held_alone es others rest e none alone =

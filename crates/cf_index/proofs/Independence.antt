@@ -25,7 +25,7 @@ seat plan Registers = Stage plan.stages
 seat plan Count = Stage plan.stages
 seat plan x = x
 
--- what moves other than Serve and the Leave that ends the program read alone
+-- what moves other than Serve and the Leave that ends the program only read
 abbrev is_read_only : Site → Bool
 is_read_only Code = true
 is_read_only Ended = true
@@ -78,7 +78,7 @@ recovers_within plan k i low e = go (nat_lt k (length plan.sidings)) refl
         let none : (siding_plan plan k).recover ≡ 0 = ap (λ (siding : SidingPlan). siding.recover) (past plan.sidings k high) in
         absurd (omega (arith, none, e))
 
--- a move that can be made at a stage is made at one from the first on
+-- a stage at which a move can be made is the first or above it
 launch_low : (plan : Plan) (s : State) (i : ℕ) → row_bar plan s (Launch i) ≡ None → 1 ≤ i
 launch_low plan s zero e = absurd (cc)
 launch_low plan s (suc i) e = omega arith
@@ -133,7 +133,7 @@ either : (a b : Bool) → (a || b) ≡ true → (a ≡ true) ⊎ (b ≡ true)
 either true b e = inl refl
 either false b e = inr e
 
--- a move that launches or recovers does so at a stage from the first on
+-- the stage at which a move launches or recovers is the first or above it
 abbrev HasStage : Move → Type 0
 HasStage (Launch i) = 1 ≤ i
 HasStage (Recover i) = 1 ≤ i
@@ -193,7 +193,7 @@ seated plan s Exit x h free plain e =
     found (IsSeated plan Exit) x (Stage 1 ∷ Fetching ∷ Cache ∷ []) (record { there = refl; written = refl }, (record { there = refl; written = refl }, (record { there = refl; written = refl }, tt))) e
 seated plan s Serve x h free plain e = absurd (cc)
 
--- what it reads besides is seated so too, or read alone
+-- what it reads in addition is seated likewise, or only read
 read_seated : (plan : Plan) (s : State) (mv : Move) (x : Site) → stands_alone plan s mv ≡ false → only_reads mv x ≡ true → (uses_place plan mv (seat plan x) ≡ true) ⊎ (is_read_only x ≡ true)
 unfolding uses_place
 read_seated plan s (Issue g) x plain e = found (λ (y : Site). (among (seat plan y) (used plan (Issue g)) ≡ true) ⊎ (is_read_only y ≡ true)) x (Code ∷ Ended ∷ Failure ∷ []) (inr refl, (inr refl, (inr refl, tt))) e
@@ -211,7 +211,7 @@ read_seated plan s Leave x plain e = found (λ (y : Site). (among (seat plan y) 
 read_seated plan s Exit x plain e = found (λ (y : Site). (among (seat plan y) (used plan Exit) ≡ true) ⊎ (is_read_only y ≡ true)) x (Ended ∷ Failure ∷ []) (inr refl, (inr refl, tt)) e
 read_seated plan s Serve x plain e = absurd (cc)
 
--- it writes nothing besides
+-- it writes nothing in addition
 writes_no_more : (plan : Plan) (s : State) (mv : Move) (x : Site) → stands_alone plan s mv ≡ false → only_writes plan s mv x ≡ false
 writes_no_more plan s (Issue g) x plain = refl
 writes_no_more plan s Emit x plain = refl
@@ -246,7 +246,7 @@ written_seated plan s mv x h p e = go (either (uses plan s mv x) (only_writes pl
     go (inl f) = seated plan s mv x h p.staged p.plain f
     go (inr f) = absurd (let none = writes_no_more plan s mv x p.plain in cc)
 
--- what it touches is seated, or read alone
+-- what it touches is seated, or only read
 touched_seated : (plan : Plan) (s : State) (mv : Move) (x : Site) → HasSidings plan s → IsApart plan s mv → (reads plan s mv x || writes plan s mv x) ≡ true → (uses_place plan mv (seat plan x) ≡ true) ⊎ (is_read_only x ≡ true)
 touched_seated plan s mv x h p e = go (either (reads plan s mv x) (writes plan s mv x) e)
   where
@@ -293,7 +293,7 @@ unshared_back plan a b e = go (shares plan b a) refl
         let place = shared_place plan b a f in
         absurd (let both : shares plan a b ≡ true = shared_at plan a b place.0 place.2 place.1 in cc)
 
--- a move that shares no place with a Leave leaves it what it was
+-- a move that shares no place with a Leave does not change whether that ends the program
 leave_stays : (plan : Plan) (m : Moment) (a : Move) → HasSidings plan m.state → bar plan m.state a ≡ None → stands_alone plan m.state a ≡ false → shares plan a Leave ≡ false → ends_there plan (next plan m a).state ≡ ends_there plan m.state
 unfolding uses_place
 leave_stays plan m a h free plain apart = go (writes plan m.state a (Stage plan.stages)) refl

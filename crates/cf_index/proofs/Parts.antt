@@ -20,7 +20,7 @@ here [] ys i x e = absurd (cc)
 here (y ∷ xs) ys zero x e = e
 here (y ∷ xs) ys (suc i) x e = here xs ys i x e
 
--- an element behind the first part
+-- an element after the first part
 beyond_by : {X : Type 0} (xs ys : List X) (j : ℕ) → slice_get ys j ≡ slice_get (xs ++ ys) (length xs + j)
 beyond_by [] ys j = let e : 0 + j ≡ j = omega arith in rw e refl
 beyond_by (x ∷ xs) ys j = let e : suc (length xs) + j ≡ suc (length xs + j) = omega arith in rw e (beyond_by xs ys j)
@@ -37,7 +37,7 @@ of_word kind w k i e = rw (slice_get-map (λ k. kind (k + 1)) (places 64 w) i, �
 pub in_word : (kind : ℕ → Move) (w k i : ℕ) (ys : List Move) → Some k ≡ slice_get (places 64 w) i → Some (kind (k + 1)) ≡ slice_get (at_word kind w ++ ys) i
 in_word kind w k i ys e = here (at_word kind w) ys i (kind (k + 1)) (of_word kind w k i e)
 
--- a move behind those of a word
+-- a move after those of a word
 pub past_word : (kind : ℕ → Move) (w n i : ℕ) (x : Move) (ys : List Move) → n ≡ length (places 64 w) → n ≤ i → Some x ≡ slice_get ys (i - n) → Some x ≡ slice_get (at_word kind w ++ ys) i
 past_word kind w n i x ys e behind at = beyond (at_word kind w) ys n i x (e ∙ sym (length-at_word kind w)) behind at
 
@@ -69,7 +69,7 @@ pub length_flag : (b : Bool) (mv : Move) → bool_byte b ≡ length (flagged b m
 length_flag true mv = refl
 length_flag false mv = refl
 
--- a move behind that of a flag
+-- a move after that of a flag
 pub past_flag : (b : Bool) (mv : Move) (i : ℕ) (x : Move) (ys : List Move) → bool_byte b ≤ i → Some x ≡ slice_get ys (i - bool_byte b) → Some x ≡ slice_get (flagged b mv ++ ys) i
 past_flag b mv i x ys behind at = beyond (flagged b mv) ys (bool_byte b) i x (length_flag b mv) behind at
 
@@ -79,12 +79,12 @@ at_flag true mv zero ys below = refl
 at_flag true mv (suc i) ys below = absurd (omega arith)
 at_flag false mv i ys below = absurd (omega arith)
 
--- and where no move stands behind it
+-- and where no move comes after it
 pub only_flag : (b : Bool) (mv : Move) (i : ℕ) → i < length (flagged b mv) → Some mv ≡ slice_get (flagged b mv) i
 only_flag true mv zero below = refl
 only_flag true mv (suc i) below = absurd (omega arith)
 only_flag false mv i below = absurd (omega arith)
 
--- what is left of the place of a move behind the first part
+-- what is left of the place of a move after the first part
 pub rest_below : {X : Type 0} (xs ys : List X) (n i : ℕ) → n ≡ length xs → n ≤ i → i < length (xs ++ ys) → i - n < length ys
 rest_below xs ys n i e behind below = let l = rw (length-append xs ys) at below in omega arith

@@ -1,4 +1,4 @@
--- How many moves come before the first that stands behind another.
+-- How many moves come before the first after another.
 use Rattle.std.proofs.Common.{◌≡◌, ◌∙◌, refl, ℕ, zero, suc, ◌+◌, ◌<◌, ◌≤◌, List, [], ◌∷◌, ◌++◌, length, map, Bool, true, false, cond, nat_lt, arith}
 use Rattle.std.specs.Prelude.{filter, not}
 use Rattle.std.specs.List.{prefix_len}
@@ -11,14 +11,14 @@ use Rattle.cf_index.specs.Places.{places}
 use Rattle.cf_index.specs.Listed.{flagged, at_word}
 use Rattle.cf_index.specs.Order.{kind_place, below_or, stands_behind, passed}
 
--- a move of an earlier kind does not stand behind, and one of a later kind does
+-- a move of an earlier kind does not come after the last move, and one of a later kind does
 pub earlier : (last mv : Move) → kind_place mv < kind_place last → stands_behind last mv ≡ false
 earlier last mv before = grind (arith, nat_tests)
 
 pub later : (last mv : Move) → kind_place last < kind_place mv → stands_behind last mv ≡ true
 later last mv behind = grind (arith, nat_tests)
 
--- one move more that is passed, as all behind it in the first part are
+-- one move more that is passed, as all after it in the first part are
 all_step : (b : Bool) (m l n k : ℕ) → cond (not b) (1 + m) 0 ≡ suc l → (m ≡ l → n ≡ l + k) → cond (not b) (1 + n) 0 ≡ suc l + k
 all_step true m l n k e more = absurd (omega arith)
 all_step false m l n k e more = let h = more (omega arith) in omega arith
@@ -35,7 +35,7 @@ unfolding passed
 passed_part last [] ys none = none
 passed_part last (x ∷ xs) ys none = rw (passed_part last xs ys none) refl
 
--- the moves of a function that all stand behind, and that none does
+-- the moves of a function, all or none of which come after
 pub map_none : (last : Move) (f : ℕ → Move) (ks : List ℕ) → ((k : ℕ) → stands_behind last (f k) ≡ true) → passed last (map f ks) ≡ 0
 unfolding passed
 map_none last f [] behind = refl
@@ -46,13 +46,13 @@ unfolding passed
 map_all last f [] before = refl
 map_all last f (k ∷ ks) before = rw (before k, map_all last f ks before) (omega arith)
 
--- and that stand behind from a number on
+-- and those that come after from some number on
 pub map_part : (last : Move) (f : ℕ → Move) (i : ℕ) (ks : List ℕ) → ((k : ℕ) → not (stands_behind last (f k)) ≡ nat_lt k i) → passed last (map f ks) ≡ prefix_len (λ k. nat_lt k i) ks
 unfolding passed
 map_part last f i [] part = refl
 map_part last f i (k ∷ ks) part = rw (part k, map_part last f i ks part) refl
 
--- numbers from i on are none below i
+-- no number from i on is below i
 none_choice : (b : Bool) (i a : ℕ) (xs : List ℕ) → nat_lt a i ≡ false → filter (λ k. nat_lt k i) xs ≡ [] → filter (λ k. nat_lt k i) (cond b (a ∷ xs) xs) ≡ []
 none_choice true i a xs high none = rw high none
 none_choice false i a xs high none = none
@@ -101,7 +101,7 @@ both_all last xs ys e f = passed_all last xs ys e ∙ rw (f, length-append xs ys
 pub step_part : (last : Move) (kind : ℕ → Move) (i w : ℕ) (ys : List Move) → ((k : ℕ) → not (stands_behind last (kind (k + 1))) ≡ nat_lt k i) → passed last ys ≡ 0 → passed last (at_word kind w ++ ys) ≡ length (filter (λ k. nat_lt k i) (places 64 w))
 step_part last kind i w ys part none = passed_part last (at_word kind w) ys none ∙ word_part last kind i w part
 
--- a move at a stage up to i does not stand behind the one at i
+-- a move at a stage up to i does not come after the one at i
 pub up_to : (i k : ℕ) → not (below_or i (k + 1) false) ≡ nat_lt k i
 up_to i k = grind (arith, nat_tests)
 

@@ -1,4 +1,4 @@
--- How many candidates come before the first that stands behind another.
+-- How many candidates come before the first after another.
 use Rattle.std.proofs.Common.{◌≡◌, ◌∙◌, refl, ap, ℕ, ◌+◌, ◌<◌, ◌++◌, List, [], ◌∷◌, length, None, true, nat_lt, arith}
 use Rattle.std.proofs.lemmas.Bool.Decides.{nat_tests}
 use Rattle.cf_bind.specs.declared.moves.Move.{Move}
@@ -44,7 +44,7 @@ passed_leaving e p w l last behind =
     passed_all last (passing_moves p) _ (passing_all p last (omega arith)) ∙ ap (λ n. length (passing_moves p) + n) (
     passed_all last (slides_of w) _ (slides_all w last behind) ∙ rw (length-slides_of w) refl))
 
--- where there is no last move the first stands behind it
+-- where there is no last move the first comes after it
 pub no_last : (moves : List Move) → 0 ≡ first_behind None moves
 unfolding first_behind
 no_last [] = refl

@@ -1,4 +1,4 @@
--- How many of the moves that enter, that stand within the sidings and that leave come before the first that stands behind another.
+-- How many of the moves that enter, that stand within the sidings and that leave come before the first after another.
 use Rattle.std.proofs.Common.{◌≡◌, ◌∙◌, sym, refl, ap, ℕ, ◌+◌, ◌*◌, ◌/◌, ◌%◌, ◌<◌, ◌≤◌, ◌++◌, List, length, Bool, false, nat_lt, arith}
 use Rattle.std.specs.Prelude.{filter, not, if◌then◌else◌}
 use Rattle.std.proofs.lemmas.Bool.Decides.{nat_tests}
@@ -16,7 +16,7 @@ use Rattle.cf_index.specs.Order.{kind_place, below_or, stands_behind, passed}
 use Rattle.cf_index.proofs.Parts.{length_flag}
 use Rattle.cf_index.proofs.Passed.{earlier, later, map_all, map_none, map_part, ascending, passed_all, passed_part, step_all, step_part, word_all, word_none, flag_all, flag_none, both_none, both_all, up_to}
 
--- Emit does not stand behind itself, nor behind a move of a later kind
+-- Emit does not come after itself, nor after a move of a later kind
 not_emit : (last : Move) → 1 ≤ kind_place last → stands_behind last Emit ≡ false
 not_emit last behind = grind (arith, nat_tests)
 
@@ -28,7 +28,7 @@ entering_all e last behind =
     both_all last _ _ (flag_all last e.taken (Issue Taken) (earlier last (Issue Taken) (omega arith))) (
     both_all last _ _ (flag_all last e.wait (Issue Wait) (earlier last (Issue Wait) (omega arith))) (flag_all last e.emit Emit (not_emit last behind))))
 
--- the cells of a siding that do not stand behind a cell: as many as up to it, of 8
+-- the cells of a siding that do not come after a cell: as many as up to it, of 8
 abbrev cells_up_to : ℕ → ℕ
 cells_up_to c = if nat_lt c 7 then c + 1 else 8
 
@@ -57,7 +57,7 @@ leaving_none l last before =
     both_none last _ _ (flag_none last l.leave Leave (later last Leave (omega arith))) (
     both_none last _ _ (flag_none last l.exit Exit (later last Exit (omega arith))) (flag_none last l.serve Serve (later last Serve (omega arith))))))
 
--- which is any but those that leave
+-- that is, of any kind but those that leave
 pub enters_or_passes : (last : Move) → (last ≡ Access → ⊥) → ((i : ℕ) → last ≡ Recover i → ⊥) → (last ≡ Leave → ⊥) → (last ≡ Exit → ⊥) → (last ≡ Serve → ⊥) → kind_place last < 9
 enters_or_passes Access access recover leave exit serve = absurd (access refl)
 enters_or_passes (Recover i) access recover leave exit serve = absurd (recover i refl)
@@ -70,7 +70,7 @@ enters_or_passes last access recover leave exit serve = omega arith
 flag_step : (last : Move) (b : Bool) (mv : Move) (ys : List Move) → stands_behind last mv ≡ false → passed last (flagged b mv ++ ys) ≡ bool_byte b + passed last ys
 flag_step last b mv ys before = passed_all last (flagged b mv) ys (flag_all last b mv before) ∙ rw (length_flag b mv) refl
 
--- and before others of which none is
+-- and before others of which none is passed
 flag_last : (last : Move) (b : Bool) (mv : Move) (ys : List Move) → stands_behind last mv ≡ false → passed last ys ≡ 0 → passed last (flagged b mv ++ ys) ≡ bool_byte b
 flag_last last b mv ys before none = passed_part last (flagged b mv) ys none ∙ flag_all last b mv before ∙ sym (length_flag b mv)
 

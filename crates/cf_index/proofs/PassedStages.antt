@@ -1,4 +1,4 @@
--- How many of the moves in the stages come before the first that stands behind another.
+-- How many of the moves in the stages come before the first after another.
 use Rattle.std.proofs.Common.{◌≡◌, ◌∙◌, refl, ap, ℕ, ◌+◌, ◌<◌, length, nat_lt, arith}
 use Rattle.std.specs.Prelude.{filter}
 use Rattle.cf_bind.specs.declared.moves.Move.{Move}

@@ -76,7 +76,7 @@ lowest w some small =
     let t = bit_at-trailing_zeros w64 w some small in
     filter_first (has_bit w) 0 64 (trailing_zeros w64 w) (omega arith) (omega (arith, t.0)) (rw (t.1) refl) (λ i low high. rw (t.2 i high) refl)
 
--- a word less its lowest bit has the numbers behind the lowest
+-- a word less its lowest bit has the numbers after the lowest
 odd_less : (m : ℕ) → bit_and (m * 2 ^ 1 + 1) (m * 2 ^ 1 + 1 - 1) ≡ m * 2 ^ 1 + 0
 odd_less m = let e : m * 2 ^ 1 + 1 - 1 ≡ m * 2 ^ 1 + 0 = omega arith in rw (e, and_block 1 m m 1 0 (omega arith) (omega arith), and_self m) refl
 
@@ -152,7 +152,7 @@ first_left zero xs = refl
 first_left (suc i) [] = refl
 first_left (suc i) (x ∷ xs) = first_left i xs
 
--- the numbers behind the first i are those of a word that is left
+-- the numbers after the first i are those of a word that is left
 pub one_passed : (w rest i : ℕ) → rest < 2 ^ 64 → i < length (places 64 w) → places 64 rest ≡ drop i (places 64 w) → places 64 (bit_and rest (rest - 1)) ≡ drop (i + 1) (places 64 w)
 one_passed w rest i small more e =
     let l = ap length e ∙ length-drop i (places 64 w) in

@@ -1,4 +1,4 @@
--- The first move of a list that stands behind a rank.
+-- The first move of a list that comes after a rank.
 use Rattle.std.proofs.Common.{◌≡◌, ◌≢◌, ◌∙◌, sym, refl, ap, ℕ, zero, suc, ◌+◌, ◌-◌, ◌/◌, ◌%◌, ◌^◌, ◌<◌, List, [], ◌∷◌, ◌++◌, map, Bool, true, false, cond, nat_lt, Option, Some, None, arith}
 use Rattle.std.specs.Prelude.{◌&&◌, filter, find, not, slice_get}
 use Rattle.std.specs.Int.{trailing_zeros}
@@ -24,18 +24,18 @@ use Rattle.cf_index.proofs.Behinds.{found_first, found_second}
 use Rattle.cf_index.proofs.Parts.{of_slides, slides_of-zero}
 use Rattle.cf_index.proofs.Places.{lowest}
 
--- a move of an earlier kind does not stand behind, and one of a later kind does
+-- a move of an earlier kind does not come after the rank, and one of a later kind does
 pub sooner : (r : Rank) (mv : Move) → kind_place mv < r.kind → is_past r mv ≡ false
 sooner r mv before = grind (arith, nat_tests)
 
 pub later : (r : Rank) (mv : Move) → r.kind < kind_place mv → is_past r mv ≡ true
 later r mv behind = grind (arith, nat_tests)
 
--- a stage above number k is one behind
+-- a stage above number i comes after it
 pub above : (i k : ℕ) → not (nat_lt k i) ≡ nat_lt i (k + 1)
 above i k = grind (arith, nat_tests)
 
--- a word without a bit, where none stands behind
+-- a word without a bit, where none comes after
 none_left : (a b : Bool) → b ≡ false → false ≡ (a && b)
 none_left true b off = sym off
 none_left false b off = refl
@@ -45,7 +45,7 @@ nothing_left w k b off = no_bits k ∙ none_left (has_bit w k) b off
 
 -- Words --
 
--- of the moves of a word the first behind is the first of the word of those behind
+-- of the moves of a word the first after the rank is the first of the word of those after it
 pick_step : (p : Move → Bool) (f : ℕ → Move) (b q : Bool) (k : ℕ) (xs us : List ℕ) (ys : List Move) → p (f k) ≡ q → find p (map f xs ++ ys) ≡ on (slice_get us 0) (find p ys) (λ j. Some (f j)) →
     find p (map f (cond b (k ∷ xs) xs) ++ ys) ≡ on (slice_get (cond (b && q) (k ∷ us) us) 0) (find p ys) (λ j. Some (f j))
 pick_step p f false q k xs us ys e r = r
@@ -75,9 +75,9 @@ end_here r kind w new k is e = rw (append-nil (at_word kind w)) at (word_here r 
 pub end_gone : (r : Rank) (kind : ℕ → Move) (w new : ℕ) → ((j : ℕ) → has_bit new j ≡ (has_bit w j && is_past r (kind (j + 1)))) → None ≡ slice_get (places 64 new) 0 → None ≡ find (is_past r) (at_word kind w)
 end_gone r kind w new is e = rw (append-nil (at_word kind w)) at (word_gone r kind w new [] is e)
 
--- Where all stand behind, or none does --
+-- Where all come after, or none does --
 
--- the first behind is the first of all
+-- the first after is the first of all
 all_step : (p : Move → Bool) (b : Bool) (x : Move) (xs : List Move) → p x ≡ true → find p xs ≡ slice_get xs 0 → find p (cond b (x ∷ xs) xs) ≡ slice_get (cond b (x ∷ xs) xs) 0
 all_step p true x xs e rest = rw e refl
 all_step p false x xs e rest = rest
@@ -135,7 +135,7 @@ slides_none w none = rw (none, slides_of-zero) refl
 
 pub ruleset first_sliding = (slides_here, slides_none)
 
--- all stand behind an earlier kind, and none behind a later one
+-- all come after an earlier kind, and none after a later one
 pub early_slides : (plan : Plan) (s : State) (r : Rank) (w : ℕ) → r.kind < slide_place → slides_of w ≡ filter (is_allowed plan s) (slides_from 0 plan.sidings) → slice_get (slides_of w) 0 ≡ find (is_past r) (filter (is_allowed plan s) (slides_from 0 plan.sidings))
 early_slides plan s r w early e = rw e (sym (all_slides r (is_allowed plan s) 0 plan.sidings early))
 
@@ -154,7 +154,7 @@ none_sliding r q k (siding ∷ sidings) late = none_slides r q k (counted_from 0
 pub late_slides : (plan : Plan) (s : State) (r : Rank) → slide_place < r.kind → None ≡ find (is_past r) (filter (is_allowed plan s) (slides_from 0 plan.sidings))
 late_slides plan s r late = sym (none_sliding r (is_allowed plan s) 0 plan.sidings late)
 
--- Moves of which there is one --
+-- Kinds that have a single move --
 
 pub flag_here : (r : Rank) (q : Move → Bool) (mv : Move) (xs : List Move) → r.kind < kind_place mv → q mv ≡ true → Some mv ≡ find (is_past r) (filter q (mv ∷ xs))
 flag_here r q mv xs behind free = rw (free, later r mv behind) refl
@@ -171,7 +171,7 @@ flag_late r q mv xs late = late_step (is_past r) (q mv) mv (filter q xs) late
 
 -- The rank of a move --
 
--- what stands behind it stands behind the move, where this is none within the sidings and no Issue
+-- what comes after it comes after the move, where the move is neither within the sidings nor an Issue
 same_past : (last mv : Move) → 0 < kind_place last → kind_place last ≢ slide_place → is_past (rank_of last) mv ≡ stands_behind last mv
 same_past last mv some other = grind (arith, nat_tests)
 

@@ -1,4 +1,4 @@
--- The words of a processor tell where the rows of Climb, Fall, Meet and Send are free.
+-- The words of a processor say where the rows of Climb, Fall, Meet and Send are free.
 use Rattle.std.proofs.Common.{◌≡◌, ◌∙◌, refl, sym, ap, ℕ, zero, suc, ◌+◌, ◌-◌, ◌<◌, ◌≤◌, List, [], ◌∷◌, length, Option, Some, None, Bool, true, false, nat_lt, arith}
 use Rattle.std.specs.Prelude.{◌&&◌, if◌then◌else◌, nat_eq, not, slice_get}
 use Rattle.std.specs.Int.{bit_at}
@@ -53,7 +53,7 @@ no_cell cells k e = none_there (cell_at cells (k + 1)) e
     none_there None f = refl
     none_there (Some c) f = absurd (cc)
 
--- a test of what stands in a stage says nothing of a stage that there is not
+-- a test of what stands in a stage says nothing of a stage that does not exist
 beyond : {A : Type 0} (o : Option A) (test : A → Bool) → (is_some o && on o false test) ≡ on o false test
 beyond None test = refl
 beyond (Some a) test = refl
@@ -221,7 +221,7 @@ send-free plan s m k e same =
     let b = bits plan s m k e same in
     rw (b.owing, b.flying) (sym (send_row (cell_at s.cells (k + 1))))
 
--- where a word tells of each stage whether the row is free, it tells where the move is allowed, as long as the processor goes on
+-- where a word says of each stage whether the row is free, it says where the move is allowed, as long as the processor goes on
 in_stages : (plan : Plan) (s : State) (kind : ℕ → Move) (k : ℕ) (on within free : Bool) → nat_lt k plan.stages ≡ within → not (is_some (row_bar plan s (kind (k + 1)))) ≡ free → goes_on s ≡ on → (within ≡ false → free ≡ false) →
     (on && free) ≡ (nat_lt k plan.stages && is_allowed plan s (kind (k + 1)))
 in_stages plan s kind k on within free e f g outside =
@@ -246,7 +246,7 @@ stages_are plan s kind w v has outside same is k =
     ∙ in_stages plan s kind k (goes_on s) (nat_lt k plan.stages) (not (is_some (row_bar plan s (kind (k + 1))))) refl refl refl
     (λ e. outside k (no_cell s.cells k (some-cell s.cells k ∙ ap (nat_lt k) same ∙ e))))
 
--- a word that tells where a kind of move is allowed is the word of the stages where it is
+-- a word that says where a kind of move is allowed is the word of the stages where it is
 same_bit : (a b : ℕ) → a < 2 → b < 2 → nat_eq a 1 ≡ nat_eq b 1 → a ≡ b
 same_bit a b small less e = grind (arith, nat_tests)
 

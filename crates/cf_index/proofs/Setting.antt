@@ -1,4 +1,4 @@
--- A bit more in a word.
+-- One more bit in a word.
 use Rattle.std.proofs.Common.{◌≡◌, ◌≢◌, refl, ℕ, ◌*◌, ◌%◌, ◌^◌, ◌<◌, Bool, true, false, nat_eq, arith}
 use Rattle.std.specs.Prelude.{◌&&◌, ◌||◌}
 use Rattle.std.specs.Int.RustNames.{bit_or}
@@ -18,7 +18,7 @@ unfolding has_bit
 set_case v w k i true e small = let at : i ≡ k = grind (arith, nat_tests) in rw at (let s = bit_at_set_same v w k small in rw s refl)
 set_case v w k i false e small = let off : i ≢ k = grind (arith, nat_tests) in let s = bit_at_set_other v w k small i off in rw s refl
 
--- a bit more, or none
+-- one more bit, or none
 with_bit : (v : Width) (w k i : ℕ) (set : Bool) → k < bits v → has_bit (bit_or w (bool_byte set * 2 ^ k % 2 ^ bits v)) i ≡ ((nat_eq i k && set) || has_bit w i)
 with_bit v w k i true small = set_case v w k i (nat_eq i k) refl small
 with_bit v w k i false small = let e : 0 * 2 ^ k % 2 ^ bits v ≡ 0 = rw (zero-mul (2 ^ k), zero-mod (2 ^ bits v)) refl in rw (e, or_zero_r w, and-false (nat_eq i k)) refl

@@ -1,4 +1,4 @@
--- Two moves share a place just where one of the words or the flags of both says so.
+-- Two moves share a place exactly where one of the words or the flags of both says so.
 use Rattle.std.proofs.Common.{◌≡◌, ◌∙◌, refl, sym, ap, subst, ℕ, zero, suc, ◌+◌, ◌-◌, ◌*◌, ◌/◌, ◌%◌, ◌<◌, ◌⊎◌, inl, inr, List, [], ◌∷◌, map, Bool, true, false, arith}
 use Rattle.std.specs.Prelude.{◌&&◌, ◌||◌, ◌↔◌, ◌==◌, IsTrue}
 use Rattle.std.specs.List.{AllByRecursion, list_any}

@@ -27,7 +27,7 @@ pub shown_next : {V : Type 0} (behind : V → Move → V) (kind : Spread) (v : V
     fold behind (behind v (numbered kind (trailing_zeros w64 w))) (map (numbered kind) (places 64 (bit_and w (w - 1)))) ≡ fold behind v (map (numbered kind) (places 64 w))
 shown_next behind kind v w some small = rw (places_next w some small) refl
 
--- of a word without a bit none is
+-- of a word without a bit no move is shown
 pub shown_none : {V : Type 0} (behind : V → Move → V) (kind : Spread) (v : V) → fold behind v (map (numbered kind) (places 64 0)) ≡ v
 shown_none behind kind v = rw (places_zero 64) refl
 

@@ -38,7 +38,7 @@ stage_bit k i first = grind (arith, nat_tests)
 pub one_stage : (k i : ℕ) → 1 ≤ i → ((nat_eq k (i - 1) && true) || has_bit 0 k) ≡ nat_eq (k + 1) i
 one_stage k i first = one_bit k (i - 1) ∙ stage_bit k i first
 
--- and a stage more
+-- and one stage more
 pub more_stage : (k i : ℕ) (b : Bool) → 1 ≤ i → ((nat_eq k (i - 1) && true) || b) ≡ (b || nat_eq (k + 1) i)
 more_stage k i b first = rw (stage_bit k i first) (tests (nat_eq (k + 1) i) b)
   where
@@ -62,7 +62,7 @@ next_cell j k c small =
     tests : (s a b : Bool) → (((s && b) && true) || (s && a)) ≡ (s && (a || b))
     tests s a b = grind arith
 
--- a cell more, of the siding behind those that were gone over
+-- one more cell, of the siding after those that were visited
 pub way_more : (j k c : ℕ) (set : Bool) (at : ℕ → Bool) → c < 8 → (at k ≡ (set && nat_eq (j % 8) c)) → ((nat_eq j (8 * k + c) && set) || (nat_lt (j / 8) k && at (j / 8))) ≡ (nat_lt (j / 8) (k + 1) && at (j / 8))
 way_more j k c set at small here = by (nat_eq (j / 8) k) refl
   where

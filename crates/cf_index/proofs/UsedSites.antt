@@ -50,7 +50,7 @@ at_stage plan Leave i = nat_eq i plan.stages
 at_stage plan Exit i = nat_eq i 1
 at_stage plan Serve i = nat_eq i plan.stages
 
--- a place that is no cell of a siding is not among the first and last cells of sidings
+-- a place that is not a cell of a siding is not among the first and last cells of sidings
 off_ways_in : (plan : Plan) (i : ℕ) (x : Site) → ((k c : ℕ) → same_site x (SidingCell k c) ≡ false) → among x (ways_in plan i) ≡ false
 unfolding ways_in
 off_ways_in plan i x off = none_among x way_in (sidings_where plan (λ k. launch_stage plan k == i)) (λ k. off k 0)

@@ -29,7 +29,7 @@ other_bit : (v k : ℕ) → v < 2 ^ 32 → k < 32 → has_bit (bit_not w32 v) k 
 unfolding has_bit
 other_bit v k small below = ap (λ (b : ℕ). nat_eq b 1) (bit_at_not w32 v k small below) ∙ not_bit (bit_at v k) (bit_at-lt v k)
 
--- the bits of one that the other has not
+-- the bits of one that the other does not have
 without_case : (w v k : ℕ) (low : Bool) → nat_lt k 32 ≡ low → w < 2 ^ 32 → v < 2 ^ 32 → has_bit (bit_and w (bit_not w32 v)) k ≡ (has_bit w k && not (has_bit v k))
 without_case w v k true e small less = let below : k < 32 = grind (arith, nat_tests) in of_both w (bit_not w32 v) k ∙ rw (other_bit v k less below) refl
 without_case w v k false e small less =

@@ -53,23 +53,23 @@ abbrev pub cell_place : Move → ℕ
 cell_place (Slide k c) = c
 cell_place _ = 0
 
--- a is below b, or they are one and the rest decides
+-- a is below b, or they are equal and the rest decides
 abbrev pub below_or : ℕ → ℕ → Bool → Bool
 below_or a b rest = nat_lt a b || (nat_eq a b && rest)
 
--- the second move stands behind the first
+-- the second move comes after the first
 abbrev pub stands_behind : Move → Move → Bool
 stands_behind a b = below_or (kind_place a) (kind_place b) (below_or (place a) (place b) (nat_lt (cell_place a) (cell_place b)))
 
--- the move stands behind the last one, if there was one
+-- the move comes after the last one, if there was one
 abbrev pub is_behind : Option Move → Move → Bool
 is_behind None mv = true
 is_behind (Some last) mv = stands_behind last mv
 
--- how many of the moves come before the first that stands behind the last one
+-- how many of the moves come before the first after the last one
 unfoldable pub passed : Move → List Move → ℕ
 passed last moves = prefix_len (λ mv. not (stands_behind last mv)) moves
 
--- the place in the list of the first move behind the last one, and the first of all where none stands there
+-- the place in the list of the first move after the last one, and that of the first of all where none comes after it
 unfoldable pub first_behind : Option Move → List Move → ℕ
 first_behind last moves = on (position (is_behind last) moves) 0 (λ i. i)

@@ -9,15 +9,15 @@ use Rattle.cf_core.specs.declared.masks.Masks.{Masks}
 abbrev pub full_bit : Masks → ℕ → Bool
 full_bit m k = has_bit m.passengers k && (has_bit m.packets k && not (has_bit m.met k))
 
--- the passenger can climb, under so many stages: the stage is not full, it owes nothing and stops nowhere, and the stage above is there and has none
+-- the passenger can climb, with n the number of stages: the stage is not full, the passenger owes nothing and does not stop here, and the stage above is there and has no passenger
 abbrev pub climb_bit : Masks → ℕ → ℕ → Bool
 climb_bit m n k = has_bit m.passengers k && (not (full_bit m k) && (not (has_bit m.owes k) && (not (has_bit m.stops k) && (not (has_bit m.passengers (k + 1)) && nat_lt (k + 1) n))))
 
--- the packet can fall: the stage is not full, and the one below is there and has none
+-- the packet can fall: the stage is not full, and the one below is there and has no packet
 abbrev pub fall_bit : Masks → ℕ → Bool
 fall_bit m k = has_bit m.packets k && (not (full_bit m k) && (nat_lt 0 k && not (has_bit m.packets (k - 1))))
 
--- what the passenger owes can be sent: the stage has no packet
+-- the passenger owes something that can be sent: the stage has no packet
 abbrev pub send_bit : Masks → ℕ → Bool
 send_bit m k = has_bit m.owes k && not (has_bit m.packets k)
 

@@ -1,4 +1,5 @@
-//! The first move over the stages behind another. The word of a kind of move is made only where the kinds before it have none.
+//! The first move over the stages after another. The word of a kind of move is made only where the kinds before
+//! it have no such move.
 
 ghost use Rattle.std.specs.Prelude.{◌≡◌, filter, find};
 ghost use Rattle.cf_core.specs.Masks.{masks_of};
@@ -12,7 +13,7 @@ use crate::stages::{climbs, executes, falls, launches, meets, sends, stages};
 use cf_bind::Move;
 use cf_core::{Core, Masks};
 
-/// The first Launch behind.
+/// The first Launch after the rank.
 #[inline(always)]
 fn next_launch(core: &Core, masks: &Masks, last: Rank) -> Option<Move>
     requires { masks.now ≡ masks_of core.now.plan core.now.state }
@@ -24,7 +25,7 @@ fn next_launch(core: &Core, masks: &Masks, last: Rank) -> Option<Move>
     }
 }
 
-/// The first Send behind, or else the first of the kinds behind it.
+/// The first Send after the rank, or else the first move of the kinds after Send.
 #[inline(always)]
 fn next_send(core: &Core, masks: &Masks, last: Rank) -> Option<Move>
     requires { masks.now ≡ masks_of core.now.plan core.now.state }
@@ -36,7 +37,7 @@ fn next_send(core: &Core, masks: &Masks, last: Rank) -> Option<Move>
     }
 }
 
-/// The first Execute behind, or else the first of the kinds behind it.
+/// The first Execute after the rank, or else the first move of the kinds after Execute.
 // Few searches come here, so that the words that only these kinds need are read here.
 #[inline(always)]
 fn next_execute(core: &Core, last: Rank) -> Option<Move>
@@ -49,7 +50,7 @@ fn next_execute(core: &Core, last: Rank) -> Option<Move>
     }
 }
 
-/// The first Meet behind, or else the first of the kinds behind it.
+/// The first Meet after the rank, or else the first move of the kinds after Meet.
 #[inline(always)]
 fn next_meet(core: &Core, masks: &Masks, last: Rank) -> Option<Move>
     requires { masks.now ≡ masks_of core.now.plan core.now.state }
@@ -61,7 +62,7 @@ fn next_meet(core: &Core, masks: &Masks, last: Rank) -> Option<Move>
     }
 }
 
-/// The first Fall behind, or else the first of the kinds behind it.
+/// The first Fall after the rank, or else the first move of the kinds after Fall.
 #[inline(always)]
 fn next_fall(core: &Core, masks: &Masks, last: Rank) -> Option<Move>
     requires { masks.now ≡ masks_of core.now.plan core.now.state }
@@ -73,7 +74,7 @@ fn next_fall(core: &Core, masks: &Masks, last: Rank) -> Option<Move>
     }
 }
 
-/// The first Climb behind, or else the first of the kinds behind it.
+/// The first Climb after the rank, or else the first move of the kinds after Climb.
 #[inline(always)]
 fn next_climb(core: &Core, masks: &Masks, last: Rank) -> Option<Move>
     requires { masks.now ≡ masks_of core.now.plan core.now.state }
@@ -85,7 +86,7 @@ fn next_climb(core: &Core, masks: &Masks, last: Rank) -> Option<Move>
     }
 }
 
-/// The first move over the stages behind.
+/// The first move over the stages after the rank.
 #[inline(always)]
 pub(crate) fn next_passing(core: &Core, masks: &Masks, last: Rank) -> Option<Move>
     requires { masks.now ≡ masks_of core.now.plan core.now.state }

@@ -1,4 +1,4 @@
-//! The first candidate that stands behind a move.
+//! The first candidate that comes after a move.
 
 ghost use Rattle.std.specs.Prelude.{◌≡◌, ◌<◌, ◌≤◌, length};
 ghost use Rattle.cf_index.specs.Listed.{slides_of};
@@ -9,7 +9,7 @@ use crate::bits::{count, count_below};
 use crate::candidates::Candidates;
 use cf_bind::Move;
 
-/// How many of the moves within the sidings come before the first that stands behind the one from cell c of siding k.
+/// How many of the moves within the sidings come before the first after the one from cell c of siding k.
 #[inline(always)]
 #[tactic(auto, using(crate::proofs::PassedEnds::passed_slides))]
 fn passed_slides(slides: u64, k: u32, c: u32) -> usize
@@ -21,7 +21,7 @@ fn passed_slides(slides: u64, k: u32, c: u32) -> usize
 }
 
 impl Candidates {
-    /// How many come before the first that stands behind the move in the order of all moves.
+    /// How many come before the first after the move in the order of all moves.
     #[inline(always)]
     fn passed(&self, last: Move) -> usize
         ensures { result ≡ passed last self.now }
@@ -46,7 +46,7 @@ impl Candidates {
         }
     }
 
-    /// The place of the first that stands behind the last move in the order of all moves; 0 where none does, or where
+    /// The place of the first that comes after the last move in the order of all moves; 0 where none does, or where
     /// there is no last move.
     #[inline(always)]
     #[tactic(auto, unfolding(crate::specs::Order::first_behind, crate::specs::Order::passed))]

@@ -11,7 +11,7 @@ use cf_bind::Move;
 use std::alloc::{AllocError, Global};
 use std::marker::Model;
 
-/// A list of moves in the order of all moves, each of which stands in it once at most: Issue by each guess but one with
+/// A list of moves in the order of all moves, each of which stands in it at most once: Issue by each guess other than
 /// an address, and Emit; Climb, Fall, Meet, Execute, Send and Launch, each by stage; Slide by siding and then cell; Access;
 /// Recover by stage; Leave, Exit and Serve. It takes no memory.
 #[derive(Drop)]
@@ -73,7 +73,7 @@ impl Candidates {
         self.entering.len() + self.passing.len() + count(self.slides) + self.leaving.len()
     }
 
-    /// Whether there is none.
+    /// Whether there are none.
     #[inline(always)]
     pub fn is_empty(&self) -> bool
         ensures { result ≡ nat_eq (length self.now) 0 }
@@ -81,7 +81,7 @@ impl Candidates {
         self.len() == 0
     }
 
-    /// The one of this place, counted from 0.
+    /// The move at this place, counted from 0.
     #[inline(always)]
     pub fn pick(&self, i: usize) -> Move
         requires { i < length self.now }

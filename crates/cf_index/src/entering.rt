@@ -8,7 +8,7 @@ ghost use Rattle.cf_index.specs.Order.{passed};
 
 use cf_bind::{Guess, Move};
 
-/// Issue by each guess but one with an address, and Emit.
+/// Issue by each guess other than an address, and Emit.
 #[derive(Clone, Copy)]
 pub(crate) struct Entering {
     pub(crate) next: bool,
@@ -28,7 +28,7 @@ impl Entering {
         self.next as usize + self.taken as usize + self.wait as usize + self.emit as usize
     }
 
-    /// The one of this place among them, counted from 0.
+    /// The move at this place among them, counted from 0.
     #[inline(always)]
     #[tactic(auto, unfolding(crate::specs::Listed::entering_moves))]
     pub(crate) fn get(&self, i: usize) -> Move
@@ -49,7 +49,7 @@ impl Entering {
         }
     }
 
-    /// Those that are no Issue.
+    /// Those that are not Issue.
     #[inline(always)]
     #[tactic(auto, unfolding(crate::specs::Listed::entering_moves))]
     pub(crate) fn others(&self) -> Entering
@@ -63,7 +63,7 @@ impl Entering {
         }
     }
 
-    /// How many come before the first that stands behind the move in the order of all moves.
+    /// How many come before the first after the move in the order of all moves.
     #[inline(always)]
     #[tactic(auto, unfolding(crate::specs::Listed::entering_moves, crate::specs::Order::passed))]
     pub(crate) fn passed(&self, last: Move) -> usize

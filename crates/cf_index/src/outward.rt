@@ -1,4 +1,5 @@
-//! The first move behind another within the sidings, and of those that leave. What a move needs is looked at where no move before it is found.
+//! The first move after another within the sidings, and of those that leave. What a move needs is looked at
+//! only where no move before it is found.
 
 ghost use Rattle.std.specs.Prelude.{◌≡◌, ◌≢◌, ◌∷◌, ◌++◌, [], filter, find, slice_get};
 ghost use Rattle.cf_bind.specs.declared.moves.Move.TheVariants as mv;
@@ -16,7 +17,7 @@ use crate::stages::stages;
 use cf_bind::Move;
 use cf_core::{Core, Masks};
 
-/// Serve, where it is allowed behind.
+/// Serve, where it is allowed and comes after the rank.
 #[inline(always)]
 fn next_serve(core: &Core, last: Rank) -> Option<Move>
     ensures { result ≡ find (is_past last) (filter (is_allowed core.now.plan core.now.state) (mv.Serve ∷ [])) }
@@ -28,7 +29,7 @@ fn next_serve(core: &Core, last: Rank) -> Option<Move>
     }
 }
 
-/// Exit, where it is allowed behind, or else the first of those behind it.
+/// Exit, where it is allowed and comes after the rank, or else the first of those after Exit.
 #[inline(always)]
 fn next_exit(core: &Core, last: Rank) -> Option<Move>
     ensures { result ≡ find (is_past last) (filter (is_allowed core.now.plan core.now.state) (mv.Exit ∷ mv.Serve ∷ [])) }
@@ -40,7 +41,7 @@ fn next_exit(core: &Core, last: Rank) -> Option<Move>
     }
 }
 
-/// Leave, where it is allowed behind, or else the first of those behind it.
+/// Leave, where it is allowed and comes after the rank, or else the first of those after Leave.
 #[inline(always)]
 fn next_leave(core: &Core, last: Rank) -> Option<Move>
     ensures { result ≡ find (is_past last) (filter (is_allowed core.now.plan core.now.state) (mv.Leave ∷ mv.Exit ∷ mv.Serve ∷ [])) }
@@ -52,7 +53,7 @@ fn next_leave(core: &Core, last: Rank) -> Option<Move>
     }
 }
 
-/// The first Recover behind, or else the first of the kinds behind it.
+/// The first Recover after the rank, or else the first move of the kinds after Recover.
 #[inline(always)]
 fn next_recover(core: &Core, masks: &Masks, last: Rank) -> Option<Move>
     requires { masks.now ≡ masks_of core.now.plan core.now.state }
@@ -65,7 +66,7 @@ fn next_recover(core: &Core, masks: &Masks, last: Rank) -> Option<Move>
     }
 }
 
-/// The first behind of the moves that leave.
+/// The first after the rank of the moves that leave.
 #[inline(always)]
 fn next_leaving(core: &Core, last: Rank) -> Option<Move>
     ensures { result ≡ find (is_past last) (filter (is_allowed core.now.plan core.now.state) (all_leaving core.now.plan)) }
@@ -92,7 +93,7 @@ fn first_slide(slides: u64) -> Option<Move>
     }
 }
 
-/// The first move within the sidings behind one that is none of them.
+/// The first move within the sidings after a move that is not one of them.
 #[inline(always)]
 fn next_slide(core: &Core, last: Rank) -> Option<Move>
     ensures { last.kind ≢ slide_place → result ≡ find (is_past last) (filter (is_allowed core.now.plan core.now.state) (slides_from 0 core.now.plan.sidings)) }
@@ -104,7 +105,7 @@ fn next_slide(core: &Core, last: Rank) -> Option<Move>
     }
 }
 
-/// The first move within the sidings, or of those that leave, behind one that is none within them.
+/// The first move within the sidings, or of those that leave, after a move that is not within them.
 #[inline(always)]
 pub(crate) fn next_outward(core: &Core, last: Rank) -> Option<Move>
     ensures { last.kind ≢ slide_place → result ≡ find (is_past last) (filter (is_allowed core.now.plan core.now.state) (slides_from 0 core.now.plan.sidings) ++ filter (is_allowed core.now.plan core.now.state) (all_leaving core.now.plan)) }

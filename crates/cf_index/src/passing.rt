@@ -35,7 +35,7 @@ impl Passing {
             + count(self.launch as u64)
     }
 
-    /// The one of this place among them, counted from 0.
+    /// The move at this place among them, counted from 0.
     #[inline(always)]
     #[tactic(auto, using(crate::proofs::Parts::lengths), unfolding(crate::specs::Listed::passing_moves))]
     pub(crate) fn get(&self, i: usize) -> Move
@@ -69,7 +69,7 @@ impl Passing {
         Move::Launch(nth(self.launch as u64, i - sends) + 1)
     }
 
-    /// How many come before the first that stands behind the move in the order of all moves.
+    /// How many come before the first after the move in the order of all moves.
     #[inline(always)]
     #[tactic(auto, using(crate::proofs::PassedStages::passing))]
     pub(crate) fn passed(&self, last: Move) -> usize

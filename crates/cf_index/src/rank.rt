@@ -122,7 +122,7 @@ impl Rank {
         }
     }
 
-    /// The stages of the word at which the move of this kind stands behind.
+    /// The stages of the word at which the move of this kind comes after the rank.
     #[inline(always)]
     #[tactic(auto, using(crate::proofs::Ranks::above))]
     pub(crate) fn behind(self, kind: u32, word: u32) -> u32

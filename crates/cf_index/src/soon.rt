@@ -1,4 +1,4 @@
-//! The first candidate behind a move, found without a look at all of them.
+//! The first candidate after a move, found without a look at all of them.
 
 ghost use Rattle.std.specs.Prelude.{◌≡◌, ◌≢◌, ◌++◌, false, IfSome, Some, filter, find, slice_get};
 ghost use Rattle.cf_bind.specs.declared.moves.Move.{Move as Step};
@@ -16,7 +16,7 @@ use crate::stages::goes_on;
 use cf_bind::{Guess, Move};
 use cf_core::Core;
 
-/// The first move that does not enter, behind one that is not within the sidings.
+/// The first move that does not enter, after one that is not within the sidings.
 #[inline(always)]
 fn next(core: &Core, last: Rank) -> Option<Move>
     ensures { last.kind ≢ slide_place → result ≡ find (is_past last) (filter (is_allowed core.now.plan core.now.state) (all_passing core.now.plan) ++ (filter (is_allowed core.now.plan core.now.state) (slides_from 0 core.now.plan.sidings) ++ filter (is_allowed core.now.plan core.now.state) (all_leaving core.now.plan))) }
@@ -28,7 +28,7 @@ fn next(core: &Core, last: Rank) -> Option<Move>
     }
 }
 
-/// The first move that is no Issue.
+/// The first move that is not an Issue.
 #[inline(always)]
 fn first_other(core: &Core) -> Option<Move>
     ensures { result ≡ slice_get (allowed_others core.now.plan core.now.state) 0 }
@@ -40,8 +40,8 @@ fn first_other(core: &Core) -> Option<Move>
     }
 }
 
-/// The first candidate, where Issue is held back or is not.
-// The search begins anew in few moves, and is a call, so that the search behind a move is part of the loop of a run.
+/// The first candidate, with Issue held back or not.
+// The search seldom begins anew, and is then a call, so that the search after a move is part of the loop of a run.
 #[inline(never)]
 #[tactic(auto, using(crate::proofs::Firsts::firsts))]
 fn look_for_first(core: &Core, held: bool) -> Option<Move>
@@ -69,7 +69,7 @@ fn first(core: &Core, held: bool) -> Option<Move>
     look_for_first(core, held)
 }
 
-/// The first candidate, where it is no Issue.
+/// The first candidate, if it is not an Issue.
 #[inline(always)]
 fn first_unissued(core: &Core, held: bool) -> Option<Move>
     ensures first { IfSome result (λ next. Some next ≡ slice_get (withheld held (candidates core.now.plan core.now.state)) 0) }
@@ -82,8 +82,8 @@ fn first_unissued(core: &Core, held: bool) -> Option<Move>
 }
 
 impl Candidates {
-    /// The first candidate of a processor behind the move of this rank, or the first of all where none stands there, with Issue held
-    /// back or not. It is not told behind Slide, nor where it takes a look at all candidates: where an Issue may stand behind another.
+    /// The first candidate of a processor after the move of this rank, or the first of all where none comes after it, with Issue held
+    /// back or not. It is not given after Slide, nor where it takes a look at all candidates: where an Issue may come after another.
     #[inline(always)]
     pub fn soon(core: &Core, last: Rank, held: bool) -> Option<Move>
         ensures next { (mv : Step) → last ≡ rank_of mv → IfSome result (λ next. Some next ≡ slice_get (withheld held (candidates core.now.plan core.now.state))

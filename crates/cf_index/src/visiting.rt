@@ -20,9 +20,9 @@ use crate::passing::Passing;
 use cf_bind::{Guess, Move};
 use cf_core::{Core, Masks};
 
-/// What is shown moves, one after another. What it is behind a move depends on nothing but what it was and on the move.
+/// What is shown moves, one after another. What it is after a move depends only on what it was and on the move.
 pub trait Visitor {
-    /// The visitor behind a move.
+    /// The visitor after a move.
     ghost behind: { Self → Step → Self };
 
     /// It is shown a move.

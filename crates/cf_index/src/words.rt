@@ -6,7 +6,7 @@ ghost use Rattle.cf_index.specs.Words.{climb_bit, fall_bit, full_bit, send_bit};
 
 use cf_core::Masks;
 
-/// The bits of the first word that the second has not.
+/// The bits of the first word that the second does not have.
 #[inline(always)]
 #[tactic(auto, using(crate::proofs::WordBits::without_other))]
 fn without(word: u32, other: u32) -> u32
@@ -60,7 +60,7 @@ pub(crate) fn full(masks: &Masks) -> u32
     without(common(masks.passengers, masks.packets), masks.met)
 }
 
-/// The stages where the instruction can climb, among so many stages.
+/// The stages where the instruction can climb, among this many stages.
 #[inline(always)]
 pub(crate) fn climbing(masks: &Masks, stages: u32) -> u32
     requires some { 1 ≤ stages }

@@ -36,12 +36,12 @@ written_is : (o : Option Binding) (d : Option ℕ) (v : ℕ) (regs : List ℕ) �
 written_is None d v regs e = rw (← e) refl
 written_is (Some b) d v regs e = rw (← e) refl
 
--- finishing, by what it comes to
+-- finishing, by its outcome
 finish_as : (p : Passenger) (answer : Option ℕ) (t : Option End) (n v : ℕ) → finish_trap (instruction p) p.pc (value_in p.src1) (value_in p.src2) ≡ t → next_pc (instruction p) p.pc (value_in p.src1) (value_in p.src2) ≡ n → on answer (value_of (instruction p) p.pc (value_in p.src1) (value_in p.src2)) (λ v. v) ≡ v → finish p answer ≡ on t (finished p n v) (trapped p)
 unfolding finish
 finish_as p answer t n v e f g = rw (e, f, g) refl
 
--- what finishing comes to, once the passenger has left
+-- what finishing leads to, once the passenger has left
 finish_departs : (p : Passenger) (i : Instr) (x : Machine) (answer : Option ℕ) (mem : Memory) → IsReady p i x →
     departed (finish p answer) x mem
     ≡ on (finish_trap i x.hart.pc (value_read x.hart.regs (src1_of i)) (value_read x.hart.regs (src2_of i)))

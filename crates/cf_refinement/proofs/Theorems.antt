@@ -1,4 +1,4 @@
--- The theorems, of accepted layouts.
+-- The theorems, for accepted layouts.
 use Rattle.std.proofs.Common.{◌≡◌, ◌⊎◌, List, None, length}
 use Rattle.rv_machine.specs.Machine.{Machine}
 use Rattle.cf_layout.specs.Accepted.{IsAccepted}
@@ -25,7 +25,7 @@ holds_after plan x0 moves acc wide allowed = runs.holds_after plan x0 moves (acc
 pub run_refines : (plan : Plan) (x0 : Machine) (moves : List Move) → IsAccepted plan → length x0.hart.regs ≡ 32 → IsRun plan (start plan x0) moves → Refines plan x0 (lines plan (start plan x0) moves) (run plan (start plan x0) moves)
 run_refines plan x0 moves acc wide allowed = refines.run_refines plan x0 moves (accepted_suits plan acc) wide allowed
 
--- the lines of two runs, under any two accepted layouts, are one a prefix of the other
+-- of the lines of two runs, under any two accepted layouts, one list is a prefix of the other
 pub lines_prefix : (plan other : Plan) (x0 : Machine) (moves others : List Move) → IsAccepted plan → IsAccepted other → length x0.hart.regs ≡ 32 → IsRun plan (start plan x0) moves → IsRun other (start other x0) others → IsPrefix (lines plan (start plan x0) moves) (lines other (start other x0) others) ⊎ IsPrefix (lines other (start other x0) others) (lines plan (start plan x0) moves)
 lines_prefix plan other x0 moves others acc accepted wide allowed permitted = refines.lines_prefix plan other x0 moves others (accepted_suits plan acc) (accepted_suits other accepted) wide allowed permitted
 

@@ -1,4 +1,4 @@
--- What every move keeps: all that soundness claims, and what the induction needs besides.
+-- What every move keeps: all that soundness claims, and what else the induction needs.
 pub mod Sure
 pub mod Port
 pub mod Lone

@@ -1,2 +1,2 @@
-//! Proofs alone: whatever order the moves are made in, what retires is what the sequential machine does.
+//! Only proofs: whatever order the moves are made in, what retires is what the sequential machine does.
 #![tactic(auto)]

@@ -1,4 +1,4 @@
--- The first candidate behind a move is the first behind it of what is offered.
+-- The first candidate after a move is the first after it of what is offered.
 use Rattle.std.proofs.Common.{◌≡◌, Bool, Option, Some, None}
 use Rattle.std.specs.Prelude.{IfSome, MatchOption, slice_get}
 use Rattle.cf_bind.specs.declared.moves.Move.{Move}
@@ -16,7 +16,7 @@ pub next_offered : (c : Count) (plan : Plan) (s : State) (held : Bool) (last nex
 unfolding offers
 next_offered c plan s held last next is e = rw is at e
 
--- whatever was picked last, where the rank is that of a Slide if nothing was, behind which none is told
+-- whatever was picked last; if nothing was, the rank is that of a Slide, after which no move is given
 pub next_picked : (c : Count) (plan : Plan) (s : State) (held : Bool) (last : Option Move) (rank : Rank) (o : Option Move) (next : Move) → held ≡ holds c → MatchOption last (rank.kind ≡ slide_place) (λ mv. rank ≡ rank_of mv) →
     ((mv : Move) → rank ≡ rank_of mv → IfSome o (λ first. Some first ≡ slice_get (withheld held (candidates plan s)) (first_behind (Some mv) (withheld held (candidates plan s))))) → (rank.kind ≡ slide_place → o ≡ None) → o ≡ Some next →
     Some next ≡ slice_get (offers c plan s) (first_behind last (offers c plan s))

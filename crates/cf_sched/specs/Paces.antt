@@ -16,7 +16,7 @@ pub record Count : Type 0 where
 abbrev pub stopped : ℕ → ℕ → ℕ
 stopped stages count = min count (2 * stages)
 
--- this many Issue moves were counted, beside so many stages
+-- a count of this many Issue moves, for this many stages
 abbrev pub HasCounted : ℕ → ℕ → Count → Type 0
 HasCounted stages count c = (c.stages ≡ stages) × (c.count ≡ stopped stages count)
 
@@ -28,6 +28,6 @@ holds c = nat_le (2 * c.stages) c.count
 abbrev pub saw : Count → Move → Event → Bool → Count
 saw c mv e drained = record c { count = stopped c.stages (paced c.count mv e drained) }
 
--- what a policy is offered: the candidates, held back or not
+-- what a policy is offered: the candidates, with Issue held back or not
 unfoldable pub offers : Count → Plan → State → List Move
 offers c plan s = if holds c then held_back (candidates plan s) else candidates plan s

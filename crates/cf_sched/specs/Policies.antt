@@ -5,7 +5,7 @@ use Rattle.rand_pcg.specs.Pcg.{multiplier_64, pcg32}
 use Rattle.cf_bind.specs.declared.moves.Move.{Move}
 use Rattle.cf_index.specs.Order.{first_behind}
 
--- Round picks the first candidate behind the last one that it picked, or the first of all where none stands there or nothing was picked yet
+-- Round picks the first candidate after the last one that it picked, or the first of all where none comes after it or nothing was picked yet
 abbrev pub round_pick : Option Move → List Move → ℕ
 round_pick last moves = first_behind last moves
 

@@ -10,8 +10,8 @@ use cf_bind::Move;
 use cf_semantics::Event;
 use std::marker::Model;
 
-/// Counts the Issue moves since the start, the last retirement, or the last drained state, whichever is latest. From twice
-/// as many as there are stages on, Issue is held back. The count stops there, so that it never overflows.
+/// Counts the Issue moves since the start, the last retirement, or the last drained state, whichever is latest. Once there
+/// are twice as many as stages, Issue is held back. The count stops there, so that it never overflows.
 #[derive(Drop)]
 pub struct Pace {
     stages: u32,
@@ -62,7 +62,7 @@ impl Pace {
         2 * self.stages as u64 <= self.count
     }
 
-    /// Takes note of a move: what it tells of itself, and whether the state after it is drained.
+    /// Takes note of a move: what is seen of it, and whether the state after it is drained.
     #[inline(always)]
     #[tactic(auto, unfolding(cf_semantics::specs::moves::Holding::paced))]
     pub fn saw(&mut self, mv: Move, event: &Event, drained: bool)

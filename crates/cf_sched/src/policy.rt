@@ -9,8 +9,8 @@ use cf_bind::Move;
 use cf_core::Core;
 use cf_index::Candidates;
 
-/// What picks one of the candidates after another. What it picks, and what it is afterwards, depends on nothing but what
-/// it was and on the list of the candidates.
+/// What picks one of the candidates after another. What it picks, and what it is afterwards, depends only on what it
+/// was and on the list of the candidates.
 pub trait Policy {
     /// The place in the list of what it picks.
     ghost picked: { Self → List Step → ℕ };
@@ -25,8 +25,8 @@ pub trait Policy {
         ensures picked { result ≡ picked self.old candidates.now }
         ensures onward { self.new ≡ onward self.old candidates.now };
 
-    /// Picks one of the moves that a processor offers under the hold rule. What it leaves in the candidates is not told, so
-    /// that a policy that needs few of them need not look for all.
+    /// Picks one of the moves that a processor offers under the hold rule. Nothing is said of what it leaves in the
+    /// candidates, so that a policy that needs few of them need not look for all.
     #[inline(always)]
     fn choose(&mut self, core: &Core, candidates: &mut Candidates, pace: &Pace) -> Move
         requires { 0 < length (offers pace.now core.now.plan core.now.state) }

@@ -3,7 +3,7 @@
 use cf_bind::End;
 use rv_machine::Retired;
 
-/// What a move did that is seen from outside.
+/// What can be seen of a move from outside.
 #[derive(Clone, Copy, PartialEq, Eq)]
 pub enum Event {
     /// Nothing.

@@ -1,4 +1,4 @@
--- Over an input that does not tell what it has left, too, a run has a bounded number of moves for each Issue.
+-- Also over an input that does not tell what it has left, a run has a bounded number of moves for each Issue.
 use Rattle.std.proofs.Common.{◌≡◌, ℕ, suc, ◌+◌, ◌*◌, ◌≤◌, List, [], ◌∷◌, ◌++◌, None, sym, ap, ◌∙◌, arith, length, ◌⊎◌, inl, inr}
 use Rattle.rv_machine.specs.Machine.{Machine}
 use Rattle.cf_layout.specs.Accepted.{IsAccepted}
@@ -47,14 +47,14 @@ paid plan start m last (mv ∷ moves) written later acc (rest, behind, free, lea
     let c : moves_per_issue plan * (counts (is_issue mv) 1 + issues moves) ≡ moves_per_issue plan * counts (is_issue mv) 1 + moves_per_issue plan * issues moves = grind arith in
     omega (arith, a, b, c)
 
--- a run from the beginning has at most K moves for each Issue, whatever each finds of the input
+-- a run from the beginning has at most K moves for each Issue, whatever each move finds of the input
 pub run_bounded_anew : (plan : Plan) (x : Machine) (last : Moment) (moves : List Move) (written : List Line) → IsAccepted plan → length x.hart.regs ≡ 32 → LeadsTo plan (start plan x) moves last written → length moves ≤ moves_per_issue plan * issues moves
 run_bounded_anew plan x last moves written accepted wide leads =
     let p = paid plan x (start plan x) last moves [] written (accepted_suits plan accepted) leads (anew_started plan x wide) in
     let z = opened_weight plan x in
     omega (arith, p, z)
 
--- with issue held back a run has at most as many moves as the weight of the state from which it starts, whatever each finds of the input
+-- with issue held back a run has at most as many moves as the weight of the state from which it starts, whatever each move finds of the input
 pub drain_bounded_anew : (plan : Plan) (start : Machine) (m last : Moment) (moves : List Move) (written later : List Line) → IsAccepted plan → HoldsAnew plan start written m → LeadsTo plan m moves last later → issues moves ≡ 0 → length moves ≤ weight plan m.state
 drain_bounded_anew plan start m last moves written later accepted h leads held =
     let p = paid plan start m last moves written later (accepted_suits plan accepted) leads h in

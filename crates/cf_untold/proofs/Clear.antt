@@ -47,7 +47,7 @@ pub record IsClear (s : State) : Type 0 where
   pub fit : Everywhere Fits past (column s) none_awaited
   pub ends : Ends (walk past (column s) none_awaited) s.cache
 
--- with v no register is waited for that is not with w
+-- with v no register is waited for that is not waited for with w
 pub record Follows (w v : ℕ → Bool) : Type 0 where
   pub fewer : (r : ℕ) → v r ≡ true → w r ≡ true
 

@@ -54,7 +54,7 @@ pub fall_clear : (l : Plan) (s : State) (i : ℕ) → bar l s (Fall i) ≡ None 
 fall_clear l s zero e h = absurd (no_fall l s (bar_row l s (Fall zero) e))
 fall_clear l s (suc i) e h = fall_above l s i (bar_row l s (Fall (suc i)) e) h
 
--- Meet: a value of what the passenger is to give does not pass it
+-- Meet: a value of the register that the passenger is to give does not pass it
 pub meet_clear : {rest out : List ℕ} (l : Plan) (s : State) (x : Machine) (i : ℕ) → bar l s (Meet i) ≡ None → Sound l s rest out x → IsClear s → IsClear (moved l s (Meet i))
 meet_clear {rest} {out} l s x i e h n =
     let r = meet_ready l s i (bar_row l s (Meet i) e) in

@@ -40,7 +40,7 @@ clear_opened l x = let e = empty_column 1 l.stages in record { fit = rw e tt; en
 
 -- Leave
 
--- one that is dead or done waits for nothing
+-- a passenger that is dead or done waits for nothing
 settled : (p : Passenger) → (p.dead ≡ false → p.done ≡ true) → awaits p ≡ false
 settled p f = go p.dead refl
   where
@@ -119,7 +119,7 @@ keep_ends w c r v e h q u f = go (set_cached c r q u (Some v) f)
 cleared_ends : (w : ℕ → Bool) (c : List (Option ℕ)) → Ends w (cleared c)
 cleared_ends w c r v e = let z = cached_cleared c r in absurd (cc)
 
--- the new destination is forgotten: it is waited for besides what was
+-- the new destination is forgotten: it is waited for in addition to what was
 forget_ends : (i : ℕ) (p : Passenger) (w : ℕ → Bool) (c : List (Option ℕ)) → Ends w c → Ends (past (Up i p) w) (forgets (reg_in p.dst) c)
 unfolding past
 forget_ends i p w c h = of p.dst refl

@@ -1,4 +1,4 @@
--- What is waited for, at Send: above a passenger nothing is, so that what it owes fits below it.
+-- What is waited for, at Send: nothing above the passenger is, so that what it owes fits below it.
 use Rattle.std.proofs.Common.{◌≡◌, ℕ, List, [], ◌∷◌, ◌++◌, Some, None, Bool, true, false, refl, subst, arith}
 use Rattle.rv_machine.specs.Machine.{Machine}
 use Rattle.cf_bind.specs.declared.cell.Cell.{Cell}

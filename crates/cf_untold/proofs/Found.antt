@@ -1,4 +1,4 @@
--- Serve alone finds out what the input has left.
+-- Only Serve finds out what the input has left.
 use Rattle.std.proofs.Common.{◌≡◌, ℕ, List, refl, ◌⊎◌, inl, inr}
 use Rattle.cf_layout.specs.Layout.{Plan}
 use Rattle.cf_bind.specs.declared.moves.Move.{Move}

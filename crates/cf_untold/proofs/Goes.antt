@@ -22,7 +22,7 @@ goes_same isa x0 x y zero written s (same, is) = (record { hart = s.hart ∙ sam
 goes_same isa x0 x y (suc n) written s (before, next, earlier, goes, steps, same, is) =
     (before, next, earlier, goes, steps, record { hart = s.hart ∙ same.hart; output = s.output ∙ same.output }, is)
 
--- a machine that another follows steps to it
+-- a machine's step goes on to the machine that comes next
 goes_here : (isa : Isa) (x y : Machine) → next_machine (step isa x) ≡ Some y → step_here isa x ≡ Goes y
 unfolding step_at
 goes_here isa x y e = of (step isa x) e
@@ -32,7 +32,7 @@ goes_here isa x y e = of (step isa x) e
     of (outcome.Trap cause pc detail) e = absurd (cc)
     of (outcome.Exit status) e = absurd (cc)
 
--- steps that find what is there are some of them
+-- the machine's own steps, which find what is there, are such steps
 pub goes_on : (isa : Isa) (x0 x y : Machine) (n g : ℕ) (written : List Line) → GoesTo isa x0 n x written → after isa x g ≡ Some y → GoesTo isa x0 (g + n) y (written ++ sequence isa x g)
 unfolding after sequence GoesTo
 goes_on isa x0 x y n zero written goes e =

@@ -31,7 +31,7 @@ use Rattle.cf_untold.proofs.Found.{found}
 use Rattle.cf_untold.proofs.Rechosen.{over}
 use Rattle.cf_untold.proofs.Theorems.{held_anew, rebased}
 
--- with some input left so many instructions are sure to retire, or the program is sure to end; they are at most one more than have retired
+-- with some input left n instructions are sure to retire, or the program is sure to end; n is at most one more than have retired
 pub record Nearing (plan : Plan) (m : Moment) (n : ℕ) : Type 0 where
   pub at : Machine
   pub rest : List ℕ
@@ -124,6 +124,6 @@ nearing_first plan start m mv rest written acc free h drained = go (found plan m
     go (inl is) issue = absurd (let e = sym (ap is_issue is) ∙ issue in cc)
     go (inr is) issue = rw is (left_open plan (next plan (finding h.rest m) mv) rest (suc m.state.retired) (nearing plan h.at (next plan (finding h.rest m) mv) (suc m.state.retired) (let c = first.held.count in let l = h.level in omega (arith, c, l)) first))
 
--- drained, they have retired
+-- once drained, they have retired
 pub nearing_retired : (plan : Plan) (m : Moment) (n : ℕ) → Nearing plan m n → m.state.ending ≡ None → is_drained m.state ≡ true → n ≤ m.state.retired
 nearing_retired plan m n h going drained = all_retired plan h.at (finding h.rest m) n h.reaching going drained

@@ -1,4 +1,4 @@
--- What a policy is offered: moves that are allowed, at least one while the program goes on, and no Issue but where the hold rule lets it be.
+-- What a policy is offered: moves that are allowed, at least one while the program goes on, and no Issue except where the hold rule permits it.
 use Rattle.std.proofs.Common.{◌≡◌, ℕ, ◌≤◌, List, length, Option, Some, None, Bool, true, false, not, refl, subst}
 use Rattle.std.specs.Prelude.{slice_get, nat_lt, if◌then◌else◌}
 use Rattle.rv_machine.specs.Machine.{Machine}
@@ -30,7 +30,7 @@ candidate_allowed plan s k mv there = no_bar (bar plan s mv) (kept_passes (λ v.
     no_bar None e = refl
     no_bar (Some b) e = absurd (cc)
 
--- also one that stands among those that are held
+-- so is one that is left where Issue is held back
 held_allowed : (plan : Plan) (s : State) (k : ℕ) (mv : Move) → slice_get (held_back (candidates plan s)) k ≡ Some mv → bar plan s mv ≡ None
 unfolding held_back
 held_allowed plan s k mv there = go (nat_lt 0 (length (other_moves (candidates plan s)))) there

@@ -71,14 +71,14 @@ since : (plan : Plan) (start : Machine) (m : Moment) (mv : Move) (rest : List �
 since plan start m mv rest count rests written acc free h (inl w) = record { mark = m.state.retired; above = w.2; nearing = nearing_first plan start m mv rest written acc free h w.0 }
 since plan start m mv rest count rests written acc free h (inr w) = record { mark = w.1.mark; above = w.1.above; nearing = nearing_kept plan start m mv rest (suc w.1.mark) written acc free h w.1.nearing }
 
--- at a drained moment there are at least as many retirements as there were drained moments, and this one
+-- at a drained moment there are at least as many retirements as there were drained moments, this one included
 rested_once : (plan : Plan) (start : Machine) (m : Moment) (rests : ℕ) → Since plan start m rests → m.state.ending ≡ None → is_drained m.state ≡ true → start.hart.retired + suc rests ≤ m.state.retired
 rested_once plan start m rests s unended drained =
     let a = s.above in
     let b = nearing_retired plan m (suc s.mark) s.nearing unended drained in
     omega (arith, a, b)
 
--- an Issue is counted only where fewer than 2N are: held, it is made only where nothing else is allowed, and there nothing is counted
+-- an Issue is counted only where fewer than 2N are: where the candidates are held it is made only where nothing else is allowed, and there nothing is counted
 room : (plan : Plan) (start : Machine) (m : Moment) (mv : Move) (count rests : ℕ) (written : List Line) → Suits plan → HoldsAnew plan start written m → m.state.ending ≡ None → (is_held plan count ≡ true → is_issue mv ≡ true → IsStuck plan m.state) → OnItsWay plan start m count rests → is_issue mv ≡ true → count < 2 * plan.stages
 room plan start m mv count rests written acc h unended hold way issue = go (is_held plan count) refl
   where

@@ -123,7 +123,7 @@ call_fits : (isa : Isa) (n : ℕ) (p : Passenger) (s : State) (x : Machine) (res
 unfolding sure.Fits
 call_fits isa n p s x rest certain h = (h.0, whenever (trail.is_sure p (trail.top s (over rest x))) certain)
 
--- below the call the walks differ in its answer alone
+-- below the call the walks differ only in its answer
 call_passed : (isa : Isa) (n : ℕ) (p : Passenger) (s : State) (x : Machine) (rest : List ℕ) → p.dead ≡ false → p.done ≡ false → kind p ≡ Serial → sure.SureAt isa p (trail.top s x) → sure.SureAt isa p (trail.top s (over rest x))
     → Alike (clear.past (Up n p) none_awaited) (trail.past isa (Up n p) (trail.top s x)) (trail.past isa (Up n p) (trail.top s (over rest x)))
 unfolding sure.SureAt trail.past clear.past

@@ -1,4 +1,4 @@
--- The theorems: over an input that does not tell what it has left, too, every run does what the sequential machine does.
+-- The theorems: also over an input that does not tell what it has left, every run does what the sequential machine does.
 use Rattle.std.proofs.Common.{◌≡◌, ℕ, ◌+◌, List, [], ◌∷◌, ◌++◌, Some, None, refl, sym, ap, subst, ◌∙◌, arith, length, append_assoc, append-nil, ◌⊎◌, inl, inr}
 use Rattle.rv_inst.specs.declared.isa.Isa.{Isa}
 use Rattle.rv_machine.specs.After.{SameButInput, after}
@@ -42,7 +42,7 @@ rebased plan x m h = record {
   stage = h.stage;
 }
 
--- no step leads nowhere else
+-- no steps lead nowhere else
 no_step : (isa : Isa) (x y : Machine) (g : ℕ) → g ≡ 0 → after isa x g ≡ Some y → y ≡ x
 unfolding after
 no_step isa x y g e f = let z : Some x ≡ Some y = rw e at f in cc
@@ -95,7 +95,7 @@ moved_on plan start x m mv written acc free count level goes h clear tidy k =
       tidy = tidy;
     }
 
--- with nothing retired since, the machine with another rest goes as far
+-- with nothing retired since, the machine with another rest of the input is the same but for that
 same_but_input : (x : Machine) (rest : List ℕ) → SameButInput x (over rest x)
 same_but_input x rest = record { hart = refl; output = refl }
 
@@ -154,7 +154,7 @@ anew_started plan x wide =
       tidy = tidy_opened plan x;
     }
 
--- after some moves more
+-- after some more moves
 anew_after : (plan : Plan) (start : Machine) (m last : Moment) (moves : List Move) (written later : List Line) → Suits plan → LeadsTo plan m moves last later → HoldsAnew plan start written m → HoldsAnew plan start (written ++ later) last
 unfolding LeadsTo
 anew_after plan start m last [] written later acc (same, none) h =

@@ -24,7 +24,7 @@ put_five = instr.OpImm imm_op.Add 1 0 (pos 5)
 abbrev pub add_one : Instr
 add_one = instr.OpImm imm_op.Add 2 1 (pos 1)
 
--- The value that left at the bottom is kept there: the next instruction has it as it is issued.
+-- The value that left at the bottom is kept there: the next instruction has it when it is issued.
 pub kept_and_used : Ends tiny_with_cache kept_value
     (Issue Next ∷ Execute 1 ∷ Send 1 ∷ Exit ∷ Climb 1 ∷ Issue Next ∷ Execute 1 ∷ [])
     (record (opened tiny_with_cache kept_value) {

@@ -66,14 +66,14 @@ asking = sample (0x93 ∷ 0x02 ∷ 0x15 ∷ 0x00 ∷ [])
 abbrev pub add_one : Instr
 add_one = instr.OpImm imm_op.Add 5 10 (pos 1)
 
--- The register file sends the value that was asked for down the pipe, where it finds who asked.
+-- The register file sends the value that was asked for down the pipe, where it finds the instruction that asked.
 pub asked_and_sent_down : Ends tiny asking
     (Issue Next ∷ Climb 1 ∷ Emit ∷ [])
     (record (opened tiny asking) { cells = empty_cell ∷ full (issued 0x10000 add_one (unknown 10) None (unknown 5)) (Value 10 0) ∷ []; fetch = Running 0x10004 })
 unfolding on_literals
 asked_and_sent_down = ends refl refl
 
--- Who stands beside a packet cannot leave before the two have met,
+-- A passenger beside a packet cannot leave before the two have met,
 pub leaves_only_when_met : IsBarred tiny asking
     (Issue Next ∷ Climb 1 ∷ Emit ∷ [])
     (Leave) (bar.NotMet)
@@ -106,7 +106,7 @@ issue_taken_back = refl
 abbrev pub multiplying : Machine
 multiplying = sample (0xb3 ∷ 0x02 ∷ 0x73 ∷ 0x02 ∷ [])
 
--- Where the layout does not multiply, the word is no instruction: it traps where it is issued.
+-- Where the layout does not multiply, the word is not an instruction: it traps where it is issued.
 pub no_multiplication : Ends tiny multiplying
     (Issue Next ∷ [])
     (record (opened tiny multiplying) {

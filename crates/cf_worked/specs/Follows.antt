@@ -1,4 +1,4 @@
--- That a run of moves from the start is allowed, move by move, and where it ends; or by what the next move is barred.
+-- That a run of moves from the start is allowed, move by move, and where it ends; or what bars the next move.
 use Rattle.std.specs.Prelude.{◌≡◌, List, Some}
 use Rattle.rv_machine.specs.Machine.{Machine}
 use Rattle.cf_layout.specs.Layout.{Plan}
@@ -17,7 +17,7 @@ pub record Ends (plan : Plan) (x : Machine) (moves : List Move) (s : State) : Ty
   pub allowed : IsRun plan (start plan x) moves
   pub ends : after_moves plan x moves ≡ s
 
--- each move is allowed where it is made, and behind them the next one is barred so
+-- each move is allowed where it is made, and after them this bars the next one
 pub record IsBarred (plan : Plan) (x : Machine) (moves : List Move) (mv : Move) (why : Bar) : Type 0 where
   pub allowed : IsRun plan (start plan x) moves
   pub barred : bar plan (after_moves plan x moves) mv ≡ Some why

@@ -1,4 +1,4 @@
--- What a store writes over, written back: memory is as before, also where the store is misaligned and writes nothing.
+-- What a store overwrites, written back: memory is as before, also where the store is misaligned and writes nothing.
 use Rattle.std.proofs.Common.{◌≡◌, ℕ, ◌+◌, ◌-◌, ◌≤◌, List, [], ◌∷◌, ◌++◌, Bool, true, false, Option, Some, None, IsTrue, length, take, drop, find, refl, ap, sym, ◌∙◌, arith, append_assoc, length-drop}
 use Rattle.std.specs.Prelude.{if◌then◌else◌}
 use Rattle.std.specs.Option.{option_map}
@@ -36,7 +36,7 @@ area_with_same addr len a e = ap (λ (bytes : List ℕ). let b : Area = record a
 bytes_in_length : (addr len : ℕ) (a : Area) → writes_in addr len a ≡ true → length (bytes_in addr len a) ≡ len
 bytes_in_length addr len a e = let b = within addr len a e in rw (length-take, length-drop) (omega (arith, b))
 
--- what is known of the bytes that a write writes over, by the regions
+-- what is known of the bytes that a write overwrites, by the regions
 record Found (addr len : ℕ) (old : List ℕ) (areas : List Area) : Type 0 where
   long : length old ≡ len
   same : first_changed (writes_in addr len) (area_with addr old) areas ≡ areas
@@ -55,7 +55,7 @@ found addr len old (x ∷ xs) e = by (writes_in addr len x) refl e (found addr l
         }
     by false f e later = let h = later e in record { long = h.long; same = rw f (ap (λ (rest : List Area). x ∷ rest) h.same) }
 
--- where there are none, a write changes nothing
+-- where no region has them, a write changes nothing
 nowhere : (addr len : ℕ) (w : List ℕ) (areas : List Area) → option_map (bytes_in addr len) (find (writes_in addr len) areas) ≡ None → first_changed (writes_in addr len) (area_with addr w) areas ≡ areas
 nowhere addr len w [] e = refl
 nowhere addr len w (x ∷ xs) e = by (writes_in addr len x) refl e (nowhere addr len w xs)
@@ -89,7 +89,7 @@ stored_somewhere m addr width n old e =
         unwritten : is_aligned addr width ≡ false → stored m addr width n ≡ m
         unwritten f = unfold stored in rw f refl
 
--- an access is undone by writing back what it wrote over
+-- an access is undone by writing back what it overwrote
 pub access_back : (m : Memory) (access : Access) → bytes_back (kept_range m access) (if access.write then stored m access.addr access.width access.value else m) ≡ m
 access_back m access = by access.write
   where

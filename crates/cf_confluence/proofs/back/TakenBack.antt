@@ -39,7 +39,7 @@ whole : (l : Plan) (s t : State) (mv : Move) → Back (kept l s mv) s t → rest
 unfolding kept restored
 whole l s t mv b = rw (b.cells, b.ops, b.lane, b.regs, b.mem, b.failed) refl
 
--- what a move of stages alone leaves
+-- what a move of nothing but stages leaves
 record Still (s t : State) : Type 0 where
   sidings : t.sidings ≡ s.sidings
   lane : t.lane ≡ s.lane
@@ -57,7 +57,7 @@ on_still s (Some a) f h = h a
 seated : (s : State) (cells : List Cell) → Still s (record s { cells = cells })
 seated s cells = record { sidings = refl; lane = refl; regs = refl; mem = refl; failed = refl }
 
--- moves of one stage alone
+-- moves of only one stage
 staged : (l : Plan) (s t : State) (mv : Move) → cells_back (kept l s mv).cells t.cells ≡ s.cells → (kept l s mv).ops ≡ [] → (kept l s mv).lane ≡ Same → (kept l s mv).register ≡ None → (kept l s mv).bytes ≡ None → Still s t → Back (kept l s mv) s t
 staged l s t mv cells ops lane register bytes h = record {
   cells = cells;

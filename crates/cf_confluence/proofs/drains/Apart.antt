@@ -71,12 +71,12 @@ grown {rest} {out} l s x g r h =
     let w : way (isa_of l) t x ≡ past (isa_of l) (Up 1 p) (walk (past (isa_of l)) (column s) (begin t x)) = ap (λ (z : List Item). walk (past (isa_of l)) z (begin t x)) is ∙ walk_append (past (isa_of l)) (column s) new (begin t x) in
     rw (next_issue l s g r.here r.others r.pc p r.cells r.runs refl) (record { above = walk (past (isa_of l)) (column s) (begin t x); count = q.count; stop = q.stop; is = w; first = λ e. ap (λ (z : List Item). walk (past (isa_of l)) z (begin t x)) e })
 
--- a passenger more takes nothing from the way
+-- one more passenger takes nothing from the way
 pub past_grows : (isa : Isa) (i : ℕ) (p : Passenger) (w : Way) → (w.count ≤ (past isa (Up i p) w).count) × (w.stop ≡ true → (past isa (Up i p) w).stop ≡ true)
 unfolding past
 past_grows isa i p w = (grind arith, λ e. grind (arith, e))
 
--- one that stands where the machine is adds to it, or ends it
+-- a passenger that stands where the machine is adds to it, or ends it
 pub past_first : (isa : Isa) (i : ℕ) (p : Passenger) (s : State) (x : Machine) → p.dead ≡ false → p.pc ≡ x.hart.pc → (1 ≤ (past isa (Up i p) (begin s x)).count) ⊎ ((past isa (Up i p) (begin s x)).stop ≡ true)
 unfolding past follows stops
 past_first isa i p s x d c = go (goes (step_at isa x p.pc)) refl
@@ -221,7 +221,7 @@ drained_weighs l s d =
     all false false c e = absurd (cc)
     all true b c e = absurd (cc)
 
--- in a drained moment Issue alone is allowed
+-- in a drained moment only Issue is allowed
 pub only_issue : (l : Plan) (x0 : Machine) (m : Moment) (mv : Move) → Suits l → bar l m.state mv ≡ None → HoldsAfter l x0 m → is_drained m.state ≡ true → is_issue mv ≡ true
 only_issue l x0 m mv acc e h d = go (is_issue mv) refl
   where
@@ -260,7 +260,7 @@ unfolding IsRun run
 run_keeps l x0 m [] n acc r h = h
 run_keeps l x0 m (mv ∷ moves) n acc r h = run_keeps l x0 (next l m mv) moves n acc r.1 (move_keeps l x0 m mv n acc r.0 h)
 
--- drained, they have retired
+-- once drained, they have retired
 pub all_retired : (l : Plan) (x0 : Machine) (t : Moment) (n : ℕ) → Reaching l x0 t n → t.state.ending ≡ None → is_drained t.state ≡ true → n ≤ t.state.retired
 all_retired l x0 t n h e d = go (h.far e)
   where

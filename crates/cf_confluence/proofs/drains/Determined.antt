@@ -132,12 +132,12 @@ off : (isa : Isa) (xs : List Item) (w : Way) → w.on ≡ false → ((walk (past
 off isa [] w o = (refl, refl)
 off isa (i ∷ xs) w o = let a = off_item isa i w o in let b = off isa xs (past isa i w) a.1 in (b.0 ∙ a.0, b.1 ∙ a.2)
 
--- what has retired and what stands on the path, together, and whether the way comes to an end, of a state over its machine
+-- for a state over its machine: what has retired and what stands on the path, together, and whether the way comes to an end
 pub record Total (isa : Isa) (s : State) (x : Machine) (n : ℕ) (b : Bool) : Type 0 where
   pub sum : s.retired + (way isa s x).count ≡ n
   pub stop : (way isa s x).stop ≡ b
 
--- of an ended one the count itself
+-- for a state that has ended, the count itself
 abbrev pub EndsSo : Isa → State → Machine → Option End → ℕ → Bool → Type 0
 EndsSo isa s x None n b = Total isa s x n b
 EndsSo isa s x (Some e) n b = (s.retired ≡ n) × (b ≡ true)
@@ -149,7 +149,7 @@ pub record GoesSo (l : Plan) (x0 : Machine) (m : Moment) (n : ℕ) (b : Bool) : 
 pub some_same : (x y : Machine) → Some x ≡ Some y → x ≡ y
 some_same x y e = cc
 
--- as many steps from one machine lead to one machine
+-- the same number of steps from the same machine leads to the same machine
 pub one_machine : (l : Plan) (x0 : Machine) (m t : Moment) → t.state.retired ≡ m.state.retired → (h : HoldsAfter l x0 m) (k : HoldsAfter l x0 t) → k.machine ≡ h.machine
 one_machine l x0 m t r h k =
     let a = h.count in
@@ -170,7 +170,7 @@ steady_total l x0 m t n b e c h k w f =
 abbrev pub LeftSo : Plan → State → Machine → State → List ℕ → List ℕ → Type 0
 LeftSo l s x t rest out = ((t.ending ≡ s.ending) × (t.retired ≡ s.retired) × (retires l s Leave ≡ []) × Sound l t rest out x) ⊎ (((y : Machine) × (step_here (isa_of l) x ≡ Goes y) × (t.ending ≡ s.ending) × (t.retired ≡ suc s.retired) × (retires l s Leave ≡ lines_at (isa_of l) x) × Sound l t rest out y) ⊎ ((e : End) × (t.ending ≡ Some e) × (t.retired ≡ s.retired) × (retires l s Leave ≡ []) × IsOver l t rest out x e))
 
--- what the walk comes to, over the machine to which the state goes on
+-- the total of the walk, over the machine to which the state goes on
 pub record LeftTotal (l : Plan) (s t : State) (x : Machine) (n : ℕ) (b : Bool) : Type 0 where
   pub how : ((t.ending ≡ s.ending) × (t.retired ≡ s.retired) × Total (isa_of l) t x n b) ⊎ (((y : Machine) × (step_here (isa_of l) x ≡ Goes y) × (t.ending ≡ s.ending) × (t.retired ≡ suc s.retired) × Total (isa_of l) t y n b) ⊎ ((e : End) × (t.ending ≡ Some e) × (t.retired ≡ s.retired) × (t.retired ≡ n) × (b ≡ true)))
 

@@ -1,4 +1,4 @@
--- The topmost passenger can always move, so that a stuck state has none.
+-- The topmost passenger can always move, so that a stuck state has no passenger.
 use Rattle.std.proofs.Common.{◌≡◌, ◌≢◌, ℕ, zero, suc, ◌+◌, ◌-◌, ◌<◌, ◌≤◌, List, [], ◌∷◌, ◌++◌, Option, Some, None, Bool, true, false, ◌==◌, ◌&&◌, ◌||◌, not, refl, sym, ap, subst, ◌∙◌, arith, length, add-one, ◌⊎◌, inl, inr}
 use Rattle.std.specs.Prelude.{slice_get, nat_lt}
 use Rattle.cf_bind.specs.declared.cell.Cell.{Cell}

@@ -1,4 +1,4 @@
--- A sound state in which no move but Issue is allowed stands as one that starts on the machine.
+-- A sound state in which no move but Issue is allowed is like one that starts on the machine.
 use Rattle.std.proofs.Common.{◌≡◌, ℕ, zero, suc, List, [], ◌∷◌, ◌++◌, length, Option, Some, None, Bool, true, false, ◌&&◌, ◌||◌, not, refl, sym, ap, subst, ◌∙◌, arith}
 use Rattle.std.specs.Prelude.{slice_get, slice_index, replicate, map, unwrap_or}
 use Rattle.std.specs.List.{list_any}
@@ -141,7 +141,7 @@ empty_drained l x m t n e h q =
       output = ends.is_out;
     }
 
--- it holds, and nothing but Issue is allowed
+-- drained at the machine, with Issue allowed and nothing in the pipes
 pub record Rested (plan : Plan) (x : Machine) (m : Moment) : Type 0 where
   pub drained : IsDrainedAt plan x m
   pub issue : bar plan m.state (Issue Next) ≡ None

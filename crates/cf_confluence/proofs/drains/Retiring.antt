@@ -1,4 +1,4 @@
--- The count of a state rises by the retirements alone.
+-- The count of a state rises only by retirements.
 use Rattle.std.proofs.Common.{◌≡◌, ℕ, ◌+◌, Option, Some, None, Bool, true, false, refl, ap, ◌∙◌, arith}
 use Rattle.std.specs.Prelude.{not, ◌&&◌, if◌then◌else◌}
 use Rattle.cf_layout.specs.Layout.{Plan}
@@ -74,7 +74,7 @@ retires_so l m (Recover i) e b v = quiet m.state.retired _ e (plain e v) (runs.r
 retires_so l m Exit e b v = quiet m.state.retired _ e (plain e v) (runs.exit_counts l m.state).retired
 retires_so l m Serve e b v = quiet m.state.retired _ e (plain e v) (runs.serve_counts l m).retired
 
--- an Issue is no retirement
+-- an Issue is not a retirement
 pub issue_quiet : (l : Plan) (s : State) (mv : Move) (e : Event) → is_issue mv ≡ true → IsEvent l s mv e → is_retirement e ≡ false
 issue_quiet l s (Issue g) e i v = plain e v
 issue_quiet l s Emit e i v = absurd (cc)

@@ -22,7 +22,7 @@ pub record Follows (w v : Way) : Type 0 where
   pub on : v.path.barred ≡ false → v.on ≡ w.on
   pub lost : w.path.barred ≡ false → v.path.barred ≡ true → ahead w ≡ false
 
--- off the path, or behind a wrong guess, no passenger counts
+-- off the path, or after a wrong guess, no passenger counts
 behind_lost : (isa : Isa) (i : ℕ) (p : Passenger) (w : Way) → w.path.barred ≡ false → ahead w ≡ false → sure.Fits isa (Up i p) w.path → ((past isa (Up i p) w).count ≡ w.count) × (ahead (past isa (Up i p) w) ≡ false) × ((past isa (Up i p) w).stop ≡ w.stop)
 unfolding past sure.Fits trail.past sure.SureAt follows stops
 behind_lost isa i p w b a h = grind arith
@@ -94,7 +94,7 @@ item_goes_on isa (Down i k) w v f h = packet_follows isa i k w v f
 pub way_walk : (isa : Isa) → IsWalk Way (Fits isa) (past isa) Follows
 way_walk isa = record { stays = item_stays isa; goes_on = item_goes_on isa }
 
--- Execute, Recover: what turns is behind a wrong guess
+-- Execute, Recover: where a turn is owed, the guess was wrong and what follows is off the path
 pub finish_way : (isa : Isa) (i : ℕ) (p q : Passenger) (w : Way) → q.pc ≡ p.pc → q.dead ≡ p.dead → paths.Follows (trail.past isa (Up i p) w.path) (trail.past isa (Up i q) w.path) → (w.path.barred ≡ false → p.dead ≡ false → trail.turns q.owes ≡ true → ahead (past isa (Up i p) w) ≡ false) → trail.turns p.owes ≡ false → Follows (past isa (Up i p) w) (past isa (Up i q) w)
 unfolding past trail.past follows stops
 finish_way isa i p q w e d f t u = grind arith

@@ -39,7 +39,7 @@ pub meet_count : (isa : Isa) (i : ℕ) (p : Passenger) (k : Packet) (w : Way) �
 unfolding past trail.past meeting follows stops
 meet_count isa i p k w = (grind arith, grind arith, grind arith)
 
--- Execute, Recover: what turns is behind a wrong guess
+-- Execute, Recover: where a turn or a halt is owed, what follows is off the path
 pub finish_ahead : (isa : Isa) (i : ℕ) (p : Passenger) (w : Way) (a : Option ℕ) → p.done ≡ false → goto_undone (kind p) p ≡ guessed p.guess (instruction p) p.pc → p.dead ≡ false → w.path.barred ≡ false → Finishes p w.path.machine (step_at isa w.path.machine p.pc) a → trail.turns (finish p a).owes ≡ true → ahead (past isa (Up i p) w) ≡ false
 unfolding past trail.past follows finish
 finish_ahead isa i p w a u g d b f t = go (finish_trap (instruction p) p.pc (value_in p.src1) (value_in p.src2)) refl

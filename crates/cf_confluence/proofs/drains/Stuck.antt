@@ -17,7 +17,7 @@ use Rattle.cf_semantics.specs.claims.Weight.{is_issue}
 use Rattle.cf_semantics.specs.claims.Soundness.{as_launched, operations_in}
 use Rattle.cf_refinement.proofs.invariant.Sure as sure
 
--- the row alone bars
+-- only the row bars
 pub bar_is : (l : Plan) (s : State) (m : Move) → s.ending ≡ None → s.failed ≡ false → bar l s m ≡ row_bar l s m
 unfolding bar
 bar_is l s m e f = rw (e, f) refl
@@ -121,7 +121,7 @@ pub lane_none : (q : List ℕ) (c : Cell) → c.packet ≡ None → emit_bar q c
 lane_none [] c e n = refl
 lane_none (r ∷ q) c e n = absurd (n (grind arith))
 
--- a passenger that cannot go on is launched and not recovered, or live, undone and not launched
+-- a passenger that cannot go on is launched and not recovered, or live, not done and not launched
 pub record Held (p : Passenger) : Type 0 where
   pub how : ((p.launched ≡ true) × (p.recovered ≡ false)) ⊎ ((p.dead ≡ false) × (p.done ≡ false) × (p.launched ≡ false))
 

@@ -1,4 +1,4 @@
--- What every move keeps besides: a stage that has met holds a passenger and a packet, no siding comes or goes, and nothing fails.
+-- What else every move keeps: a stage that has met holds a passenger and a packet, no siding comes or goes, and nothing fails.
 use Rattle.std.proofs.Common.{◌≡◌, ℕ, zero, suc, ◌+◌, ◌-◌, List, [], ◌∷◌, length, Option, Some, None, Bool, true, false, ◌&&◌, ◌||◌, not, refl, ap, ◌∙◌, arith}
 use Rattle.std.specs.Prelude.{slice_get, slice_set, replicate, map}
 use Rattle.rv_machine.specs.Machine.{Machine}

@@ -1,4 +1,4 @@
--- A move but Issue and Leave leaves how much stands on the path, and whether the sequential path comes to an end in the pipe.
+-- A move other than Issue and Leave changes neither how much stands on the path nor whether the sequential path comes to an end in the pipe.
 use Rattle.std.proofs.Common.{◌≡◌, ℕ, List, [], ◌∷◌, ◌++◌, Option, Some, None, Bool, true, false, refl, sym, ap, subst, ◌∙◌, arith}
 use Rattle.cf_bind.specs.Meeting.{meeting}
 use Rattle.cf_bind.specs.declared.packet.Packet.{Packet}

@@ -1,4 +1,4 @@
--- What is fetched depends on code alone, and what is loaded on bytes alone, where the regions have the same bounds.
+-- What is fetched depends only on code, and what is loaded only on bytes, where the regions have the same bounds.
 use Rattle.std.proofs.Common.{◌≡◌, ℕ, ◌-◌, List, [], ◌∷◌, Option, Some, Bool, true, false, Result, Err, refl, ap, ◌∙◌, cond}
 use Rattle.std.specs.Prelude.{find, map, take, drop, if◌then◌else◌}
 use Rattle.std.specs.Option.{option_map}

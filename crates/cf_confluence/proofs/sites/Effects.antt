@@ -20,7 +20,7 @@ use Rattle.cf_semantics.specs.moves.Moves.{fetch_at, set_last, without_passenger
 use Rattle.cf_semantics.specs.moves.Sites.{last_number}
 use Rattle.cf_refinement.proofs.column.Sidings.{cells_in}
 
--- another content of a stage, or of a cell of a siding
+-- new contents of a stage, or of a cell of a siding
 pub record StagePut : Type 0 where
   pub stage : ℕ
   pub cell : Cell
@@ -30,7 +30,7 @@ pub record CellPut : Type 0 where
   pub number : ℕ
   pub op : Option Op
 
--- what a move leaves otherwise than it was: of the memory, the operation whose access is made
+-- what a move changes: for the memory, the operation whose access is made
 pub record Effect : Type 0 where
   pub stages : List StagePut
   pub ops : List CellPut
@@ -113,7 +113,7 @@ leave_as false None n c regs count = record (one_stage n (without_passenger c)) 
 abbrev pub exit_effect : Fetch → List (Option ℕ) → Cell → Effect
 exit_effect f cache c = record (one_stage 1 (without_packet c)) { fetch = Some f; cache = Some cache }
 
--- the effect of a move; that of Serve is not meant
+-- the effect of a move; for Serve it means nothing
 unfoldable pub effect : Plan → State → Move → Effect
 effect l s (Issue g) = on (cell_at s.cells 1) nothing (λ c. on (running s.fetch) nothing (λ pc. issue_effect s.lane s.cache (fresh s.cache (fetched (isa_of l) s.mem pc) pc g) c))
 effect l s Emit = on (cell_at s.cells l.stages) nothing (emit_effect l.stages s.regs s.lane)

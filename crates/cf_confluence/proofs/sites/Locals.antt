@@ -1,4 +1,4 @@
--- A law for each kind of move: its bar and its effect depend on the sites that it reads alone, and its effect is made at the sites that it writes.
+-- A law for each kind of move: its bar and its effect depend only on the sites that it reads, and its effect is made at the sites that it writes.
 use Rattle.std.proofs.Common.{◌≡◌, ℕ, suc, ◌+◌, ◌-◌, List, [], ◌∷◌, length, Option, Some, None, Bool, true, false, ◌==◌, ◌&&◌, ◌||◌, not, refl, sym, ap, subst, ◌∙◌, arith}
 use Rattle.std.specs.Prelude.{slice_get, if◌then◌else◌}
 use Rattle.mem_regions.specs.Access.{Bounds, bounds_of}
@@ -79,7 +79,7 @@ read l m t mv h x e = h.sites x (or_right (uses l m.state mv x) (only_reads mv x
 reads_ended : (mv : Move) → (only_reads mv Ended ≡ true) × (only_reads mv Failure ≡ true)
 reads_ended mv = (grind arith, grind arith)
 
--- the row alone decides
+-- only the row decides
 by_row : (l : Plan) (m t : Moment) (mv : Move) → AreAlike (reads l m.state mv) m t → row_bar l m.state mv ≡ row_bar l t.state mv → bar l m.state mv ≡ bar l t.state mv
 unfolding bar
 by_row l m t mv h e = rw (ended_same m t (read l m t mv h Ended (reads_ended mv).0), failed_same m t (read l m t mv h Failure (reads_ended mv).1), e) refl
@@ -442,7 +442,7 @@ exit_local l m = record {
     keeps_same : (t : Moment) → AreAlike (reads l m.state Exit) m t → m.state.cache ≡ t.state.cache
     keeps_same t h = cache_same m t (used l m t Exit h Cache refl)
 
--- Serve, whose effect is not meant
+-- Serve, whose effect means nothing
 pub serve_local : (l : Plan) (m : Moment) → HasLaw l m Serve
 unfolding effect
 serve_local l m = record {

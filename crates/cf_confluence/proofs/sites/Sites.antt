@@ -1,4 +1,4 @@
--- The table of sites is right: a move leaves what it does not write, and what it does depends on what it reads alone.
+-- The table of sites is right: a move leaves what it does not write, and what it does depends only on what it reads.
 use Rattle.std.proofs.Common.{◌≡◌, ℕ, zero, suc, List, [], ◌∷◌, ◌++◌, Option, Some, None, Bool, true, false, ◌==◌, ◌||◌, refl, sym, ap, subst, ◌∙◌, arith}
 use Rattle.std.specs.Prelude.{slice_get, slice_set, unwrap_or}
 use Rattle.mem_regions.specs.Memory as regions
@@ -106,7 +106,7 @@ put_same e m t Count f h = ap (λ (n : ℕ). OfCount (unwrap_or e.count n)) (cc)
 put_same e m t Ended f h = ap (λ (o : Option End). OfEnding (on e.ending o Some)) (cc)
 put_same e m t Failure f h = h
 
--- all that a move writes it reads
+-- a move reads all that it writes
 written_read : (l : Plan) (s : State) (mv : Move) (x : Site) → writes l s mv x ≡ true → reads l s mv x ≡ true
 written_read l s mv x w = go (uses l s mv x) refl
   where

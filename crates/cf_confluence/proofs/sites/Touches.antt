@@ -26,7 +26,7 @@ abbrev pub any_cell : ℕ → ℕ → List CellPut → Bool
 any_cell k c [] = false
 any_cell k c (p ∷ ps) = ((k == p.siding) && (c == p.number)) || any_cell k c ps
 
--- the effect gives the site another content
+-- the effect gives the site new contents
 abbrev pub touches : Effect → Site → Bool
 touches e (Stage j) = any_stage j e.stages
 touches e (SidingCell k c) = any_cell k c e.ops

@@ -116,7 +116,7 @@ paid l x0 m (mv ∷ moves) acc r h =
     let c : moves_per_issue l * (counts (is_issue mv) 1 + issues moves) ≡ moves_per_issue l * counts (is_issue mv) 1 + moves_per_issue l * issues moves = grind arith in
     omega (arith, a, b, c)
 
--- nothing weighs at the beginning
+-- the state at the beginning weighs nothing
 empty_cell_weighs : (n d i : ℕ) → cell_weight n d i empty_cell ≡ 0
 unfolding cell_weight
 empty_cell_weighs n d i = refl

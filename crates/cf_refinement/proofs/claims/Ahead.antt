@@ -1,4 +1,4 @@
--- The core's memory is that of the machine behind the passengers that have passed the port.
+-- The core's memory is that of the machine after the passengers that have passed the port.
 use Rattle.cf_semantics.specs.claims.Refines.{gained}
 use Rattle.cf_refinement.proofs.claims.Runs.{after_more}
 use Rattle.std.proofs.Common.{◌≡◌, ℕ, suc, ◌+◌, ◌≤◌, ◌<◌, List, [], ◌∷◌, Option, Some, Bool, true, false, ◌||◌, ◌&&◌, not, refl, sym, ap, ◌∙◌, arith}
@@ -32,7 +32,7 @@ use Rattle.cf_semantics.specs.claims.Soundness.{may_turn}
 use Rattle.cf_refinement.proofs.instructions.Classes.{memory_is}
 use Rattle.cf_refinement.proofs.walks.Path.{sure_at}
 
--- the machine so far is on the sequential path, t.live steps behind m's n-th
+-- the machine so far is on the sequential path, t.live steps after m's n-th
 pub record OnPath (isa : Isa) (m : Machine) (n : ℕ) (w : dock.Dock) (t : ahead.Tally) : Type 0 where
   pub so_far : after isa m (n + t.live) ≡ Some w.path.machine
   pub goto : w.path.goto ≡ Some w.path.machine.hart.pc

@@ -1,4 +1,4 @@
--- Where output and memory are level with the retired count: in a drained state; and the output is where an instruction has just retired.
+-- Where output and memory are level with the retired count: in a drained state; the output also where an instruction has just retired.
 use Rattle.std.proofs.Common.{◌≡◌, ℕ, zero, suc, ◌<◌, List, [], ◌∷◌, Option, Some, None, Bool, true, false, ◌&&◌, ◌||◌, not, refl, ap, arith}
 use Rattle.std.specs.Prelude.{slice_get, slice_set}
 use Rattle.std.specs.List.{list_any}

@@ -1,4 +1,4 @@
--- Output, input and code are those of the machine behind the served environment call, if there is one.
+-- Output, input and code are those of the machine after the served environment call, if there is one.
 use Rattle.cf_refinement.proofs.claims.Runs.{after_more}
 use Rattle.std.proofs.Common.{◌≡◌, ℕ, zero, suc, ◌+◌, ◌<◌, List, [], ◌∷◌, ◌++◌, Option, Some, None, Bool, true, false, refl, sym, ap, subst, ◌∙◌, arith, length, ◌⊎◌, inl, inr}
 use Rattle.std.specs.Prelude.{slice_get}
@@ -114,7 +114,7 @@ pub record Silent (l : Plan) (s : State) (x : Machine) (rest out : List ℕ) : T
   pub is_rest : rest ≡ x.rest
   pub is_out : out ≡ x.output
 
--- the passenger of the highest stage was served: it is sure, no passenger stands above it, and input and output are those behind its step
+-- the passenger of the highest stage was served: it is sure, no passenger stands above it, and input and output are those after its step
 pub record Served (l : Plan) (s : State) (x : Machine) (rest out : List ℕ) : Type 0 where
   pub above : List Item
   pub below : List Item

@@ -1,4 +1,4 @@
--- Every run refines the sequential machine, and the lines of two runs are one a prefix of the other.
+-- Every run refines the sequential machine, and of the lines of two runs one list is a prefix of the other.
 use Rattle.std.proofs.Common.{◌≡◌, ℕ, zero, suc, ◌+◌, ◌-◌, ◌≤◌, List, ◌++◌, Option, Some, None, refl, sym, ap, ◌∙◌, arith, length, ◌⊎◌, inl, inr}
 use Rattle.rv_inst.specs.declared.isa.Isa.{Isa}
 use Rattle.rv_machine.specs.After.{after}
@@ -80,7 +80,7 @@ either_way (suc a) (suc b) = go (either_way a b)
     go (inl e) = inl (omega arith)
     go (inr e) = inr (omega arith)
 
--- the lines of two runs, under any two layouts, are one a prefix of the other
+-- of the lines of two runs, under any two layouts, one list is a prefix of the other
 pub lines_prefix : (k l : Plan) (x0 : Machine) (moves others : List Move) → Suits k → Suits l → length x0.hart.regs ≡ 32 → IsRun k (start k x0) moves → IsRun l (start l x0) others → IsPrefix (lines k (start k x0) moves) (lines l (start l x0) others) ⊎ IsPrefix (lines l (start l x0) others) (lines k (start k x0) moves)
 lines_prefix k l x0 moves others ak al w r q =
     let m = run k (start k x0) moves in

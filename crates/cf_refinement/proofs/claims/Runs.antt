@@ -103,12 +103,12 @@ pub issue_counts : (l : Plan) (s : State) (g : _) → Counts s (moved l s (Issue
 unfolding moved
 issue_counts l s g = record { retired = grind arith; ending = grind arith }
 
--- what is allowed is allowed before the end
+-- a move is allowed only before the program has ended
 pub going : (l : Plan) (s : State) (m : Move) → bar l s m ≡ None → s.ending ≡ None
 unfolding bar
 going l s m e = grind arith
 
--- a step that goes on leads to the machine after one step more
+-- a step that goes on leads to the machine after one more step
 goes_on : (isa : Isa) (x y : Machine) → step_here isa x ≡ Goes y → next_machine (step isa x) ≡ Some y
 unfolding step_at
 goes_on isa x y e = of (step isa x) e

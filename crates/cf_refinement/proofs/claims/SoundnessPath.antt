@@ -73,7 +73,7 @@ path plan s x h p =
     let k = here plan s x p.above (Up p.stage p.who ∷ []) p.below p.split h in
     under (is_sure p.who w) (on_path (isa_of plan) p.who w) (certain (isa_of plan) p.stage p.who w k.path_fit.0)
 
--- (d) first barrier: where the last sure passenger goes on, the program goes on where the machine is
+-- (d) first barrier: where the last sure passenger is executed without ending the program, the program goes on where the machine is
 Level : Walk → Type 0
 Level w = w.barred ≡ false → w.settled ≡ true → w.goto ≡ Some w.machine.hart.pc
 
@@ -147,7 +147,7 @@ first_barrier plan s x h = record {
     lying true k w e l h = tt
     lying false k w e l h = first_packet k w (l e) h
 
--- (g) sources: behind an end no passenger is sure, so what comes comes from what has no ending
+-- (g) sources: after an end no passenger is sure, so a value that comes is from an item without an ending
 open_past : (isa : Isa) (i : Item) (w : Walk) → (trail.past isa i w).barred ≡ false → w.barred ≡ false
 unfolding trail.past
 open_past isa i w e = grind arith
@@ -171,7 +171,7 @@ nowhere isa (Down i k ∷ xs) w h g e =
     let q = nowhere_packet isa i k w (packet_open isa i k w (open_walk isa xs _ e)) in
     nowhere isa xs (trail.past isa (Down i k) w) h.1 (q.1 ∙ g) e
 
--- what comes from one item
+-- the values that come from one item
 from_packet : (isa : Isa) (i r : ℕ) (k : Packet) (w : Walk) (b : Bool) → ((trail.past isa (Down i k) w).coming r || b) ≡ true → (w.coming r || (brings_value r (Down i k) || b)) ≡ true
 unfolding trail.past
 from_packet isa i r k w b e = grind arith

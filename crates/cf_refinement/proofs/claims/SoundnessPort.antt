@@ -46,7 +46,7 @@ memory_order plan s x h p m l =
     let q = launched_calm isa p.who w (docked_of isa p.stage p.who w k.port_fit.0) m l in
     (q.0, none_turns isa p.above (dock.top plan s x) q.1)
 
--- (k) port: a sure passenger counts, another does not
+-- (k) port: a sure passenger counts, any other does not
 behind_sure : (isa : Isa) (n i : ℕ) (p : Passenger) (xs : List Item) (w : trail.Walk) → trail.is_sure p w ≡ true → machine_behind isa (suc n) (Up i p ∷ xs) w ≡ machine_behind isa n xs (trail.past isa (Up i p) w)
 behind_sure isa n i p xs w e = rw e refl
 
@@ -63,7 +63,7 @@ behind_packet : (isa : Isa) (n i : ℕ) (k : Packet) (xs : List Item) (w : trail
 behind_packet isa zero i k xs w = sym (path_result isa i k w).0
 behind_packet isa (suc n) i k xs w = refl
 
--- where nothing is risky, the live passengers so far are the sure ones: behind them the column goes on as the rest does
+-- where nothing is risky, the live passengers so far are the sure ones: after them the column goes on as the rest does
 abbrev pub GoesOn : Isa → List Item → trail.Walk → List Item → dock.Dock → ahead.Tally → Type 0
 GoesOn isa all from xs w t = w.risky ≡ false → (n : ℕ) → machine_behind isa (t.live + n) all from ≡ machine_behind isa n xs w.path
 
@@ -98,7 +98,7 @@ goes_on_rider isa all from i p xs w t safe g r n = by p.dead refl
         let c : (ahead.counted (Up i p) t).live + n ≡ t.live + n = ap (λ (z : ℕ). z + n) (counted_live i p t) ∙ live_none t.live n p.dead d in
         ap (λ (z : ℕ). machine_behind isa z all from) c ∙ g calm n ∙ behind_other isa n i p xs w.path (dead_is p w.path d) ∙ ap (machine_behind isa n xs) (sym (past_path isa (Up i p) w))
 
--- one that has passed the port is live
+-- a passenger that has passed the port is live
 ported_live : (p : Passenger) (answer : Option ℕ) → ahead.has_ported p answer ≡ true → p.dead ≡ false
 ported_live p answer e = go p.dead refl
   where
@@ -106,7 +106,7 @@ ported_live p answer e = go p.dead refl
     go false d = d
     go true d = absurd (grind arith)
 
--- memory so far is that of the machine behind the passengers so far that have passed the port
+-- memory so far is that of the machine after the passengers so far that have passed the port
 abbrev pub Stored : Isa → List Item → trail.Walk → dock.Dock → ahead.Tally → Type 0
 Stored isa all from w t = w.mem ≡ (machine_behind isa t.ported all from).hart.mem
 
@@ -148,13 +148,13 @@ stored isa all from (Down i k ∷ xs) w t fit safe same g h =
     let q = same_packet isa i k w t in
     stored isa all from xs (dock.past isa (Down i k) w) (ahead.counted (Down i k) t) fit.1 (past_safe isa (Down i k) w safe) (ap (λ (z : ahead.Tally). z.answer) q.tally ∙ same ∙ sym q.answer) (goes_on_packet isa all from i k xs w t g) (q.mem ∙ h ∙ ap (λ (z : ahead.Tally). (machine_behind isa z.ported all from).hart.mem) (sym q.tally))
 
--- packets alone are passed
+-- only packets are passed
 behind_idle : (isa : Isa) (n : ℕ) (xs ys : List Item) (w : trail.Walk) → Idle xs → machine_behind isa n (xs ++ ys) w ≡ machine_behind isa n ys (walk (trail.past isa) xs w)
 behind_idle isa n [] ys w h = refl
 behind_idle isa n (Up i p ∷ xs) ys w h = absurd h
 behind_idle isa n (Down i k ∷ xs) ys w h = behind_packet isa n i k (xs ++ ys) w ∙ behind_idle isa n xs ys (trail.past isa (Down i k) w) h
 
--- behind the served one
+-- after the served passenger
 behind_served : {rest out : List ℕ} (plan : Plan) (s : State) (x : Machine) (q : Served plan s x rest out) → machine_behind (isa_of plan) 1 (column s) (trail.top s x) ≡ behind (step_at (isa_of plan) x q.who.pc) x
 behind_served plan s x q =
     let isa = isa_of plan in

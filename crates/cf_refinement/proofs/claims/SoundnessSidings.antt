@@ -34,7 +34,7 @@ stops {rest} {out} plan s x h = record {
     stands p = (here plan s x p.above (Up p.stage p.who ∷ []) p.below p.split h).stands.0
 
 -- (f) sidings
--- above the first whose operation is in Memory's siding the answer stays
+-- above the first passenger whose operation is in Memory's siding the answer stays
 answer_rider : (isa : Isa) (i : ℕ) (p : Passenger) (w : dock.Dock) → flies p ≡ false → (dock.past isa (Up i p) w).answer ≡ w.answer
 unfolding dock.past
 answer_rider isa i p w e = rw e refl
@@ -48,7 +48,7 @@ answer_kept isa [] w h = refl
 answer_kept isa (Up i p ∷ xs) w h = answer_kept isa xs (dock.past isa (Up i p) w) h.1 ∙ answer_rider isa i p w h.0
 answer_kept isa (Down i k ∷ xs) w h = answer_kept isa xs (dock.past isa (Down i k) w) h ∙ answer_packet isa i k w
 
--- the answer is the value of the first whose operation is there
+-- the answer is the value of the first passenger whose operation is there
 answers_it : (isa : Isa) (i : ℕ) (p : Passenger) (w : dock.Dock) (v : Walk) (a : ℕ) → w.path ≡ v → flies p ≡ true → w.answer ≡ Some a → dock.Fits isa (Up i p) w → IsAnswer p.dst (behind (step_at isa v.machine p.pc) v.machine).hart.regs a
 unfolding dock.Fits dock.DockedAt
 answers_it isa i p w v a e f g h =

@@ -1,4 +1,4 @@
--- A change of cells alone, through all parts of the invariant.
+-- A change of nothing but cells, through all parts of the invariant.
 use Rattle.mem_regions.specs.Memory.{Memory}
 use Rattle.std.proofs.Common.{Bool, List, Option, [], ap, arith, false, length, not, refl, sym, true, true≢false, ℕ, ◌++◌, ◌∙◌, ◌∷◌, ◌≡◌}
 use Rattle.std.specs.Prelude.{if◌then◌else◌}
@@ -38,7 +38,7 @@ pub walk_wide : (isa : Isa) (xs : List Item) (w : trail.Walk) → length w.machi
 walk_wide isa [] w e = e
 walk_wide isa (i ∷ xs) w e = walk_wide isa xs (trail.past isa i w) (past_wide isa i w e)
 
--- the port's walk has the path's in it
+-- the port's walk contains the path's
 pub walk_path : (isa : Isa) (xs : List Item) (w : dock.Dock) → (walk (dock.past isa) xs w).path ≡ walk (trail.past isa) xs w.path
 walk_path isa [] w = refl
 walk_path isa (i ∷ xs) w = walk_path isa xs (dock.past isa i w) ∙ ap (λ (q : trail.Walk). walk (trail.past isa) xs q) (past_path isa i w)
@@ -81,7 +81,7 @@ here {rest} {out} l s x above old below e h = record {
   safe = walk_safe (isa_of l) above (dock.top l s x) (λ b. absurd (cc));
 }
 
--- what a change owes at its place
+-- what has to be shown of a change at its place
 pub record Owes (l : Plan) (s : State) (x : Machine) (above old new : List Item) : Type 0 where
   pub path : Replaces trail.Walk (sure.Fits (isa_of l)) (trail.past (isa_of l)) paths.Follows old new (walk (trail.past (isa_of l)) above (trail.top s x))
   pub lone : Replaces Bool lone.Fits (lone.past l) lones.Follows old new (walk (lone.past l) above false)
@@ -125,7 +125,7 @@ each_changed l above old new below n h = each_append l above (new ++ below) (eac
 pub flown_changed : (l : Plan) (k : ℕ) (above old new below : List Item) → operations_of l k old ≡ operations_of l k new → operations_of l k (above ++ (old ++ below)) ≡ operations_of l k (above ++ (new ++ below))
 flown_changed l k above old new below e = rw (flown_append l k above (new ++ below), flown_append l k new below, flown_append l k above (old ++ below), flown_append l k old below, e)
 
--- a change in the middle of the column, with the port and the sidings by themselves
+-- a change in the middle of the column, with the port and the sidings apart
 pub reshaped : {rest out r o : List ℕ} (l : Plan) (s t : State) (x : Machine) (above old new below : List Item) → column s ≡ above ++ (old ++ below) → column t ≡ above ++ (new ++ below) → Same s t → Replaces trail.Walk (sure.Fits (isa_of l)) (trail.past (isa_of l)) paths.Follows old new (walk (trail.past (isa_of l)) above (trail.top s x)) → Replaces Bool lone.Fits (lone.past l) lones.Follows old new (walk (lone.past l) above false) → Each l new → Docks l t r o x → IsMoored l t (column t) → Sound l s rest out x → Sound l t r o x
 reshaped {rest} {out} {r} {o} l s t x above old new below was is q fp fl n d m h =
     let a = replaced _ (sure.Fits (isa_of l)) (trail.past (isa_of l)) paths.Follows (paths.path_walk (isa_of l)) above old new below (trail.top s x) fp (rw was at h.path_fit) in
@@ -160,7 +160,7 @@ changed {rest} {out} l s x cells above old new below was is n f h =
     (record { operations = λ k. h.moored.operations k ∙ ap (operations_of l k) was ∙ flown_changed l k above old new below (o.operations k) ∙ ap (operations_of l k) (sym is); front = h.moored.front; plain = h.moored.plain; berths = h.moored.berths })
     h
 
--- a change of the sidings and of memory alone
+-- a change of nothing but the sidings and memory
 pub beside : {rest out : List ℕ} (l : Plan) (s : State) (x : Machine) (sidings : List (List (Option Op))) (mem : Memory) → Docks l (record s { sidings = sidings; mem = mem }) rest out x → IsMoored l (record s { sidings = sidings; mem = mem }) (column s) → Sound l s rest out x → Sound l (record s { sidings = sidings; mem = mem }) rest out x
 beside {rest} {out} l s x sidings mem d m h = record {
   regs = h.regs;

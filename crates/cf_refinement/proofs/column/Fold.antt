@@ -25,7 +25,7 @@ pub record IsWalk (W : Type 0) (Fits : Item → W → Type 0) (past : Item → W
   pub stays : (i : Item) (w v : W) → Follows w v → Fits i w → Fits i v
   pub goes_on : (i : Item) (w v : W) → Follows w v → Fits i w → Follows (past i w) (past i v)
 
--- as old fits below w, so does new, and what is below new goes on as below old
+-- where old fits below w, so does new, and the walk goes on below new as it does below old
 pub record Replaces (W : Type 0) (Fits : Item → W → Type 0) (past : Item → W → W) (Follows : W → W → Type 0) (old new : List Item) (w : W) : Type 0 where
   pub fit : Everywhere Fits past old w → Everywhere Fits past new w
   pub follows : Everywhere Fits past old w → Follows (walk past old w) (walk past new w)
@@ -49,7 +49,7 @@ module _ (W : Type 0) (Fits : Item → W → Type 0) (past : Item → W → W) (
       let f' : Follows (walk past (above ++ (old ++ below)) w) (walk past (above ++ (new ++ below)) w) = rw (walk_append past above (old ++ below), walk_append past above (new ++ below), walk_append past old below, walk_append past new below) (walk_follows below (walk past old v) (walk past new v) f hb) in
       (fit_append W Fits past above (new ++ below) w (fit_front W Fits past above _ w h) (fit_append W Fits past new below v (r.fit ha) (fit_follows below (walk past old v) (walk past new v) f hb)), f')
 
--- the old item may first be taken for another that the walk does not tell from it
+-- the old item may first be taken for another that the walk does not distinguish from it
 pub prefaced : (W : Type 0) (Fits : Item → W → Type 0) (past : Item → W → W) (Follows : W → W → Type 0) (a b : Item) (new : List Item) (w : W) → (Fits a w → Fits b w) → past a w ≡ past b w → Replaces W Fits past Follows (b ∷ []) new w → Replaces W Fits past Follows (a ∷ []) new w
 prefaced W Fits past Follows a b new w f e r = record {
   fit = λ h. r.fit (f h.0, tt);

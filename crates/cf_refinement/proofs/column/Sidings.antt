@@ -99,7 +99,7 @@ rehung l s t xs ys k q e n b z f g fr pl h = record { operations = λ j. go1 j (
     go4 j true d = ap length (here j d) ∙ z ∙ h.berths k ∙ ap (cells_of l) (sym (same j d))
     go4 j false d = ap length (other j d) ∙ h.berths j
 
--- outside its siding's stages no passenger is out
+-- outside its siding's stages no passenger has its operation out
 out_range : (l : Plan) (k i : ℕ) (p : Passenger) → Stands l i p → ((launch_stage l k ≤ i) → (i ≤ recover_stage l k) → ⊥) → in_siding l k p ≡ false
 out_range l k i p h n = go p.launched p.recovered (siding_of l (kind p)) refl refl refl
   where
@@ -140,7 +140,7 @@ pub some_cells : {A : Type 0} → (l : List A) (c : ℕ) (a : A) → slice_get l
 some_cells [] c a e = absurd (cc)
 some_cells (b ∷ l) c a e = (length l, refl)
 
--- where one siding changes, the port's answer changes with it alone
+-- where one siding changes, the port's answer stays if that siding's does
 pub answer_here : (l : Plan) (s t : State) (k : ℕ) (q : List (Option Op)) (n : ℕ) → t.sidings ≡ slice_set s.sidings k q → length (siding_at s k) ≡ suc n → (k ≡ (port l) → last_answer q ≡ last_answer (siding_at s k)) → last_answer (siding_at t (port l)) ≡ last_answer (siding_at s (port l))
 answer_here l s t k q n e b f = go (k == (port l)) refl
   where

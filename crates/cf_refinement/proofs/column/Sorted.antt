@@ -5,7 +5,7 @@ use Rattle.cf_bind.specs.declared.packet.Packet.{Packet}
 use Rattle.cf_bind.specs.declared.passenger.Passenger.{Passenger}
 use Rattle.cf_semantics.specs.state.Column.{Down, Item, Up, column_from, in_order, items, packet_in, passenger_in}
 
--- each rider's stage is so
+-- P holds of each rider's stage
 abbrev pub Riders : (ℕ → Type 0) → List Item → Type 0
 Riders P [] = Unit {0}
 Riders P (Up i p ∷ xs) = P i × Riders P xs

@@ -31,7 +31,7 @@ stage_stretch s i c d old new at was is =
 regroup : (a r m k b : List Item) → a ++ ((r ++ (m ++ k)) ++ b) ≡ (a ++ r) ++ (m ++ (k ++ b))
 regroup a r m k b = rw (append_assoc r (m ++ k) b, append_assoc m k b, append_assoc a r (m ++ (k ++ b)))
 
--- what stands in two stages, between what stays there in front and behind
+-- what stands in two stages, between what stays there before and after it
 pub pair_stretch : (s : State) (i : ℕ) (c d a b : Cell) (p : Pair s.cells i c d) (cells : List Cell) (front old new last : List Item) → cells ≡ p.below ++ a ∷ b ∷ p.above → items (suc i) d ++ items i c ≡ front ++ (old ++ last) → items (suc i) b ++ items i a ≡ front ++ (new ++ last) → Stretch s cells old new
 pair_stretch s i c d a b p cells front old new last put was is =
     let up = column_from (suc (suc i)) p.above in

@@ -33,7 +33,7 @@ fetched_by_both x i e =
 same_step : (x : Machine) (i : Instr) → fetched Rv32i x.hart.mem x.hart.pc ≡ Got i → step_here Rv32i x ≡ step_here Rv32im x
 same_step x i e = step_is Rv32i x x.hart.pc i e ∙ sym (step_is Rv32im x x.hart.pc i (fetched_by_both x i e))
 
--- and its line says the same, read as of either
+-- and its line says the same, read as of either set
 same_reading : (x : Machine) (i : Instr) (w r : ℕ) (o : outcome.Outcome Machine) → decoded_as Rv32i w ≡ Some i → GivesOwn x w r o → lines_in Rv32i o ≡ lines_in Rv32im o
 same_reading x i w r (outcome.Next n own) e h =
     let a : decoded_as Rv32i own.word ≡ Some i = ap (decoded_as Rv32i) h.word ∙ e in
@@ -49,7 +49,7 @@ same_line x i e =
     same_reading x i q.word (dest_of i) (step Rv32i x) q.read (own_step Rv32i x i q)
     ∙ ap (lines_in Rv32im) (step_executes Rv32i x i q ∙ sym (step_executes Rv32im x i r))
 
--- the machine behind a step that goes on
+-- the machine after a step that goes on
 abbrev onward_of : Stepped → Option Machine
 onward_of (Goes m) = Some m
 onward_of (Stops e) = None

@@ -1,4 +1,4 @@
--- What is fetched depends on the code alone.
+-- What is fetched depends only on the code.
 use Rattle.std.proofs.Common.{◌≡◌, ℕ, ◌+◌, ◌-◌, List, [], ◌∷◌, Option, Some, None, Bool, true, false, Result, Ok, Err, refl, ap, sym, ◌∙◌, cond}
 use Rattle.std.specs.Prelude.{◌&&◌, ◌==◌, ◌%◌, nat_le, take, drop, find, map, if◌then◌else◌}
 use Rattle.mem_regions.specs.Area.{Area}

@@ -1,4 +1,4 @@
--- A processor reads only instructions that it has units or a siding for.
+-- A processor reads only instructions for which it has units or a siding.
 use Rattle.std.proofs.Common.{◌≡◌, ℕ, Some, Bool, true, false, refl, sym, ap, ◌∙◌, arith, IsTrue}
 use Rattle.std.specs.Prelude.{◌&&◌}
 use Rattle.mem_regions.specs.Memory.{Memory}

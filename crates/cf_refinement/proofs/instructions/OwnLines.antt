@@ -41,7 +41,7 @@ pub record IsOwn (x : Machine) (w r : ℕ) (n : Machine) (own : Retired) : Type 
   pub value : own.value ≡ (if r == 0 then 0 else got)
   pub regs : n.hart.regs ≡ machine.with_register x.hart.regs r got
 
--- so it is of an outcome that goes on
+-- so it is for an outcome that goes on
 abbrev pub GivesOwn : Machine → ℕ → ℕ → outcome.Outcome Machine → Type 0
 GivesOwn x word r (outcome.Next n own) = IsOwn x word r n own
 GivesOwn x word r (outcome.Trap cause pc detail) = Unit {0}
@@ -147,7 +147,7 @@ abbrev pub got : List ℕ → Option ℕ → Option Binding
 got regs None = None
 got regs (Some r) = Some (record { reg = r; value = Some (slice_index regs r) })
 
--- the register that the line names has its value behind the step
+-- the register that the line names has its value after the step
 named_got : (regs : List ℕ) (r v : ℕ) → r < length regs → named r (if r == 0 then 0 else v) ≡ got (machine.with_register regs r v) (register r)
 named_got regs r v b = by (r == 0) refl
   where
@@ -168,7 +168,7 @@ unfolding dst_of
 read_own isa x n i word own d b h =
     rw (h.pc, h.word, h.reg, h.value, h.regs, d) (ap (λ (q : Option Binding). row x.hart.pc i q) (named_got x.hart.regs (dest_of i) h.got b))
 
--- of an instruction that retires, the machine's own line is its address, what it is, and its destination with the value behind the step
+-- of an instruction that retires, the machine's own line is its address, what it is, and its destination with the value after the step
 pub own_line : (isa : Isa) (x y : Machine) (i : Instr) → length x.hart.regs ≡ 32 → fetched isa x.hart.mem x.hart.pc ≡ Got i → step_here isa x ≡ Goes y → lines_at isa x ≡ row x.hart.pc i (got y.hart.regs (dst_of i)) ∷ []
 unfolding step_at
 own_line isa x y i wide e g =

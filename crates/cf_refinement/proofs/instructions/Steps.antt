@@ -1,4 +1,4 @@
--- What the proofs about moves use of single instructions: they open the instruction set nowhere else.
+-- What the proofs about moves use of single instructions: nowhere else do they look into the instruction set.
 use Rattle.std.proofs.Common.{◌≡◌, ◌≢◌, ℕ, ◌-◌, ◌%◌, ◌<◌, List, [], Option, Some, None, Bool, true, false, Result, Ok, Err, refl, sym, ap, ◌∙◌, arith, length, length-set, append-nil}
 use Rattle.std.proofs.lemmas.Bool.Decides.{nat_tests}
 use Rattle.std.proofs.lemmas.List.{get_or-set_other}
@@ -136,12 +136,12 @@ retires : (x : Machine) (mem : Memory) (word pc r v : ℕ) →
 unfolding machine.retire
 retires x mem word pc r v = rw (append-nil x.output, destination_written x.hart.regs r v) refl
 
--- off branches and jumps the program goes on at the next word
+-- except at branches and jumps the program goes on at the next word
 pub straight_next : (i : Instr) (pc a b : ℕ) → is_control (kind_of i) ≡ false → next_pc i pc a b ≡ word_after pc
 unfolding kind_of next_pc
 straight_next i pc a b e = grind arith
 
--- off branches and jumps nothing traps at the end
+-- except at branches and jumps nothing traps at the end
 pub straight_trap : (i : Instr) (pc a b : ℕ) → is_control (kind_of i) ≡ false → finish_trap i pc a b ≡ None
 unfolding finish_trap
 straight_trap i pc a b e = rw e refl
@@ -413,7 +413,7 @@ sure_keeps isa p x g h r f = go (fetched isa x.hart.mem p.pc) refl h.reads
     go (Got i) e k = (step_keeps isa x p.pc i e).other r (not_reg p.dst (dst_of i) r (h.shape i k).three f)
     go (Bad b) e k = rw (bad_stays isa x p.pc b e) refl
 
--- what ends at the end of a unit, or at the memory port, is a trap
+-- an ending that comes from a unit, or from the memory port, is a trap
 pub finish_traps : (i : Instr) (pc a b : ℕ) (e : End) → finish_trap i pc a b ≡ Some e → is_trap (Some e) ≡ true
 unfolding finish_trap
 finish_traps i pc a b e h = grind arith
@@ -509,7 +509,7 @@ served_bounds i regs mem rest a e = go (machine.synchronizes i) e
     go true f = let g : record { value = 0; mem = synced mem; rest = rest; output = [] } ≡ a = cc in ap (λ (z : called.Answer). bounds_of z.mem) (sym g) ∙ bounds-synced mem
     go false f = call_bounds regs mem rest a f
 
--- a written region is fetched from as before
+-- from a region that was written the same code is fetched as before
 text_kept : (addr : ℕ) (w : List ℕ) (a : Area) → area_text (area_with addr w a) ≡ area_text a
 text_kept addr w a = rw (length-overwritten a.bytes (addr - a.base) w) refl
 
@@ -590,7 +590,7 @@ step_bounds isa x pc = go (fetched isa x.hart.mem pc) refl
     go (Got i) e = bounds_at (step_at isa x pc) x pc (rw (step_is isa x pc i e) (class_bounds (kind_of i) i (value_read x.hart.regs (src1_of i)) (value_read x.hart.regs (src2_of i)) (at_pc x pc)))
     go (Bad b) e = rw (bad_stays isa x pc b e) refl
 
--- a step that goes on writes the destination alone
+-- a step that goes on writes only the destination
 writes_on : (o : Option End) (k m : Machine) (d : Option ℕ) (n : Machine) → on o (Goes k) Stops ≡ Goes n → (v : ℕ) × (k.hart.regs ≡ value_written m.hart.regs d v) → (v : ℕ) × (n.hart.regs ≡ value_written m.hart.regs d v)
 writes_on None k m d n e h = let q : k ≡ n = cc in rw (← q) h
 writes_on (Some b) k m d n e h = absurd (cc)

@@ -1,4 +1,4 @@
--- The invariant: what every move keeps. It has all that soundness claims, and what the induction needs besides.
+-- The invariant: what every move keeps. It has all that soundness claims, and what else the induction needs.
 use Rattle.std.specs.Prelude.{◌≡◌, ◌+◌, ℕ, List, Option, Some, None, false, length}
 use Rattle.rv_machine.specs.Machine.{Machine}
 use Rattle.rv_machine.specs.After.{after}
@@ -18,7 +18,7 @@ use Rattle.cf_refinement.proofs.invariant.Lone as lone
 use Rattle.cf_refinement.proofs.invariant.Stands.{Each}
 use Rattle.cf_refinement.proofs.invariant.Operations.{IsMoored}
 
--- the state is sound over the sequential machine as far as it has retired, beside the rest of the input and the output so far
+-- the state is sound over the sequential machine after the instructions that have retired, with the rest of the input and the output so far
 pub record Sound (plan : Plan) (s : State) (rest out : List ℕ) (x : Machine) : Type 0 where
   pub regs : s.regs ≡ x.hart.regs
   pub wide : length x.hart.regs ≡ 32

@@ -1,4 +1,4 @@
--- The order of memory operations, and what memory, input and output have come to.
+-- The order of memory operations, and what has become of memory, input and output.
 use Rattle.std.specs.Prelude.{◌≡◌, ℕ, List, Option, Some, None, Bool, true, false, ◌||◌, if◌then◌else◌}
 use Rattle.mem_regions.specs.Memory.{Memory}
 use Rattle.mem_regions.specs.Access.{bounds_of}
@@ -15,7 +15,7 @@ use Rattle.cf_semantics.specs.claims.Path as path
 use Rattle.cf_semantics.specs.moves.Fetches.{Text, code_of}
 use Rattle.cf_semantics.specs.claims.Soundness.{IsAnswer, may_turn}
 
--- what is known on the way down, besides the path: whether memory may not be touched further down; what memory, code, input and output have come to; and the answer at the end of Memory's siding, while no passenger so far is its own
+-- what is known on the way down, besides the path: whether memory may not be touched further down; what has become of memory, code, input and output; and the answer at the end of Memory's siding until its own passenger is passed
 pub record Dock : Type 0 where
   pub path : path.Walk
   pub risky : Bool

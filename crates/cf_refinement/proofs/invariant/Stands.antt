@@ -12,7 +12,7 @@ use Rattle.cf_semantics.specs.state.Passengers.{kind, missing}
 use Rattle.cf_semantics.specs.claims.Ahead.{has_served}
 use Rattle.cf_refinement.proofs.invariant.Suited.{is_plain}
 
--- at or below the last unit stage, or the siding's launch stage
+-- at or below the last stage with a unit, or the siding's launch stage
 abbrev pub Low : Plan → Class → ℕ → Type 0
 Low plan c i = Where (siding_of plan c) (i ≤ last_stage plan c) (λ k. i ≤ launch_stage plan k)
 

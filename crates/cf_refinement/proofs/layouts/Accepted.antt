@@ -41,12 +41,12 @@ one_home plan acc c e = go (is_extra c) refl
     go true f = extra c f
     go false f = let n = acc.needed c (grind arith) in omega arith
 
--- no unit is at a stage where there are none
+-- where there are no units, none is at a stage
 no_unit : (xs : List ℕ) (i : ℕ) → xs ≡ [] → list_any (nat_eq i) xs ≡ true → ⊥
 no_unit [] i e f = cc
 no_unit (x ∷ xs) i e f = cc
 
--- what has a unit is plain
+-- a class that has a unit is plain
 unit_plain : (plan : Plan) → IsAccepted plan → (c : Class) (i : ℕ) → unit_at plan c i ≡ true → is_plain c ≡ true
 unfolding unit_at
 unit_plain plan acc Memory i e = absurd (no_unit (stages_of plan Memory) i acc.memory e)

@@ -13,7 +13,7 @@ use Rattle.cf_layout.specs.Layout.{Plan, SidingPlan, homes, last_of, no_siding, 
 use Rattle.cf_layout.specs.Accepted.{IsAccepted, IsStage}
 use Rattle.cf_semantics.specs.state.Options.{is_some}
 
--- one passes where some are kept
+-- one passes the test where the filter keeps some
 first_kept : {A : Type 0} (p : A → Bool) (xs : List A) → is_some (position p xs) ≡ nat_lt 0 (length (filter p xs))
 first_kept p [] = refl
 first_kept p (x ∷ xs) = rw (position-cons p x xs) (go (p x) (position p xs) (filter p xs) (first_kept p xs))
@@ -86,12 +86,12 @@ pub unit_home : (xs : List ℕ) (i : ℕ) → list_any (nat_eq i) xs ≡ true �
 unit_home [] i e = absurd (cc)
 unit_home (x ∷ xs) i e = refl
 
--- there are none, or some
+-- there are no stages, or some
 pub none_or_some : (xs : List ℕ) (other : ℕ) → ((xs ≡ []) × (unit_homes xs ≡ 0) × (last_of xs other ≡ other)) ⊎ ((unit_homes xs ≡ 1) × (list_any (nat_eq (last_of xs other)) xs ≡ true))
 none_or_some [] other = inl (refl, refl, refl)
 none_or_some (x ∷ xs) other = inr (refl, last_among x xs)
 
--- what goes through a siding that is Memory's alone is Memory
+-- a class that goes through a siding for Memory alone is Memory
 pub memory_only : (c : Class) (siding : SidingPlan) → siding.classes ≡ Memory ∷ [] → serves siding c ≡ true → c ≡ Memory
 unfolding serves
 memory_only c siding e s = one c (rw e at s)

@@ -68,7 +68,7 @@ pub next_access : (l : Plan) (s : State) (op : Op) → last_op (siding_at s (por
 unfolding moved
 next_access l s op e = rw e refl
 
--- the first operation is that of the topmost passenger that is out
+-- the first operation is that of the topmost passenger whose operation is out
 pub record First (l : Plan) (k : ℕ) (xs : List Item) (o : Op) : Type 0 where
   pub above : List Item
   pub below : List Item
@@ -132,7 +132,7 @@ settled l i [] acc e r g h = tt
 settled l i (Up j p ∷ xs) acc e r g h = (settled_one l i j p acc e r.0 g.0 h.0, settled l i xs acc e r.1 g.1 h.1)
 settled l i (Down j k ∷ xs) acc e r g h = settled l i xs acc e r g h
 
--- the answer is the destination's value behind the step
+-- the answer is the destination's value after the step
 write_answers : (o : Option Binding) (d : Option ℕ) (v : ℕ) (regs : List ℕ) → length regs ≡ 32 → ((r : ℕ) → d ≡ Some r → r < 32) → reg_in o ≡ d → IsAnswer o (value_written regs d v) v
 write_answers None d v regs l b e = tt
 write_answers (Some q) d v regs l b e = rw (← e) (get_or-set_same regs q.reg v 0 (rw l (b q.reg (sym e))))
@@ -168,7 +168,7 @@ answered_operations q n op a e f =
 access_alike : {A : Type 0} → (f : Instr → ℕ → ℕ → memory.Memory → A) → {i j : Instr} {a c b d : ℕ} {m n : memory.Memory} → i ≡ j → a ≡ c → b ≡ d → m ≡ n → f i a b m ≡ f j c d n
 access_alike f e g h k = rw (e, g, h, k) refl
 
--- the scene of an access: the operation, its passenger, the topmost that is out, and the machine where that stands
+-- the scene of an access: the operation, its passenger, which is the topmost whose operation is out, and the machine where that stands
 pub record Scene (l : Plan) (s : State) (x : Machine) : Type 0 where
   pub ready : Accesses l s
   pub first : First l (port l) (column s) (record ready.what { answer = None })

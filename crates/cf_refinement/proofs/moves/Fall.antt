@@ -26,7 +26,7 @@ use Rattle.cf_refinement.proofs.walks.Port as ports
 use Rattle.cf_refinement.proofs.invariant.Sure as sure
 use Rattle.cf_semantics.specs.claims.Path as trail
 
--- to the stage i from the one above it
+-- to stage i from the stage above it
 pub record Falls (s : State) (i : ℕ) : Type 0 where
   pub low : Cell
   pub high : Cell

@@ -145,7 +145,7 @@ below_keeps isa p w c d f k = subst (λ (z : Bool). sure.Keeps (trail.past_passe
         turn true = tt
         turn false = forget_holds c (reg_in p.dst) w.machine.hart.regs (behind (step_at isa w.machine p.pc) w.machine).hart.regs (keeps_reg isa p w (f e)) k
 
--- what nothing follows
+-- what nothing may follow
 lone_fits : (p : Passenger) (b : Bool) → b ≡ false → lone.Fits (Up 1 p) b
 unfolding lone.Fits
 lone_fits p b e = e

@@ -247,7 +247,7 @@ out_kept {rest} {out} l s x i acc r e h =
     launches_at : (l : Plan) (p : Passenger) (k i : ℕ) → siding_of l (kind p) ≡ Some k → launch_stage l k ≡ i → launches l (kind p) i ≡ true
     launches_at l p k i e f = rw e (grind (arith, f))
 
--- Launch of one that it does not permit
+-- Launch of a passenger that it does not permit
 pub trap_at : (isa : Isa) (p : Passenger) (w : trail.Walk) (e : End) → p.done ≡ false → is_memory (kind p) ≡ true → missing p.src1 ≡ None → missing p.src2 ≡ None → access_trap (instruction p) p.pc (value_in p.src1) (bounds_of w.machine.hart.mem) ≡ Some e → sure.SureAt isa p w → sure.SureAt isa (trapped p e) w
 unfolding sure.SureAt
 trap_at isa p w e d m m1 m2 t h =

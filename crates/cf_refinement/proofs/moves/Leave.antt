@@ -92,7 +92,7 @@ sure_regs : (isa : Isa) (p : Passenger) (w : trail.Walk) → length w.machine.ha
 unfolding sure.SureAt
 sure_regs isa p w l d n h = leave_regs isa p w.machine w.goto l d n h.0
 
--- the machine's step is the one of the passenger
+-- the machine's step is that of the passenger
 pub at_top : (isa : Isa) (p : Passenger) (w : trail.Walk) → w.goto ≡ Some w.machine.hart.pc → sure.SureAt isa p w → step_here isa w.machine ≡ step_at isa w.machine p.pc
 unfolding sure.SureAt
 at_top isa p w e h = let q : w.machine.hart.pc ≡ p.pc = same (sym e ∙ h.0.path) in ap (λ (a : ℕ). step_at isa w.machine a) q
@@ -144,7 +144,7 @@ not_out l k p f = go p.launched refl
     go true e = let z = f e in rw (e, z) refl
     go false e = rw e refl
 
--- a dead one
+-- a dead passenger
 pub dead_path : (isa : Isa) (s t : State) (n : ℕ) (p : Passenger) (x : Machine) → t.lane ≡ s.lane → p.dead ≡ true → paths.Follows (trail.past isa (Up n p) (trail.top s x)) (trail.top t x)
 unfolding trail.past
 dead_path isa s t n p x e d = grind arith
@@ -163,12 +163,12 @@ not_flies p f = go p.launched refl
     go true e = let z = f e in grind arith
     go false e = grind arith
 
--- a live one that goes on
+-- a live passenger that goes on
 pub live_path : (isa : Isa) (s t : State) (n : ℕ) (p : Passenger) (x y : Machine) → y ≡ behind (step_at isa x p.pc) x → t.lane ≡ s.lane → p.dead ≡ false → p.done ≡ true → p.ending ≡ None → p.owes ≡ None → p.next ≡ Some y.hart.pc → paths.Follows (trail.past isa (Up n p) (trail.top s x)) (trail.top t y)
 unfolding trail.past
 live_path isa s t n p x y e l d u z o m = grind arith
 
--- what the port is ahead by is this one step
+-- the port is ahead by this one step
 kept_if : {A : Type 0} (b : Bool) (y x : A) → (b ≡ false → y ≡ x) → y ≡ (if b then y else x)
 kept_if true y x f = refl
 kept_if false y x f = f refl
@@ -212,7 +212,7 @@ live_port l s t n p x e d u z b k h q =
       answer = rw (e, f) refl;
     }
 
--- one that ends has not passed the port
+-- a passenger that ends the program has not passed the port
 ended_out : (isa : Isa) (p : Passenger) (w : dock.Dock) (e : End) → p.ending ≡ Some e → sure.SureAt isa p w.path → dock.DockedAt isa p w → missing p.src1 ≡ None → missing p.src2 ≡ None → is_memory (kind p) ≡ true → (p.launched || p.recovered) ≡ true → ⊥
 unfolding sure.SureAt dock.DockedAt
 ended_out isa p w e n h k m1 m2 c o =

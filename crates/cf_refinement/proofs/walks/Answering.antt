@@ -1,4 +1,4 @@
--- Access: the answer changes from none to a value, and memory with it.
+-- Access: where there was no answer there is a value, and memory changes with it.
 use Rattle.rv_inst.specs.declared.instruction.Instr.{Instr}
 use Rattle.mem_regions.specs.Memory as memory
 use Rattle.std.proofs.Common.{◌≡◌, ℕ, List, [], ◌∷◌, Option, Some, None, true, false, refl, ap, arith, ◌⊎◌}
@@ -39,7 +39,7 @@ past_result : (isa : Isa) (i : ℕ) (k : Packet) (w : Dock) (b : Option ℕ) →
 unfolding past
 past_result isa i k w b = refl
 
--- above the first that flies the answer is not looked at
+-- above the first passenger that flies the answer is not looked at
 pub walk_landed : (isa : Isa) (xs : List Item) (w : Dock) (b : Option ℕ) → Landed xs → walk (past isa) xs (record w { answer = b }) ≡ record (walk (past isa) xs w) { answer = b }
 walk_landed isa [] w b h = refl
 walk_landed isa (Up i p ∷ xs) w b h = rw (past_landed isa i p w b h.0) (walk_landed isa xs (past isa (Up i p) w) b h.1)

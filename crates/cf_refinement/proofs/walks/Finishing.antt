@@ -54,7 +54,7 @@ execute_finishes isa p x g d m1 m2 c h = go (fetched isa x.hart.mem p.pc) refl h
     go (Got i) f k = got i f k
     go (Bad b) f k = let u = h.unended d in absurd (cc)
 
--- what a plain passenger owes once it is finished turns nothing, but at a branch or a jump
+-- what a plain passenger owes once it is finished turns nothing, except at a branch or a jump
 pub finish_turns : (p : Passenger) → is_plain (kind p) ≡ true → is_control (kind p) ≡ false → p.guess ≡ Next → trail.turns (finish p None).owes ≡ false
 unfolding finish
 finish_turns p c n g = grind (arith, straight_trap, straight_next)
@@ -92,7 +92,7 @@ pub finish_lone : (l : Plan) (i : ℕ) (p : Passenger) (w : Bool) → lone.shuts
 unfolding lone.Fits lone.past
 finish_lone l i p w s = record { fit = λ h. h; follows = λ h. record { shut = rw s (λ e. grind arith) } }
 
--- the port takes no notice of a plain passenger but for its turn or its trap, which was to be looked for
+-- the port takes no notice of a plain passenger but for its turn or its trap, which was to be expected
 plain_port : (c : Class) → is_plain c ≡ true → (is_memory c ≡ false) × (is_serial c ≡ false)
 plain_port c e = grind arith
 
@@ -103,7 +103,7 @@ finish_trapless : (p : Passenger) → is_control (kind p) ≡ false → is_plain
 unfolding finish
 finish_trapless p c n e = grind (arith, straight_trap)
 
--- what may turn the program then might before
+-- what may turn the program afterwards might do so before
 pub finish_turned : (i : ℕ) (p : Passenger) → p.dead ≡ false → p.done ≡ false → is_plain (kind p) ≡ true → p.ending ≡ None → (is_control (kind p) ≡ false → p.guess ≡ Next) → may_turn (Up i (finish p None)) ≡ true → may_turn (Up i p) ≡ true
 finish_turned i p d u c e g r = go (is_control (kind p)) refl
   where

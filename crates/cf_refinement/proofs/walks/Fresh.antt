@@ -168,7 +168,7 @@ pub fresh_nothing : (e : End) (c : List (Option ℕ)) (pc : ℕ) (g : Guess) →
 unfolding fresh
 fresh_nothing e c pc g = refl
 
--- what is known of it besides
+-- what else is known of it
 pub record IsFresh (p : Passenger) (g : Guess) : Type 0 where
   pub live : p.dead ≡ false
   pub owes : p.owes ≡ None

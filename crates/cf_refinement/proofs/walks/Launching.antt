@@ -1,4 +1,4 @@
--- Launch: the answer is taken by those above, the operation comes last, and the order of memory is kept.
+-- Launch: the answer is taken by the passengers above, the operation comes last, and the order of memory is kept.
 use Rattle.std.proofs.Common.{◌≡◌, ◌≢◌, ℕ, List, [], ◌∷◌, ◌++◌, Option, Some, None, Bool, true, false, refl, sym, ap, ◌∙◌, arith}
 use Rattle.std.specs.Prelude.{if◌then◌else◌}
 use Rattle.cf_bind.specs.declared.cell.Op.{Op}
@@ -124,7 +124,7 @@ launch_port isa i p w d u r n s m = record {
         go true e = let a = (m e).1 in grind arith
         go false e = grind arith
 
--- the answer is taken by the first that flies
+-- the answer is taken by the first passenger that flies
 pub flies_out : (l : Plan) (acc : Suits l) (p : Passenger) → in_siding l (port l) p ≡ true → ahead.flies p ≡ true
 flies_out l acc p e = go (siding_of l (kind p)) refl
   where
@@ -166,7 +166,7 @@ no_operation (o ∷ p ∷ l) e = no_operation (p ∷ l) (front (operations_in (p
     front [] b e = refl
     front (x ∷ a) b e = absurd (cc)
 
--- what comes to a launch: no answer, for it is taken above or there is no operation
+-- what reaches a launch: no answer, for it is taken above or there is no operation
 pub answer_none : (l : Plan) (acc : Suits l) (xs : List Item) (w : dock.Dock) (q : List (Option Op)) → operations_in q ≡ operations_of l (port l) xs → w.answer ≡ on (last_op q) None (λ o. o.answer) → (walk (dock.past (isa_of l)) xs w).answer ≡ None
 answer_none l acc xs w q e f = go (operations_of l (port l) xs) refl
   where

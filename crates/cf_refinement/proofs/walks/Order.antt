@@ -60,7 +60,7 @@ pub open_packet : (l : Plan) (i : ℕ) (k : Packet) (b : Bool) → launch_stage 
 unfolding lone.past
 open_packet l i k b n e = grind arith
 
--- behind where the program goes nowhere, no passenger is sure
+-- after the point from which the program goes nowhere, no passenger is sure
 pub nowhere_rider : (isa : Isa) (i : ℕ) (p : Passenger) (w : trail.Walk) → w.barred ≡ false → w.goto ≡ None → sure.Fits isa (Up i p) w → trail.past isa (Up i p) w ≡ w
 unfolding sure.Fits trail.past sure.SureAt
 nowhere_rider isa i p w b g h = grind arith
@@ -78,7 +78,7 @@ nowhere l (Down i k ∷ xs) w b f h o c g =
     let e = nowhere_packet (isa_of l) i k w (open_packet l i k b f.0 (walk_open l xs _ o)) in
     nowhere l xs (trail.past (isa_of l) (Down i k) w) (lone.past l (Down i k) b) f.1 h.1 o (e.0 ∙ c) (e.1 ∙ g)
 
--- no live undone branch, jump or environment call stands above Memory's launch stage
+-- no live branch, jump or environment call that is not done stands above Memory's launch stage
 steady : (l : Plan) (i : ℕ) (p : Passenger) → Suits l → launch_stage l (port l) < i → Stands l i p → is_lone p ≡ false → p.dead ≡ false → p.done ≡ false → steers (kind p) ≡ false
 steady l i p acc n h o d u = go (is_control (kind p)) (is_serial (kind p)) refl refl
   where

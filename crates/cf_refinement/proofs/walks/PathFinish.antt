@@ -93,7 +93,7 @@ trapped_sure isa p x s g e d i w f t h = record {
     reads (Got j) k = k
     reads (Bad b) k = absurd (cc)
 
--- what Finish comes to, for a passenger whose step it is
+-- what finishing leaves, for a passenger whose step it is
 pub record Finishes (p : Passenger) (x : Machine) (s : Stepped) (answer : Option ℕ) : Type 0 where
   pub what : p.what ≡ Some (instruction p)
   pub goes : finish_trap (instruction p) p.pc (value_in p.src1) (value_in p.src2) ≡ None → (m : Machine) × (s ≡ Goes m) × GivesOn x m (dst_of (instruction p)) (next_pc (instruction p) p.pc (value_in p.src1) (value_in p.src2)) (on answer (value_of (instruction p) p.pc (value_in p.src1) (value_in p.src2)) (λ v. v))

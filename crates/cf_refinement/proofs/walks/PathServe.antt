@@ -31,7 +31,7 @@ serial_steps isa p x g c h = go (fetched isa x.hart.mem p.pc) refl h.reads
         (i, k, d, step_is isa x p.pc i f ∙ ap (λ (z : Class). stepped_as z i (value_read x.hart.regs (src1_of i)) (value_read x.hart.regs (src2_of i)) (at_pc x p.pc)) d)
     go (Bad b) f k = let e : kind p ≡ Free = ap (λ (o : Option Instr). on o Free kind_of) k.0 in absurd (cc)
 
--- the machine behind a call that was answered
+-- the machine after a call that was answered
 abbrev pub after_call : Machine → Instr → ℕ → Answer → Machine
 after_call x i pc a = record {
   hart = record { pc = word_after pc; regs = value_written x.hart.regs (dst_of i) a.value; mem = a.mem; retired = x.hart.retired + 1 };

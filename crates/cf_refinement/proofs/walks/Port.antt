@@ -57,7 +57,7 @@ pub served_calm : (isa : Isa) (p : Passenger) (w : Dock) → DockedAt isa p w �
 unfolding DockedAt
 served_calm isa p w h e = h.served e
 
--- where the test holds the machines are one
+-- where the test holds the machines are the same
 either : {A : Type 0} (isa : Isa) (b : Bool) (x y : Machine) (pc : ℕ) (part : Machine → A) (o o' : A) → (b ≡ true → x ≡ y) → o ≡ o' → (if b then part (behind (step_at isa x pc) x) else o) ≡ (if b then part (behind (step_at isa y pc) y) else o')
 either isa true x y pc part o o' f e = rw (f refl)
 either isa false x y pc part o o' f e = e

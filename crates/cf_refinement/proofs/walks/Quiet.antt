@@ -10,7 +10,7 @@ use Rattle.cf_refinement.proofs.invariant.Port as dock
 use Rattle.cf_semantics.specs.claims.Path as trail
 use Rattle.cf_semantics.specs.claims.Soundness.{may_turn}
 
--- what the port comes to
+-- what the port leaves unchanged
 pub record Unchanged (w v : dock.Dock) : Type 0 where
   pub mem : v.mem ≡ w.mem
   pub code : v.code ≡ w.code

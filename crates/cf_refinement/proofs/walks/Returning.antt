@@ -44,7 +44,7 @@ back_past isa i p w = go (trail.is_sure p w)
     go true = ap (λ (o : Option ℕ). record (trail.past_passenger isa true p w) { goto = o }) (goto_back p)
     go false = refl
 
--- what nothing follows
+-- what nothing may follow
 pub back_lone_fits : (i : ℕ) (p : Passenger) (w : Bool) → lone.Fits (Up i p) w → lone.Fits (Up i (back p)) w
 unfolding lone.Fits
 back_lone_fits i p w h = h
@@ -65,7 +65,7 @@ back_port isa i p w m =
     let b : ahead.flies p ≡ ahead.flies (back p) = grind arith in
     rw (back_past isa i p w.path, a, b) refl
 
--- its stage: a dead one, and one that has finished
+-- its stage: of a dead passenger, and of one that has finished
 pub back_dead : (l : Plan) (i : ℕ) (p : Passenger) → p.dead ≡ true → p.launched ≡ true → Behind l (kind p) i → Stands l i p → Stands l i (back p)
 back_dead l i p d o b h = record {
   low = λ z. absurd (cc);

@@ -11,7 +11,7 @@ use Rattle.cf_semantics.specs.state.Layouts.{port}
 use Rattle.cf_semantics.specs.moves.Bars.{last_op}
 use Rattle.cf_semantics.specs.claims.Walks.{walk}
 
--- 1 where the test holds
+-- 1 where the test holds, else 0
 abbrev pub one : Bool → ℕ
 one true = 1
 one false = 0
@@ -24,8 +24,8 @@ has_served p = not p.dead && is_serial (kind p) && p.done && not (is_some p.endi
 abbrev pub flies : Passenger → Bool
 flies p = is_memory (kind p) && p.launched && not p.recovered
 
--- it is live and has passed the port: its call was served, or its load or store is recovered, or answered at the end of the siding. Right in reached states alone,
--- and with the answer there of the highest passenger whose load or store is in the siding: there that operation is its own, and what was recovered was answered
+-- it is live and has passed the port: its call was served, or its load or store is recovered, or answered at the end of the siding. Right only in reached states,
+-- and with the answer at the siding's end given only for the highest passenger whose load or store is in the siding: there that operation is its own, and what was recovered was answered
 abbrev pub has_ported : Passenger → Option ℕ → Bool
 has_ported p answer = has_served p || (not p.dead && is_memory (kind p) && (p.recovered || (p.launched && is_some answer)))
 
@@ -37,7 +37,7 @@ answer_there plan s = on (last_op (siding_at s (port plan))) None (λ o. o.answe
 abbrev pub served_count : Plan → State → ℕ
 served_count plan s = on (cell_at s.cells plan.stages) 0 (λ c. on c.passenger 0 (λ p. one (has_served p)))
 
--- the live passengers so far, those down to the lowest that has passed the port, and the answer at the end of Memory's siding while no passenger so far is its own
+-- the live passengers so far, how many of these there are down to the lowest that has passed the port, and the answer at the end of Memory's siding until its own passenger is passed
 pub record Tally : Type 0 where
   pub live : ℕ
   pub ported : ℕ
@@ -56,6 +56,6 @@ counted (Down i k) t = t
 abbrev pub uncounted : Plan → State → Tally
 uncounted plan s = record { live = 0; ported = 0; answer = answer_there plan s }
 
--- the live passengers from the top down to the lowest that has passed the port, 0 where none has
+-- how many live passengers there are from the top down to the lowest that has passed the port, 0 where none has passed it
 abbrev pub ported_count : Plan → State → ℕ
 ported_count plan s = (walk counted (column s) (uncounted plan s)).ported

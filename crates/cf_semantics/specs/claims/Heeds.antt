@@ -1,4 +1,4 @@
--- Which passenger a move acts for, and whether that one is on the sequential path.
+-- Which passenger a move acts for, and whether this passenger is on the sequential path.
 use Rattle.std.specs.Prelude.{◌≡◌, ◌⊎◌, ℕ, List, [], ◌∷◌, ◌++◌, Option, Some, None, true, false}
 use Rattle.rv_inst.specs.declared.isa.Isa.{Isa}
 use Rattle.rv_machine.specs.Machine.{Machine}
@@ -33,7 +33,7 @@ pub record Unmoved (m k : Moment) : Type 0 where
   pub output : k.output ≡ m.output
   pub ending : k.state.ending ≡ m.state.ending
 
--- no passenger of these has its load or store in Memory's siding
+-- no passenger among these has its load or store in Memory's siding
 abbrev pub NoneFlies : List Item → Type 0
 NoneFlies [] = Unit {0}
 NoneFlies (Up i p ∷ items) = (flies p ≡ false) × NoneFlies items
@@ -44,7 +44,7 @@ abbrev pub as_launched : Option Op → Option Op
 as_launched None = None
 as_launched (Some op) = Some (record op { answer = None })
 
--- the move acts for this passenger, above which these items stand: the one of the highest stage; or, of those whose load or store is in Memory's siding, the one that stands highest, whose operation so is the one at the siding's end
+-- the move acts for this passenger, above which these items stand: for Leave and Serve the one in the highest stage; for Access the highest of those whose load or store is in Memory's siding, and its operation is the one at the siding's end
 abbrev pub ActsFor : Plan → State → Move → List Item → ℕ → Passenger → Type 0
 ActsFor plan s Leave above i p = i ≡ plan.stages
 ActsFor plan s Serve above i p = i ≡ plan.stages
@@ -62,7 +62,7 @@ pub record Acted (plan : Plan) (s : State) (x : Machine) (mv : Move) : Type 0 wh
   pub acts : ActsFor plan s mv above stage who
   pub way : OnWay (isa_of plan) s x above who
 
--- a move changes nothing of these, or acts for a passenger on the sequential path
+-- a move changes none of these, or acts for a passenger on the sequential path
 abbrev pub Heeds : Plan → Machine → Moment → Move → Type 0
 Heeds plan start m mv =
     Unmoved m (next plan m mv)

@@ -1,6 +1,6 @@
 -- The four laws of single instructions: the step of the sequential machine is what the moves make of a passenger. They are for a reader: the theory rests on the same
--- content without a passenger, and on some facts that do not follow from it, all in `cf_refinement/proofs/instructions/Steps.antt`; docs/SOUNDNESS.md lists them. Who adds an instruction
--- to a class proves its case of `step_is` there, and where it is concerned of these facts.
+-- content without a passenger, and on some facts that do not follow from it, all in `cf_refinement/proofs/instructions/Steps.antt`; docs/SOUNDNESS.md lists them. Whoever adds an instruction
+-- to a class proves its case of `step_is` there, and of those facts that concern it.
 use Rattle.std.specs.Prelude.{◌≡◌, ◌≢◌, ℕ, List, ◌++◌, Option, Some, None, Bool, true, ◌||◌, not, slice_index}
 use Rattle.mem_regions.specs.Memory.{Memory}
 use Rattle.mem_regions.specs.Access.{bounds_of}
@@ -64,7 +64,7 @@ abbrev pub replied : Passenger → Machine → Called → Stepped
 replied p x (called.Value a) = departed (answered p a.value) (record x { rest = a.rest; output = x.output ++ a.output }) a.mem
 replied p x (called.Exit status) = Stops (Exit status)
 
--- third law: the step of what needs the whole machine is what serving it comes to, and the step of what needs no unit is what its issue makes of it
+-- third law: the step of what needs the whole machine is what serving makes of the passenger, and the step of what needs no unit is what its issue makes of it
 pub record ServesAndPasses : Type 0 where
   pub serves : (isa : Isa) (x : Machine) (i : Instr) (p : Passenger) →
       fetched isa x.hart.mem x.hart.pc ≡ Got i → is_serial (kind_of i) ≡ true → IsReady p i x →

@@ -1,4 +1,4 @@
--- The path of the program through the column. A passenger is sure where it is live and no barrier stands above it: nothing can take it back any more. The machine behind the sure passengers is the sequential machine after their instructions.
+-- The path of the program through the column. A passenger is sure where it is live and no barrier stands above it: nothing can take it back any more. The machine after the sure passengers is the sequential machine after their instructions.
 use Rattle.std.specs.Prelude.{ℕ, List, [], ◌∷◌, Option, Some, None, Bool, true, false, ◌&&◌, ◌||◌, not, ◌==◌}
 use Rattle.rv_inst.specs.declared.isa.Isa.{Isa}
 use Rattle.rv_machine.specs.Machine.{Machine}
@@ -14,7 +14,7 @@ use Rattle.cf_semantics.specs.state.State.{State}
 use Rattle.cf_semantics.specs.state.Column.{Item, Up, Down}
 use Rattle.cf_semantics.specs.state.Passengers.{goto}
 
--- what is known on the way down: the machine behind the sure passengers so far; whether a barrier was passed; where the program goes behind the last of them, if anywhere; whether that one is executed without ending the program, or there is none yet; whether it traps; and for which registers a sure passenger further down may wait
+-- what is known on the way down: the machine after the sure passengers so far; whether a barrier was passed; where the program goes after the last of them, if anywhere; whether that one is executed without ending the program, or no sure passenger was passed yet; whether it traps; and for which registers a sure passenger further down may wait
 pub record Walk : Type 0 where
   pub machine : Machine
   pub barred : Bool
@@ -42,7 +42,7 @@ has_reg None r = false
 has_reg (Some b) r = b.reg == r
 
 -- a sure passenger below may wait for r, which is the destination of this one: it is not executed yet, or owes the value; or it owes a turn or a halt, or ends the program,
--- and then none below it is sure
+-- and then no passenger below it is sure
 abbrev pub brings : Passenger → ℕ → Bool
 brings p r = has_reg p.dst r && (not p.done || is_some p.owes || is_some p.ending)
 
@@ -50,7 +50,7 @@ brings p r = has_reg p.dst r && (not p.done || is_some p.owes || is_some p.endin
 abbrev pub is_sure : Passenger → Walk → Bool
 is_sure p w = not p.dead && not w.barred
 
--- behind a sure passenger: the machine has made its step
+-- after a passenger: if it is sure, the machine has made its step
 abbrev pub past_passenger : Isa → Bool → Passenger → Walk → Walk
 past_passenger isa true p w = record {
   machine = behind (step_at isa w.machine p.pc) w.machine;
@@ -77,6 +77,6 @@ abbrev pub among : ℕ → List ℕ → Bool
 among r [] = false
 among r (x ∷ xs) = (r == x) || among r xs
 
--- at the top: the sequential machine as it has retired so far
+-- at the top: the sequential machine after the instructions that have retired so far
 abbrev pub top : State → Machine → Walk
 top s x = record { machine = x; barred = false; goto = Some x.hart.pc; settled = true; trapped = false; coming = λ r. among r s.lane }

@@ -29,7 +29,7 @@ pub record Stored (isa : Isa) (start : Machine) (n : ℕ) (s : State) : Type 0 w
   pub count : after isa start n ≡ Some at
   pub mem : s.mem ≡ at.hart.mem
 
--- with n instructions gained since the start, below whose count the count has not fallen: the machine has n steps; the lines are those that its n steps give; the registers are its registers; an ending is that of its next step; the output is that after the instructions that were served, the memory that after those that have passed the port; and where the program has ended, or nothing stands in the processor, neither is ahead
+-- the count of retired instructions is not below that of the start; with n the difference: the machine has n steps; the lines are those that its n steps give; the registers are its registers; an ending is that of its next step; the input and the output are those after the instructions that were served, the memory is that after those that have passed the port; and where the program has ended, or nothing stands in the processor, neither is ahead
 pub record Refines (plan : Plan) (start : Machine) (written : List Line) (m : Moment) : Type 0 where
   pub at : Machine
   pub rises : start.hart.retired ≤ m.state.retired
@@ -42,6 +42,6 @@ pub record Refines (plan : Plan) (start : Machine) (written : List Line) (m : Mo
   pub level : (e : End) → m.state.ending ≡ Some e → (served_count plan m.state ≡ 0) × (ported_count plan m.state ≡ 0)
   pub level_drained : is_drained m.state ≡ true → (served_count plan m.state ≡ 0) × (ported_count plan m.state ≡ 0)
 
--- the second list goes on where the first ends
+-- the second list is the first with more after it
 abbrev pub IsPrefix : List Line → List Line → Type 0
 IsPrefix a b = (more : List Line) × (b ≡ a ++ more)

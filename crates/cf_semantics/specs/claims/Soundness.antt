@@ -1,4 +1,4 @@
--- Soundness of a moment over the sequential machine: twelve claims, which every move keeps together. x is the machine as far as the processor has retired.
+-- Soundness of a moment over the sequential machine: twelve claims, which every move keeps together. x is the machine after the instructions that have retired.
 use Rattle.std.specs.Prelude.{◌≡◌, ◌≢◌, ℕ, ◌≤◌, ◌<◌, ◌==◌, if◌then◌else◌, List, [], ◌∷◌, ◌++◌, Option, Some, None, Bool, true, false, ◌&&◌, ◌||◌, not, slice_index}
 use Rattle.std.specs.List.{list_any}
 use Rattle.rv_inst.specs.declared.isa.Isa.{Isa}
@@ -42,7 +42,7 @@ abbrev pub OwesValue : Option Packet → Option Binding → Type 0
 OwesValue (Some (Value r v)) dst = dst ≡ Some (record { reg = r; value = Some v })
 OwesValue owed dst = Unit {0}
 
--- of a sure passenger over the machine before it, whose step there is s
+-- for a sure passenger, where x is the machine before it and s that machine's step at its address
 pub record HasValues (p : Passenger) (x : Machine) (s : Stepped) : Type 0 where
   pub first : HasValue p.src1 x.hart.regs
   pub second : HasValue p.src2 x.hart.regs
@@ -53,7 +53,7 @@ pub record HasValues (p : Passenger) (x : Machine) (s : Stepped) : Type 0 where
   pub done : p.done ≡ true → p.ending ≡ None → IsKnown p.dst
   pub ends : (e : End) → p.ending ≡ Some e → s ≡ Stops e
 
--- of a packet below what is known: a value is the register's
+-- for a packet, with what is known above it: a value is the register's
 abbrev pub PacketHasValue : Packet → Walk → Type 0
 PacketHasValue (Value r v) w = v ≡ slice_index w.machine.hart.regs r
 PacketHasValue k w = Unit {0}
@@ -69,16 +69,16 @@ abbrev pub Holds : Passenger → Fetched → Type 0
 Holds p (Got i) = p.what ≡ Some i
 Holds p (Bad e) = (p.what ≡ None) × (p.ending ≡ Some e)
 
--- (b) Path: each sure passenger stands where the program goes behind the one above it, and holds what the machine fetches there
+-- (b) Path: each sure passenger stands where the program goes after the one above it, and holds what the machine fetches there
 abbrev pub IsPath : Isa → State → Machine → Type 0
 IsPath isa s x = (p : Standing s) → When (is_sure p.who (known isa s x p.above))
     (((known isa s x p.above).goto ≡ Some p.who.pc) × Holds p.who (fetched isa (known isa s x p.above).machine.hart.mem p.who.pc))
 
--- (c) Fetch: with no barrier it runs where the program goes behind the last sure passenger, or waits where that is nowhere
+-- (c) Fetch: with no barrier fetch runs where the program goes after the last sure passenger, or waits if the program goes nowhere
 abbrev pub FetchesOn : Isa → State → Machine → Type 0
 FetchesOn isa s x = When (not (known isa s x (column s)).barred) (s.fetch ≡ fetch_at (known isa s x (column s)).goto)
 
--- the packet turns to where the machine is, behind a sure passenger that is done without an ending; or it halts behind one that traps
+-- the packet turns to where the machine is, after a sure passenger that is done without an ending; or it halts, after one that traps
 abbrev pub IsFirstBarrier : Packet → Machine → Bool → Bool → Type 0
 IsFirstBarrier (Value r v) x settled trapped = Unit {0}
 IsFirstBarrier (Turn pc) x settled trapped = (pc ≡ x.hart.pc) × (settled ≡ true)
@@ -94,17 +94,17 @@ pub record FirstBarrier (isa : Isa) (s : State) (x : Machine) : Type 0 where
 
 -- (e) Stops: nobody has climbed past what it needs
 pub record StopsInTime (plan : Plan) (s : State) : Type 0 where
-  -- a live one that is not executed stands at or below its last unit, or its siding's launch stage
+  -- a live passenger that is neither executed nor launched stands at or below its last unit, or its siding's launch stage
   pub low : (p : Standing s) → p.who.dead ≡ false → p.who.done ≡ false → p.who.launched ≡ false →
       Where (siding_of plan (kind p.who)) (p.stage ≤ last_stage plan (kind p.who)) (λ k. p.stage ≤ launch_stage plan k)
-  -- one whose operation is in a siding stands from its launch stage to its recovery stage
+  -- a passenger whose operation is in a siding stands from its launch stage to its recovery stage
   pub out : (p : Standing s) → p.who.launched ≡ true → p.who.recovered ≡ false →
       Where (siding_of plan (kind p.who)) ⊥ (λ k. (launch_stage plan k ≤ p.stage) × (p.stage ≤ recover_stage plan k))
-  -- one whose operation is back stands at or above the recovery stage, and is done where it is live
+  -- a passenger whose operation is back stands at or above the recovery stage, and is done if it is live
   pub back : (p : Standing s) → p.who.recovered ≡ true →
       Where (siding_of plan (kind p.who)) ⊥ (λ k. recover_stage plan k ≤ p.stage)
   pub back_done : (p : Standing s) → p.who.recovered ≡ true → p.who.dead ≡ false → p.who.done ≡ true
-  -- one that owes is live and done
+  -- a passenger that owes is live and done
   pub owing : (p : Standing s) → is_some p.who.owes ≡ true → (p.who.dead ≡ false) × (p.who.done ≡ true)
 
 -- the operation of a passenger that is in siding k
@@ -136,7 +136,7 @@ abbrev pub AreUnanswered : List (Option Op) → Type 0
 AreUnanswered [] = Unit {0}
 AreUnanswered (o ∷ ops) = IsUnanswered o × AreUnanswered ops
 
--- none but the one in the last cell is answered
+-- no operation but the one in the last cell is answered
 abbrev pub LastAnswered : List (Option Op) → Type 0
 LastAnswered [] = Unit {0}
 LastAnswered (o ∷ []) = Unit {0}
@@ -153,7 +153,7 @@ NoneFlies [] = Unit {0}
 NoneFlies (Up i p ∷ xs) = (flies p ≡ false) × NoneFlies xs
 NoneFlies (Down i k ∷ xs) = NoneFlies xs
 
--- (f) Sidings: their operations belong, in order, to the passengers that launched them; an answer stands at the end of Memory's alone, and is the sequential machine's
+-- (f) Sidings: their operations belong, in order, to the passengers that launched them; an answer stands only at the end of Memory's siding, and is the sequential machine's
 pub record SidingsAgree (plan : Plan) (s : State) (x : Machine) : Type 0 where
   pub operations : (k : ℕ) → operations_in (siding_at s k) ≡ operations_of plan k (column s)
   pub memory_alone : (k : ℕ) → k ≢ port plan → AreUnanswered (siding_at s k)
@@ -188,7 +188,7 @@ abbrev pub waits : Guess → Bool
 waits Wait = true
 waits _ = false
 
--- a live passenger that nothing may follow: it is not executed while fetch waits for it, or it ended the program where it was issued or served
+-- a live passenger that nothing may follow: it is not executed, and fetch waits for it, or it ended the program where it was issued or served
 abbrev pub is_lone : Passenger → Bool
 is_lone p = not p.dead && ((not p.done && (is_serial (kind p) || waits p.guess)) || (is_some p.ending && (is_free (kind p) || is_serial (kind p))))
 
@@ -196,19 +196,19 @@ is_lone p = not p.dead && ((not p.done && (is_serial (kind p) || waits p.guess))
 abbrev pub NoFollower : State → Type 0
 NoFollower s = (p : Standing s) → is_lone p.who ≡ true → IsHarmless p.below × (s.fetch ≡ Waiting)
 
--- (i) High barriers: below one above the stage from which memory is reached stand no passenger and no other barrier, and fetch waits
+-- (i) High barriers: below a barrier that is above the stage from which memory is reached stand no passenger and no other barrier, and fetch waits
 pub record HighBarriers (plan : Plan) (s : State) : Type 0 where
   pub lying : (k : Lying s) → turns (Some k.what) ≡ true → memory_launch plan < k.stage → IsHarmless k.below × (s.fetch ≡ Waiting)
   pub owed : (p : Standing s) → turns p.who.owes ≡ true → memory_launch plan < p.stage → IsHarmless p.below × (s.fetch ≡ Waiting)
 
--- the classes that decide where the program goes on
+-- the classes that decide where the program goes
 abbrev pub steers : Class → Bool
 steers Branch = true
 steers Jump = true
 steers Serial = true
 steers _ = false
 
--- a barrier, a live passenger that has still to decide where the program goes on, or one that ends it
+-- a barrier, a live passenger that has still to decide where the program goes or that ends it
 abbrev pub may_turn : Item → Bool
 may_turn (Up i p) = (not p.dead && ((not p.done && steers (kind p)) || is_some p.ending)) || turns p.owes
 may_turn (Down i k) = turns (Some k)
@@ -217,13 +217,13 @@ may_turn (Down i k) = turns (Some k)
 abbrev pub MemoryOrder : State → Type 0
 MemoryOrder s = (p : Standing s) → is_memory (kind p.who) ≡ true → p.who.launched ≡ true → (p.who.dead ≡ false) × (list_any may_turn p.above ≡ false)
 
--- (k) Port: memory is that of the machine behind the passengers that have passed the port; input and output are those behind the call that was served
+-- (k) Port: memory is that of the machine after the passengers that have passed the port; input and output are those after the call that was served
 pub record PortAgrees (plan : Plan) (m : Moment) (x : Machine) : Type 0 where
   pub memory : m.state.mem ≡ (machine_behind (isa_of plan) (ported_count plan m.state) (column m.state) (top m.state x)).hart.mem
   pub input : m.rest ≡ (machine_behind (isa_of plan) (served_count plan m.state) (column m.state) (top m.state x)).rest
   pub output : m.output ≡ (machine_behind (isa_of plan) (served_count plan m.state) (column m.state) (top m.state x)).output
 
--- (l) Cache: with no barrier, each kept value is that of the machine behind all sure passengers
+-- (l) Cache: with no barrier, each kept value is that of the machine after all sure passengers
 abbrev pub CacheAgrees : Isa → State → Machine → Type 0
 CacheAgrees isa s x = When (not (known isa s x (column s)).barred)
     ((r v : ℕ) → cached s.cache r ≡ Some v → v ≡ slice_index (known isa s x (column s)).machine.hart.regs r)

@@ -19,7 +19,7 @@ pub record NothingRetires (s t : State) : Type 0 where
   pub regs : t.regs ≡ s.regs
   pub ending : t.ending ≡ s.ending
 
--- the machine's step goes on: the count is one higher, and the registers become those behind the step
+-- the machine's step goes on: the count is one higher, and the registers become those after the step
 pub record OneRetires (isa : Isa) (x : Machine) (s t : State) : Type 0 where
   pub behind : Machine
   pub step : step_here isa x ≡ Goes behind
@@ -36,7 +36,7 @@ pub record OneEnds (isa : Isa) (x : Machine) (s t : State) : Type 0 where
   pub retired : t.retired ≡ s.retired
   pub regs : t.regs ≡ s.regs
 
--- seen through count, registers and ending: nothing, or, at Leave alone, the step of the machine
+-- seen through count, registers and ending: nothing, or, at Leave only, the step of the machine
 abbrev pub StepsRetired : Isa → Machine → Moment → Move → Moment → Type 0
 StepsRetired isa x m mv t =
     NothingRetires m.state t.state ⊎ ((mv ≡ Leave) × (OneRetires isa x m.state t.state ⊎ OneEnds isa x m.state t.state))
@@ -46,7 +46,7 @@ pub record NothingSpoken (m t : Moment) : Type 0 where
   pub rest : t.rest ≡ m.rest
   pub output : t.output ≡ m.output
 
--- the machine's step goes on: input and output, which were the machine's, become those behind the step
+-- the machine's step goes on: input and output, which were the machine's, become those after the step
 pub record OneSpoken (isa : Isa) (x : Machine) (m t : Moment) : Type 0 where
   pub behind : Machine
   pub step : step_here isa x ≡ Goes behind
@@ -55,11 +55,11 @@ pub record OneSpoken (isa : Isa) (x : Machine) (m t : Moment) : Type 0 where
   pub rest : t.rest ≡ behind.rest
   pub output : t.output ≡ behind.output
 
--- seen through input and output: nothing, or, at Serve alone, the step of the machine
+-- seen through input and output: nothing, or, at Serve only, the step of the machine
 abbrev pub StepsSpoken : Isa → Machine → Moment → Move → Moment → Type 0
 StepsSpoken isa x m mv t = NothingSpoken m t ⊎ ((mv ≡ Serve) × OneSpoken isa x m t)
 
--- a step of the machine, none that has retired already, goes on: the memory, which was that before the step, becomes that behind it
+-- a step of the machine that has not retired yet goes on: the memory, which was that before the step, becomes that after it
 pub record OneStored (isa : Isa) (start : Machine) (s t : State) : Type 0 where
   pub number : ℕ
   pub ahead : gained start s ≤ number
@@ -70,7 +70,7 @@ pub record OneStored (isa : Isa) (start : Machine) (s t : State) : Type 0 where
   pub before : s.mem ≡ at.hart.mem
   pub mem : t.mem ≡ behind.hart.mem
 
--- seen through the memory: nothing, or, at Access and Serve alone, a step of the machine
+-- seen through the memory: nothing, or, at Access and Serve only, a step of the machine
 abbrev pub StepsStored : Isa → Machine → Moment → Move → Moment → Type 0
 StepsStored isa start m mv t =
     (t.state.mem ≡ m.state.mem) ⊎ (((mv ≡ Access) ⊎ (mv ≡ Serve)) × OneStored isa start m.state t.state)

@@ -59,7 +59,7 @@ weight plan s =
     cells_weight plan.stages (most_cells plan.sidings) 1 s.cells + sidings_weight s.sidings
     + (2 * plan.stages + 1) * length s.lane
 
--- K: each Issue allows for fewer moves than this before the next
+-- K: Issue raises the weight by less than this
 unfoldable pub moves_per_issue : Plan → ℕ
 moves_per_issue plan = 8 * plan.stages + most_cells plan.sidings + 8
 

@@ -1,5 +1,5 @@
 -- The table of moves, first half: what bars each move. The tests of a row are made in the order in which they stand, and the comment above a row
--- lists its bars in that order, each with what holds where it is the answer. Before those of the row two bars of every move are tried: the program
+-- lists its bars in that order, each with what holds where it is the answer. Before a row's own bars come two that every move has: the program
 -- has ended (Halted), and the input or the output has failed (Failed).
 use Rattle.std.specs.Prelude.{ℕ, ◌+◌, ◌-◌, List, [], ◌∷◌, Option, Some, None, Bool, true, false, ◌&&◌, ◌||◌, not, slice_get, length, nat_lt}
 use Rattle.cf_layout.specs.Layout.{Plan, siding_of, unit_at}
@@ -25,16 +25,16 @@ abbrev pub first : Bool → Bar → Option Bar → Option Bar
 first true bar rest = Some bar
 first false bar rest = rest
 
--- the bar of the first test that holds, and where none does what the rest says
+-- the bar of the first test that holds; where no test holds, what the rest says
 abbrev pub first_of : List (Bool × Bar) → Option Bar → Option Bar
 first_of [] rest = rest
 first_of (row ∷ rows) rest = first row.0 row.1 (first_of rows rest)
 
--- of a stage: there is none of this number (NoSuchSite), else as f says
+-- what bars a move at a stage: there is no stage of this number (NoSuchSite), else as f says
 abbrev pub at : List Cell → ℕ → (Cell → Option Bar) → Option Bar
 at cells i f = on (cell_at cells i) (Some NoSuchSite) f
 
--- of the passenger in a stage: nobody is there (NoPassenger), else as f says
+-- what bars a move of the passenger in a stage: nobody is there (NoPassenger), else as f says
 abbrev pub of_passenger : Cell → (Passenger → Option Bar) → Option Bar
 of_passenger c f = on c.passenger (Some NoPassenger) f
 
@@ -54,7 +54,7 @@ last_op [] = None
 last_op (o ∷ []) = o
 last_op (o ∷ p ∷ ops) = last_op (p ∷ ops)
 
--- a cell that there is and that holds an operation
+-- there is such a cell, and it holds an operation
 abbrev pub is_taken : Option (Option Op) → Bool
 is_taken cell = on cell false is_some
 
@@ -67,15 +67,15 @@ running Waiting = None
 abbrev pub source_bar : Passenger → Option Bar → Option Bar
 source_bar p rest = on (missing p.src1) (on (missing p.src2) rest (λ r. Some (SourceMissing r))) (λ r. Some (SourceMissing r))
 
--- branches and jumps alone may be issued with another guess than Next: JALR with an address, the others with their target
+-- only branches and jumps may be issued with a guess other than Next: JALR with an address, the others with their target
 abbrev pub may_guess : Guess → Passenger → Bool
 may_guess Next p = true
 may_guess Wait p = is_control (kind p)
 may_guess Taken p = is_control (kind p) && not (is_indirect (instruction p))
 may_guess (To t) p = is_control (kind p) && is_indirect (instruction p)
 
--- Issue: there is no stage 1 (NoSuchSite); fetch waits (FetchWaiting); stage 1 has a passenger (Occupied); the guess is none that this instruction can be
--- issued with (BadGuess); the lane has no room for all that it requests (LaneFull)
+-- Issue: there is no stage 1 (NoSuchSite); fetch waits (FetchWaiting); stage 1 has a passenger (Occupied); this instruction cannot be issued with the
+-- guess (BadGuess); the lane has no room for all that it requests (LaneFull)
 abbrev pub issue_bar : Plan → State → Guess → Cell → Option Bar
 issue_bar plan s g c = on (running s.fetch) (Some FetchWaiting) (λ pc.
     let p = fresh s.cache (fetched (isa_of plan) s.mem pc) pc g in
@@ -126,7 +126,7 @@ send_bar c = of_passenger c (λ p. first_of (
     (not (is_some p.owes), OwesNothing) ∷
     (is_some c.packet, Occupied) ∷ []) None)
 
--- of the class's siding: its first cell is taken (Occupied); a class without one has no bar here, since Launch is barred by NoUnit before
+-- what bars entry to the class's siding: its first cell is taken (Occupied); a class without a siding has no bar here, since NoUnit has barred Launch before
 abbrev pub entry_bar : Plan → State → Passenger → Option Bar
 entry_bar plan s p = on (siding_of plan (kind p)) None (λ k. first_of ((is_taken (slice_get (siding_at s k) 0), Occupied) ∷ []) None)
 
@@ -140,7 +140,7 @@ launch_bar plan s c i = of_passenger c (λ p. first_of (
     (not (launches plan (kind p) i), NoUnit) ∷
     (is_memory (kind p) && is_full c, NotMet) ∷ []) (source_bar p (entry_bar plan s p)))
 
--- Slide: there is no such siding, or no cell behind this one (NoSuchSite); no operation is in this cell (OpNotThere); one is in the next (Occupied)
+-- Slide: there is no such siding, or no cell after this one (NoSuchSite); no operation is in this cell (OpNotThere); one is in the next (Occupied)
 abbrev pub slide_bar : List (Option Op) → ℕ → Option Bar
 slide_bar ops c = on (slice_get ops (c + 1)) (Some NoSuchSite) (λ o. first_of (
     (not (is_taken (slice_get ops c)), OpNotThere) ∷
@@ -150,8 +150,8 @@ slide_bar ops c = on (slice_get ops (c + 1)) (Some NoSuchSite) (λ o. first_of (
 abbrev pub access_bar : Option Op → Option Bar
 access_bar o = on o (Some OpNotThere) (λ op. first_of ((is_some op.answer, AlreadyDone) ∷ []) None)
 
--- of the end of the class's siding: the class has none (NoUnit); no operation is there (OpNotThere); it is a load or a store without an answer (NotDone).
--- Right in reached states alone: nothing here asks whose operation this is. There it is the passenger's own, since a siding holds operations in the order
+-- what bars taking from the end of the class's siding: the class has no siding (NoUnit); no operation is there (OpNotThere); it is a load or a store without an answer (NotDone).
+-- Right only in reached states: nothing here asks whose operation this is. There it is the passenger's own, since a siding holds operations in the order
 -- in which their passengers stand, and none of these climbs past the stage where it is to recover its own.
 abbrev pub exit_op_bar : Plan → State → Passenger → Option Bar
 exit_op_bar plan s p = on (siding_of plan (kind p)) (Some NoUnit) (λ k.

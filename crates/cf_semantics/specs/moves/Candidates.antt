@@ -23,7 +23,7 @@ abbrev pub slides_from : ℕ → List SidingPlan → List Move
 slides_from k [] = []
 slides_from k (siding ∷ sidings) = map (Slide k) (counted_from 0 (siding.cells - 1)) ++ slides_from (suc k) sidings
 
--- all moves but the issue with an address, in their order
+-- all moves but an Issue whose guess is an address, in their order
 unfoldable pub all_moves : Plan → List Move
 all_moves plan =
     Issue guess.Next ∷ Issue guess.Taken ∷ Issue guess.Wait ∷ Emit ∷
@@ -35,10 +35,10 @@ all_moves plan =
 unfoldable pub candidates : Plan → State → List Move
 candidates plan s = filter (λ mv. not (is_some (bar plan s mv))) (all_moves plan)
 
--- those that are no Issue
+-- those that are not Issue
 abbrev pub other_moves : List Move → List Move
 other_moves moves = filter (λ mv. not (is_issue mv)) moves
 
--- issue is held back, unless nothing else is there
+-- Issue is held back, unless no other move is there
 unfoldable pub held_back : List Move → List Move
 held_back moves = if nat_lt 0 (length (other_moves moves)) then other_moves moves else moves

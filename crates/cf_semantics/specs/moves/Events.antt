@@ -17,7 +17,7 @@ use Rattle.cf_semantics.specs.state.State.{State, cell_at}
 use Rattle.cf_semantics.specs.state.Passengers.{instruction, value_in}
 use Rattle.cf_semantics.specs.runs.Lines.{Line}
 
--- the register of a binding, 0 where there is none
+-- the register of a binding, 0 where there is no binding
 abbrev pub register_in : Option Binding → ℕ
 register_in None = 0
 register_in (Some b) = b.reg

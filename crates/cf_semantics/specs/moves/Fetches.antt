@@ -3,7 +3,7 @@ use Rattle.std.specs.Prelude.{ℕ, List, length, map, Bool}
 use Rattle.mem_regions.specs.Area.{Area}
 use Rattle.mem_regions.specs.Memory.{Memory}
 
--- where a region stands, how long it is, whether code is fetched from it, and which
+-- where a region begins, how long it is, whether code can be fetched from it, and its code
 pub record Text : Type 0 where
   pub base : ℕ
   pub size : ℕ

@@ -1,4 +1,4 @@
--- The hold rule: Issue moves are counted, and from twice as many as there are stages on, Issue is held back.
+-- The hold rule: Issue moves are counted, and once there are twice as many as stages, Issue is held back.
 use Rattle.std.specs.Prelude.{ℕ, ◌+◌, ◌*◌, List, Bool, true, false, ◌||◌, nat_le, if◌then◌else◌}
 use Rattle.cf_layout.specs.Layout.{Plan}
 use Rattle.cf_bind.specs.declared.moves.Move.{Move}
@@ -17,10 +17,10 @@ is_retirement _ = false
 unfoldable pub paced : ℕ → Move → Event → Bool → ℕ
 paced count mv e drained = if is_retirement e || drained then 0 else (if is_issue mv then count + 1 else count)
 
--- from twice as many as there are stages on, the candidates are held
+-- the candidates are held once the count is at least twice the number of stages
 abbrev pub is_held : Plan → ℕ → Bool
 is_held plan count = nat_le (2 * plan.stages) count
 
--- what a policy is offered with so many Issue moves counted: the candidates, held back or not
+-- what a policy is offered at this count of Issue moves: the candidates, with Issue held back or not
 unfoldable pub offered : Plan → ℕ → State → List Move
 offered plan count s = if is_held plan count then held_back (candidates plan s) else candidates plan s

@@ -65,7 +65,7 @@ src2_of i = register (sources_of i).1
 unfoldable pub dst_of : Instr → Option ℕ
 dst_of i = register (dest_of i)
 
--- the value of a source; where there is none, 0
+-- the value of a source; where there is no source, 0
 abbrev pub value_read : List ℕ → Option ℕ → ℕ
 value_read regs None = 0
 value_read regs (Some r) = slice_index regs r
@@ -79,7 +79,7 @@ value_written regs (Some r) v = slice_set regs r v
 abbrev pub word_after : ℕ → ℕ
 word_after pc = word_sum pc 4
 
--- the target of a branch or of JAL; of other instructions nothing is meant
+-- the target of a branch or of JAL; for other instructions it means nothing
 unfoldable pub target_of : Instr → ℕ → ℕ
 target_of (Jal rd imm) pc = word_sum pc (word_of imm)
 target_of (BranchInstr c rs1 rs2 imm) pc = word_sum pc (word_of imm)
@@ -95,21 +95,21 @@ pub data Fetched : Type 0 where
   Got : Instr → Fetched
   Bad : End → Fetched
 
--- what a word is, once it was fetched: cause 2 where it is no instruction
+-- what a word is, once it was fetched: a trap of cause 2 where it is not an instruction
 abbrev pub read_as : ℕ → ℕ → Option Instr → Fetched
 read_as pc word None = Bad (Trap 2 pc word)
 read_as pc word (Some i) = Got i
 
--- what was fetched: cause 1 where that failed
+-- what was fetched: a trap of cause 1 where fetching failed
 abbrev pub word_read : Isa → ℕ → Result ℕ MemErr → Fetched
 word_read isa pc (Ok word) = read_as pc word (decoded_as isa word)
 word_read isa pc (Err e) = Bad (Trap 1 pc pc)
 
--- what the code of memory has at an address: cause 0 where 4 does not divide it
+-- what the code of memory has at an address: a trap of cause 0 where 4 does not divide the address
 unfoldable pub fetched : Isa → Memory → ℕ → Fetched
 fetched isa mem pc = if pc % 4 == 0 then word_read isa pc (fetch_at mem pc) else Bad (Trap 0 pc pc)
 
--- a branch or a jump whose next address is no multiple of 4 traps
+-- a branch or a jump whose next address is not a multiple of 4 traps
 unfoldable pub finish_trap : Instr → ℕ → ℕ → ℕ → Option End
 finish_trap i pc a b = if is_control (kind_of i) && not (next_pc i pc a b % 4 == 0) then Some (Trap 0 pc (next_pc i pc a b)) else None
 
@@ -117,7 +117,7 @@ finish_trap i pc a b = if is_control (kind_of i) && not (next_pc i pc a b % 4 ==
 unfoldable pub free_trap : Instr → ℕ → Option End
 free_trap i pc = if breaks i then Some (Trap 3 pc pc) else None
 
--- the trap of a load or a store whose access was answered so
+-- the trap, if any, of a load or a store whose access got this answer
 abbrev pub refused : ℕ → Access → Result (Unit {0}) MemErr → Option End
 refused pc access (Ok done) = None
 refused pc access (Err Misaligned) = Some (Trap (if access.write then 6 else 4) pc access.addr)
@@ -146,7 +146,7 @@ answer_of i a b mem =
     let access = access_made i a b in
     if access.write then 0 else extended i (number (load_at mem access.addr access.width))
 
--- what ECALL and FENCE.I come to, of the registers, the memory and the rest of the input; FENCE.I answers nothing, and code is fetched from memory as it now is
+-- the result of ECALL and FENCE.I, given the registers, the memory and the rest of the input; FENCE.I answers 0, and code is fetched from memory as it now is
 unfoldable pub serve_of : Instr → List ℕ → Memory → List ℕ → Called
 serve_of i regs mem rest =
     if synchronizes i
@@ -175,7 +175,7 @@ step_at isa x pc = stepped (step isa (at_pc x pc))
 abbrev pub step_here : Isa → Machine → Stepped
 step_here isa x = step_at isa x x.hart.pc
 
--- the machine after a step, or as it was where that ends the program
+-- the machine after a step, or as it was where the step ends the program
 abbrev pub behind : Stepped → Machine → Machine
 behind (Goes n) m = n
 behind (Stops e) m = m

@@ -1,4 +1,4 @@
--- What a move writes over, so that it can be taken back; Serve cannot, for its output is gone.
+-- What a move overwrites, kept so that the move can be taken back; Serve cannot be, for its output is gone.
 use Rattle.std.specs.Prelude.{ℕ, ◌+◌, ◌-◌, List, [], ◌∷◌, Option, Some, None, if◌then◌else◌, length, take, slice_get, slice_set, slice_index}
 use Rattle.mem_regions.specs.Memory.{Memory}
 use Rattle.mem_regions.specs.Ranges.{writable_of}
@@ -108,7 +108,7 @@ abbrev pub kept_register : Plan → State → Move → Option KeptRegister
 kept_register plan s Leave = on (cell_at s.cells plan.stages) None (λ c. on c.passenger None (λ p. on (reg_in p.dst) None (λ r. Some (record { reg = r; value = slice_index s.regs r }))))
 kept_register plan s mv = None
 
--- the bytes that an access writes over: those of a store, in the region that it writes
+-- the bytes that an access overwrites: those of a store, in the region that it writes
 abbrev pub kept_range : Memory → Access → Option KeptBytes
 kept_range mem access = if access.write then on (writable_of mem access.addr access.width) None (λ bytes. Some (record { addr = access.addr; bytes = bytes })) else None
 

@@ -1,4 +1,4 @@
--- The table of moves, second half: what each allowed move does. What a row does not name stays. Of a move that is barred nothing is claimed: where a cell,
+-- The table of moves, second half: what each allowed move does. What a row does not name stays. Nothing is claimed of a barred move: where a cell,
 -- a passenger or a packet is missing the state is left as it is.
 use Rattle.std.specs.Prelude.{ℕ, ◌+◌, ◌-◌, List, [], ◌∷◌, ◌++◌, Option, Some, None, Bool, true, false, if◌then◌else◌, slice_get, slice_index, slice_set}
 use Rattle.mem_regions.specs.Access.{bounds_of}
@@ -26,22 +26,22 @@ use Rattle.cf_semantics.specs.state.Passengers.{instruction, kind, value_in, reg
 use Rattle.cf_semantics.specs.state.Layouts.{isa_of, port}
 use Rattle.cf_semantics.specs.moves.Bars.{last_op, running}
 
--- fetch runs at an address, or waits where there is none
+-- fetch runs at the address, or waits where none is given
 abbrev pub fetch_at : Option ℕ → Fetch
 fetch_at (Some pc) = Running pc
 fetch_at None = Waiting
 
--- the last cell of a siding gets another content
+-- a siding with other contents in its last cell
 abbrev pub set_last : List (Option Op) → Option Op → List (Option Op)
 set_last [] q = []
 set_last (o ∷ []) q = q ∷ []
 set_last (o ∷ p ∷ ops) q = o ∷ set_last (p ∷ ops) q
 
--- of a stage that there is
+-- what f makes of stage i; where there is no such stage, the state as it is
 abbrev pub on_cell : State → ℕ → (Cell → State) → State
 on_cell s i f = on (cell_at s.cells i) s f
 
--- of the passenger in a stage
+-- what f makes of stage i and its passenger; where either is missing, the state as it is
 abbrev pub on_passenger : State → ℕ → (Cell → Passenger → State) → State
 on_passenger s i f = on_cell s i (λ c. on c.passenger s (f c))
 
@@ -55,7 +55,7 @@ without_packet c = record c { packet = None; met = false }
 abbrev pub with_passenger : Cell → Passenger → Cell
 with_passenger c p = record c { passenger = Some p }
 
--- Issue: a new passenger stands in stage 1, its missing sources are requested, nothing is kept for its destination any more, and fetch goes on behind it
+-- Issue: a new passenger stands in stage 1, its missing sources are requested, nothing is kept for its destination any more, and fetch goes on after it
 abbrev pub issued : Plan → State → Guess → Cell → ℕ → State
 issued plan s g c pc =
     let p = fresh s.cache (fetched (isa_of plan) s.mem pc) pc g in
@@ -113,16 +113,16 @@ accessed plan s op =
       mem = mem_after op.instr op.a op.b s.mem;
     }
 
--- a passenger takes its operation back: a live one finishes. Right in reached states alone: there what it launched has its source values, and is not done
+-- a passenger takes its operation back: a live one finishes. Right only in reached states: there what it launched has its source values, and is not done
 abbrev pub back_in : Passenger → Option ℕ → Passenger
 back_in p answer = if p.dead then record p { recovered = true } else finish (record p { recovered = true }) answer
 
--- Recover: the operation at the end of the siding is taken out. Right in reached states alone, where it is the passenger's own (`exit_op_bar`)
+-- Recover: the operation at the end of the siding is taken out. Right only in reached states, where it is the passenger's own (`exit_op_bar`)
 abbrev pub recovered : Plan → State → ℕ → Cell → Passenger → State
 recovered plan s i c p = on (siding_of plan (kind p)) s (λ k. on (last_op (siding_at s k)) s (λ op.
     with_siding (with_cell s i (with_passenger c (back_in p op.answer))) k (set_last (siding_at s k) None)))
 
--- the registers with a destination's value. Right in reached states alone: there a live passenger that is done and does not end the program has it
+-- the registers with a destination's value written. Right only in reached states: there a live passenger that is done and does not end the program has this value
 abbrev pub written : List ℕ → Option Binding → List ℕ
 written regs None = regs
 written regs (Some b) = slice_set regs b.reg (value_in (Some b))
@@ -172,7 +172,7 @@ moved plan s Leave = on_passenger s plan.stages (left s plan.stages)
 moved plan s Exit = on_cell s 1 (exited plan s)
 moved plan s Serve = s
 
--- a passenger that was answered: all that was fetched behind it must be fetched anew. Right in reached states alone: there one that is not done owes nothing that would be lost
+-- a passenger that was answered: everything that was fetched after it must be fetched anew. Right only in reached states: there a passenger that is not done owes nothing that would be lost
 abbrev pub answered : Passenger → ℕ → Passenger
 answered p v = record p { done = true; dst = with_value v p.dst; next = Some (word_after p.pc); owes = Some (Turn (word_after p.pc)) }
 

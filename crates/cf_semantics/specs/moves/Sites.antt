@@ -122,7 +122,7 @@ uses plan s Leave x = among x (Stage plan.stages ∷ Registers ∷ Count ∷ [])
 uses plan s Exit x = among x (Stage 1 ∷ Fetching ∷ Cache ∷ [])
 uses plan s Serve x = among x (Stage plan.stages ∷ Memory ∷ Code ∷ Input ∷ Output ∷ [])
 
--- the sites that it reads besides: every move reads whether the program has ended, and whether the input or the output has failed
+-- the sites that a move reads in addition: every move reads whether the program has ended, and whether the input or the output has failed
 abbrev pub only_reads : Move → Site → Bool
 only_reads (Issue g) x = among x (Code ∷ Ended ∷ Failure ∷ [])
 only_reads Emit x = among x (Registers ∷ Ended ∷ Failure ∷ [])
@@ -136,7 +136,7 @@ reads plan s mv x = uses plan s mv x || only_reads mv x
 abbrev pub ends_there : Plan → State → Bool
 ends_there plan s = on (cell_at s.cells plan.stages) false (λ c. on c.passenger false (λ p. not p.dead && is_some p.ending))
 
--- the sites that it writes besides: a passenger that ends the program ends it by its Leave; a Serve may fail
+-- the sites that a move writes in addition: a passenger that ends the program ends it by its Leave; a Serve may fail
 abbrev pub only_writes : Plan → State → Move → Site → Bool
 only_writes plan s Leave x = ends_there plan s && among x (Ended ∷ [])
 only_writes plan s Serve x = among x (Failure ∷ [])
@@ -150,7 +150,7 @@ pub record AreIndependent (plan : Plan) (s : State) (a b : Move) : Type 0 where
   pub first : (x : Site) → writes plan s a x ≡ true → (reads plan s b x || writes plan s b x) ≡ false
   pub second : (x : Site) → writes plan s b x ≡ true → (reads plan s a x || writes plan s a x) ≡ false
 
--- what no move changes, and what so is at no site: the bounds of the regions, and how many cells each siding has
+-- what no move changes, and what is therefore at no site: the bounds of the regions, and how many cells each siding has
 pub record HasFrame (s t : State) : Type 0 where
   pub bounds : bounds_of s.mem ≡ bounds_of t.mem
   pub sizes : (k : ℕ) → length (siding_at s k) ≡ length (siding_at t k)
@@ -160,7 +160,7 @@ pub record AreAlike (at : Site → Bool) (m t : Moment) : Type 0 where
   pub frame : HasFrame m.state t.state
   pub sites : (x : Site) → at x ≡ true → content m x ≡ content t x
 
--- the move leaves the frame, and every site that it does not write; and its bar, its event and what it writes depend on the sites that it reads alone
+-- the move leaves the frame, and every site that it does not write; and its bar, its event and what it writes depend only on the sites that it reads
 pub record IsLocal (plan : Plan) (m : Moment) (mv : Move) : Type 0 where
   pub frame : bar plan m.state mv ≡ None → HasFrame m.state (next plan m mv).state
   pub leaves : bar plan m.state mv ≡ None → (x : Site) → writes plan m.state mv x ≡ false → content (next plan m mv) x ≡ content m x

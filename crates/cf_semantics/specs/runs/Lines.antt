@@ -29,7 +29,7 @@ pub record Line : Type 0 where
 abbrev pub row : ℕ → Instr → Option Binding → Line
 row pc what wrote = record { pc = pc; what = what; wrote = wrote }
 
--- the register that the machine's own line names, with the value there; x0 stands for none
+-- the register that the machine's own line names, with the value there; x0 means no register
 abbrev pub named : ℕ → ℕ → Option Binding
 named r v = on (register r) None (λ q. Some (record { reg = q; value = Some v }))
 

@@ -32,7 +32,7 @@ opened plan m = record {
   failed = false;
 }
 
--- its moment: the machine's input and output so far stand beside it
+-- its moment: that state, with the machine's input and output so far
 abbrev pub start : Plan → Machine → Moment
 start plan m = record { state = opened plan m; rest = m.rest; output = m.output }
 

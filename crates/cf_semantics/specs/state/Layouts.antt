@@ -7,7 +7,7 @@ use Rattle.rv_inst.specs.declared.isa.Isa.TheVariants.{Rv32i, Rv32im}
 use Rattle.cf_layout.specs.Layout.{Plan, siding_of, launch_stage, recover_stage, last_stage, has_mul}
 use Rattle.cf_semantics.specs.state.Options.{on}
 
--- a processor that multiplies and divides reads words as RV32IM, another as RV32I
+-- a processor that multiplies and divides reads words as RV32IM, any other as RV32I
 abbrev pub isa_of : Plan → Isa
 isa_of plan = if has_mul plan then Rv32im else Rv32i
 

@@ -16,7 +16,7 @@ use Rattle.cf_bind.specs.declared.passenger.End.{End}
 use Rattle.cf_semantics.specs.state.Options.{on}
 use Rattle.cf_semantics.specs.moves.Instructions.{kind_of, src1_of, src2_of, dst_of, word_after, target_of, finish_trap, free_trap, Fetched, Got, Bad}
 
--- the instruction of a passenger; one without an instruction ended when it was issued, and counts as EBREAK, which did too
+-- the instruction of a passenger; a passenger without an instruction ended when it was issued, and counts as EBREAK, which does so too
 abbrev pub instruction : Passenger → Instr
 instruction p = on p.what Ebreak (λ i. i)
 
@@ -43,7 +43,7 @@ abbrev pub reg_in : Option Binding → Option ℕ
 reg_in None = None
 reg_in (Some b) = Some b.reg
 
--- the address that a guess names behind the instruction at pc
+-- the address, if any, where the program goes on by the guess after the instruction at pc
 abbrev pub guessed : Guess → Instr → ℕ → Option ℕ
 guessed Next i pc = Some (word_after pc)
 guessed Taken i pc = Some (target_of i pc)
@@ -65,12 +65,12 @@ abbrev pub value_packet : ℕ → Option Binding → Option Packet
 value_packet v None = None
 value_packet v (Some b) = Some (Value b.reg v)
 
--- it traps: it will halt what is below it. Right in reached states alone: there one that is not done owes nothing that would be lost
+-- it traps: it will halt what is below it. Right only in reached states: there a passenger that is not done owes nothing that would be lost
 abbrev pub trapped : Passenger → End → Passenger
 trapped p e = record p { done = true; ending = Some e; owes = Some Halt }
 
--- it is executed, with the value v, and the program goes on at n: what it owes is a turn where the guess was another, else its value. Right in reached states
--- alone: there one that is not done owes nothing, and its destination has no value, so that nothing is lost
+-- it is executed, with the value v, and the program goes on at n: what it owes is a turn where the guess was another address, else its value. Right only in
+-- reached states: there a passenger that is not done owes nothing, and its destination has no value, so that nothing is lost
 abbrev pub finished : Passenger → ℕ → ℕ → Passenger
 finished p n v = record p {
   done = true;
@@ -79,7 +79,7 @@ finished p n v = record p {
   owes = if is_place (guessed p.guess (instruction p) p.pc) n then value_packet v p.dst else Some (Turn n);
 }
 
--- it finishes: by what its unit computes, or with the answer of memory where there is one. A source without a value counts as 0 here; Execute and Launch wait until there is none
+-- it finishes: by what its unit computes, or with the answer of memory where there is one. A source without a value counts as 0 here; Execute and Launch wait until every source has one
 unfoldable pub finish : Passenger → Option ℕ → Passenger
 finish p answer =
     let a = value_in p.src1 in
@@ -102,7 +102,7 @@ abbrev pub cleared : List (Option ℕ) → List (Option ℕ)
 cleared [] = []
 cleared (o ∷ cache) = None ∷ cleared cache
 
--- a source, with the value that is kept for it, if one is
+-- a source, with the value that is kept for it, if any
 abbrev pub source : List (Option ℕ) → Option ℕ → Option Binding
 source cache None = None
 source cache (Some r) = Some (record { reg = r; value = cached cache r })
@@ -175,17 +175,17 @@ unfoldable pub fresh : List (Option ℕ) → Fetched → ℕ → Guess → Passe
 fresh cache (Bad e) pc g = fresh_end None pc g e
 fresh cache (Got i) pc g = fresh_as (kind_of i) cache i pc g
 
--- where the program goes behind a passenger that is not executed yet: by its guess; behind ECALL and FENCE.I nowhere
+-- where the program goes after a passenger that is not executed yet: by its guess; after ECALL and FENCE.I nowhere
 abbrev pub goto_undone : Class → Passenger → Option ℕ
 goto_undone Serial p = None
 goto_undone _ p = guessed p.guess (instruction p) p.pc
 
--- behind one that is: to its next address, or nowhere where it ends the program
+-- after a passenger that is executed: to its next address, or nowhere if it ends the program
 abbrev pub goto_done : Option End → Option ℕ → Option ℕ
 goto_done None n = n
 goto_done (Some e) n = None
 
--- where the program goes behind a passenger, if anywhere
+-- where the program goes after a passenger, if anywhere
 abbrev pub goto : Passenger → Option ℕ
 goto p = if p.done then goto_done p.ending p.next else goto_undone (kind p) p
 

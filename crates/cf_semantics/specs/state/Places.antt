@@ -25,7 +25,7 @@ pub record Lying (s : State) : Type 0 where
   pub below : List Item
   pub split : column s ≡ above ++ (Down stage what ∷ below)
 
--- what is known below these items, where x is the sequential machine as far as it has retired
+-- what is known below these items, where x is the sequential machine after the instructions that have retired
 abbrev pub known : Isa → State → Machine → List Item → Walk
 known isa s x above = walk (past isa) above (top s x)
 
@@ -35,7 +35,7 @@ IsHarmless [] = Unit {0}
 IsHarmless (Up i p ∷ xs) = ⊥
 IsHarmless (Down i k ∷ xs) = (turns (Some k) ≡ false) × IsHarmless xs
 
--- the machine behind the first n sure passengers of the items, or behind all where there are fewer
+-- the machine after the first n sure passengers of the items, or after all of them where there are fewer
 abbrev pub machine_behind : Isa → ℕ → List Item → Walk → Machine
 machine_behind isa zero xs w = w.machine
 machine_behind isa (suc n) [] w = w.machine

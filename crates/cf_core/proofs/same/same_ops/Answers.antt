@@ -1,4 +1,4 @@
--- What the operations answer decides for the lists of them.
+-- What `==` answers for operations decides for lists of them.
 use Rattle.std.proofs.lemmas.Slice.Eq.{slice_eq-Decides}
 use Rattle.cf_core.proofs.Sameness.{op_decides}
 use Rattle.cf_stages.proofs.Deciding.{option_decides}

@@ -2,6 +2,6 @@ use Rattle.std.proofs.Common.{◌≡◌, drop}
 use Rattle.cf_index.specs.Places.{places}
 use Rattle.cf_index.proofs.bits.nth.Given as goal
 
--- what is left has the numbers behind those that were passed
+-- what is left has the numbers after those that were passed
 abbrev pub invariant-loop-passed : goal.invariant-loop-passed
 invariant-loop-passed l = places 64 l.rest ≡ drop l._passed (places 64 l.word)
