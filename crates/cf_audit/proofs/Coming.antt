@@ -1,4 +1,4 @@
--- Where an audit has come to: the groups of the trace so far are those of a run.
+-- Where an audit has arrived: the groups of the trace so far are those of a run.
 use Rattle.std.proofs.Common.{◌≡◌, ℕ, ◌+◌, ◌-◌, ◌<◌, ◌≤◌, List, [], ◌∷◌, ◌++◌, length, take, drop, Option, Some, None, refl, sym, ap, subst, ◌∙◌, append-nil, arith}
 use Rattle.std.proofs.lemmas.List.{take-append-drop, length-take-le}
 use Rattle.std.proofs.lemmas.Option.{same_Some}
@@ -23,7 +23,7 @@ use Rattle.cf_audit.specs.Limits.{most_trace}
 use Rattle.cf_audit.proofs.Comparing.{told-more}
 use Rattle.cf_audit.proofs.Parting.{goes_on}
 
--- an audit has come to this stand: the comparison tells the text and the groups of the run, which agree
+-- an audit has reached this stand: the comparison tells the text and the groups of the run, which agree
 pub record Comes (text : List ℕ) (start : Place) (now : Stand) : Type 0 where
   pub reached : Reaches most_retired show.Moves start now.place
   pub read_back : AreReadBack reached.trace
@@ -85,7 +85,7 @@ pub shown-some : (plan : Plan) (n : ℕ) (made : Made) → 0 < length (shown sho
 unfolding shown numbered_move
 shown-some plan n made = omega arith
 
--- what was put behind what agreed
+-- what was put after what agreed
 pub put-behind : (now new : Comparison) (piece : List ℕ) → now.other ≡ None → told_by new ≡ told_by now ++ piece → (new.text ≡ now.text) × (put_of new ≡ take now.agreed now.text ++ piece)
 put-behind now new piece none told =
     let both = told-more now new piece told in
@@ -149,7 +149,7 @@ counts-small text start now h small =
     let counts = counts-within most_retired show.Moves start now.place h.reached in
     (omega (arith, h.few, h.within, size), omega (arith, h.few, h.within, size, counts.0), omega (arith, h.few, h.within, size, counts.1), omega (arith, h.few, h.within, size, counts.2))
 
--- so many moves as were counted
+-- as many moves as were counted
 moves_counted : (trace : List Made) (tally : Tally) → tally ≡ tally_of trace → length trace ≡ tally.moves
 unfolding tally_of
 moves_counted trace tally is = sym (ap (λ (t : Tally). t.moves) is)

@@ -13,7 +13,7 @@ one_more (x ∷ bytes) (suc same) within =
     let count : min (suc (length bytes)) (suc same + 1) ≡ suc (min (length bytes) (same + 1)) = omega arith in
     rw count (ap (λ (rest : List ℕ). x ∷ rest) (one_more bytes same (omega arith)))
 
--- what was put, with a front of more bytes that agree, and the byte behind it
+-- what was put, with a front of more bytes that agree, and the byte after it
 put_more : (text bytes : List ℕ) (agreed same : ℕ) → same ≤ length bytes → take same (drop agreed text) ≡ take same bytes
     → take (agreed + same) text ++ alone (slice_get bytes same) ≡ (take agreed text ++ []) ++ take (min (length bytes) (same + 1)) bytes
 put_more text bytes agreed same within agrees =
@@ -63,7 +63,7 @@ refused text bytes agreed faults more other old e is some = record {
   unchanged = ap (λ (c : Comparison). Some (told_by c)) is;
 }
 
--- a byte behind a front
+-- a byte after a front
 get-behind : (text : List ℕ) (front place : ℕ) → slice_get (drop front text) place ≡ slice_get text (front + place)
 get-behind text zero place = let same : zero + place ≡ place = omega arith in rw same refl
 get-behind [] (suc front) place = refl
@@ -73,7 +73,7 @@ other_is : (text : List ℕ) (agreed same : ℕ) (other : Option ℕ) → ((byte
 other_is text agreed same None apart = tt
 other_is text agreed same (Some byte) apart = λ here. apart byte refl (get-behind text agreed same ∙ here)
 
--- a comparison behind a put of bytes
+-- a comparison after a put of bytes
 pub compared-more : (text rest bytes : List ℕ) (agreed same faults : ℕ) (other next : Option ℕ) (old : Comparison)
     → record { text = text; agreed = agreed; other = other; faults = faults } ≡ old → IsComparison (record { text = text; agreed = agreed; other = other; faults = faults }) → is_some other ≡ false
     → rest ≡ drop old.agreed old.text → same ≤ length rest → AreApart rest bytes same → next ≡ slice_get bytes same
@@ -101,7 +101,7 @@ pub has-other : (text : List ℕ) (agreed faults : ℕ) (other : Option ℕ) (se
     → IsComparison (record { text = text; agreed = agreed; other = other; faults = faults }) → is_some other ≡ true → HasOther seen
 has-other text agreed faults other seen is was some = subst HasOther is (other_there text agreed faults other was some)
 
--- one list of raised bytes and what stands behind it
+-- one list of raised bytes and what comes after it
 raised_same : (one other : List ℕ) (put more : List ℕ) → map suc one ++ 0 ∷ put ≡ map suc other ++ 0 ∷ more → (one ≡ other) × (put ≡ more)
 raised_same [] [] put more e = (refl, cc)
 raised_same [] (y ∷ other) put more e = absurd (cc)
@@ -112,7 +112,7 @@ raised_same (x ∷ one) (y ∷ other) put more e =
     let both = raised_same one other put more rest in
     (cc, both.1)
 
--- a comparison to which a piece was put has the same text, and the piece stands behind what was put to it before
+-- a comparison to which a piece was put has the same text, and the piece follows what was put to it before
 pub told-more : (now new : Comparison) (piece : List ℕ) → told_by new ≡ told_by now ++ piece → (new.text ≡ now.text) × (put_of new ≡ put_of now ++ piece)
 unfolding told_by
 told-more now new piece told = raised_same new.text now.text (put_of new) (put_of now ++ piece) (told ∙ append_assoc (map suc now.text) (0 ∷ put_of now) piece)

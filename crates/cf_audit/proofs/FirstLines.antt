@@ -109,11 +109,11 @@ front_of : (n : ℕ) (mv : Move) (behind : List ℕ) → numbered_move n mv ++ b
 unfolding numbered_move
 front_of n mv behind = append_assoc (move_front n) (move_line mv ++ 10 ∷ []) behind ∙ ap (λ (t : List ℕ). move_front n ++ t) (append_assoc (move_line mv) (10 ∷ []) behind)
 
--- what stands behind the number of a move's line
+-- what comes after the number of a move's line
 line_behind : (text rest : List ℕ) (n : ℕ) (mv : Move) → text ≡ move_front n ++ rest → (b : BeginsWith text n mv) → rest ≡ move_line mv ++ 10 ∷ b.behind
 line_behind text rest n mv is b = append_cancel_left (move_front n) rest (move_line mv ++ 10 ∷ b.behind) (sym is ∙ b.is ∙ front_of n mv b.behind)
 
--- no move's line stands first where its front does not, where there is no line behind that, or where the line tells none
+-- no move's line stands first where its front does not, where there is no line after that, or where the line names no move
 pub no_front : (text : List ℕ) (n : ℕ) → ((rest : List ℕ) → text ≡ move_front n ++ rest → ⊥) → (mv : Move) → BeginsWith text n mv → ⊥
 no_front text n none mv b = none (move_line mv ++ 10 ∷ b.behind) (b.is ∙ front_of n mv b.behind)
 
@@ -125,7 +125,7 @@ no_move text rest line n is first none mv b =
     let same = one_first line (move_line mv) first.behind b.behind first.whole (move_line_no mv) (sym first.is ∙ line_behind text rest n mv is b) in
     none mv (record { written = same.0; told = b.told })
 
--- one does where the line tells it
+-- a move's line does where the line there names it
 pub one_move : (text rest line : List ℕ) (n : ℕ) (mv : Move) → text ≡ move_front n ++ rest → IsFirstLine rest line → Tells line mv → BeginsWith text n mv
 one_move text rest line n mv is first tells = record {
   told = tells.told;
@@ -184,7 +184,7 @@ first_there text end is low = rw is (first_at text (rw is at low))
 pub first_not : (text : List ℕ) (end : ℕ) → end ≡ position_or_len is_line_feed text → length text ≤ end → (line : List ℕ) → IsFirstLine text line → ⊥
 first_not text end is high line f = no_first text line (rw is at high) f
 
--- a move's line stands first just where the line there tells the move
+-- a move's line stands first exactly where the line there names the move
 pub told_first : (text rest line : List ℕ) (n : ℕ) (told : Option Move) → text ≡ move_front n ++ rest → IsFirstLine rest line → MatchOption told ((mv : Move) → Tells line mv → ⊥) (λ mv. Tells line mv)
     → MatchOption told ((mv : Move) → BeginsWith text n mv → ⊥) (λ mv. BeginsWith text n mv)
 told_first text rest line n None is first none = no_move text rest line n is first none

@@ -1,4 +1,4 @@
--- How an audit ends, from where it has come to.
+-- How an audit ends, from where it has arrived.
 use Rattle.std.proofs.Common.{◌≡◌, ℕ, ◌+◌, ◌-◌, ◌<◌, ◌≤◌, true, List, [], ◌∷◌, ◌++◌, length, take, Option, Some, None, inl, inr, refl, sym, ap, subst, ◌∙◌, length-drop, arith}
 use Rattle.std.specs.Prelude.{slice_get}
 use Rattle.std.proofs.lemmas.List.{take_all}
@@ -120,7 +120,7 @@ still_there : (text : List ℕ) (start : Place) (now new : Stand) (h : Comes tex
 still_there text start now new h same =
     subst (λ (s : Stand). StandsAt start.core s.place.core start.streams.input s.place.streams.input h.reached.last) (sym same) (stands-here text start now h)
 
--- the trace goes wrong at a place behind the groups so far
+-- the trace goes wrong at a place after the groups so far
 wrong_at : (text : List ℕ) (start : Place) (now : Stand) (h : Comes text start now) (last stop : Moment) (line place : ℕ) (kind : TraceKind) → Leads start.core.plan most_retired start.streams.input (moment_of start.core h.reached.rest) h.reached.trace last → 0 < length (left_of now.seen)
     → Fails start.core.plan start.streams.input last (now.place.tally.moves + 1) (left_of now.seen) place kind stop → line ≡ line_of text (now.seen.agreed + place) → GoesWrong start.core start.streams.input text line kind stop
 wrong_at text start now h last stop line place kind leads some fails line_is = record {
@@ -233,14 +233,14 @@ tried text start now new mv ReadFault small tells quiet h next t =
       fails = fails_there text start now new h quiet t.1;
     }
 
--- the first line of what is left tells no move
+-- the first line of what is left names no move
 pub tests-none : (text left : List ℕ) (now new : Stand) (place : ℕ) (answer : Audit) → answer ≡ Wrong (line_of text place) NotAMove → place ≡ now.seen.agreed → left ≡ left_of now.seen → has_line left ≡ true → ((mv : Move) → BeginsWith left (now.place.tally.moves + 1) mv → ⊥)
     → new ≡ now → Tests text now new (Some answer)
 unfolding Tests
 tests-none text left now new place answer is at behind has none same =
     rw is (ap has_line (sym behind) ∙ has, λ mv begins. none mv (subst (λ (t : List ℕ). BeginsWith t (now.place.tally.moves + 1) mv) (sym behind) begins), ap (line_of text) at, same)
 
--- it tells a move, which is tried
+-- it names a move, which is tried
 pub tests-tried : (text left : List ℕ) (now new : Stand) (mv : Move) (answer : Option Audit) → left ≡ left_of now.seen → BeginsWith left (now.place.tally.moves + 1) mv → Tries text mv now new answer → Tests text now new answer
 unfolding Tests Tries
 tests-tried text left now new mv answer behind begins tries = of answer (subst (λ (t : List ℕ). BeginsWith t (now.place.tally.moves + 1) mv) behind begins) tries

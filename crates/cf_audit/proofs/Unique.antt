@@ -1,4 +1,4 @@
--- A text is the trace of one run, and the trace of none where it goes wrong.
+-- A text is the trace of one run, and the trace of no run where it goes wrong.
 use Rattle.std.proofs.Common.{◌≡◌, ℕ, zero, suc, ◌+◌, ◌<◌, true, false, List, [], ◌∷◌, ◌++◌, length, Option, Some, None, inl, inr, refl, sym, ap, subst, ◌∙◌, append-nil, append_assoc, length-append, arith}
 use Rattle.std.specs.Prelude.{Bool, slice_get, codes, decimal, ◌||◌, ◌==◌}
 use Rattle.std.proofs.lemmas.List.{append_cancel_left}
@@ -26,7 +26,7 @@ use Rattle.cf_audit.specs.Traces.{most_retired, AreReadBack, IsReadBack, IsTrace
 use Rattle.cf_audit.proofs.Coming.{shown-some}
 use Rattle.cf_audit.proofs.FirstLines.{one_told}
 
--- a group is the line of its move, and what stands behind that
+-- a group is the line of its move, and what comes after that
 rest_of_group : Plan → Made → List ℕ
 rest_of_group plan made = retirement made.state.retired made.event ++ picture plan made.state
 
@@ -56,7 +56,7 @@ same_group plan m n a b h k same =
           ∙ ap (λ (t : List ℕ). (numbered_move n b.move ++ retirement b.state.retired b.event) ++ t) drawn,
     )
 
--- two moves that are made at a moment, whose groups begin one text, are one move, and the same stands behind the groups
+-- two moves that are made at a moment, whose groups begin one text, are one move, and the same comes after the groups
 record IsOneMove (plan : Plan) (m : Moment) (a b : Made) (x y : List ℕ) : Type 0 where
   move : a.move ≡ b.move
   state : a.state ≡ b.state
@@ -148,7 +148,7 @@ not_failing plan told m n made left more place Cut stop is reads same (inl (none
     absurd (cc)
 not_failing plan told m n made left more place Cut stop is reads same (inr (p, at)) = not_parted plan told m n made left more place stop is reads same p
 
--- a text that fails behind the groups of some moves is not the trace of a run
+-- a text that fails after the groups of some moves is not the trace of a run
 no_trace : (plan : Plan) (told : List ℕ) (m : Moment) (n k : ℕ) (a b : List Made) (last end : Moment) (left : List ℕ) (place : ℕ) (kind : TraceKind) (stop : Moment) → k ≡ n + length a → Leads plan most_retired (Some told) m a last → Leads plan most_retired (Some told) m b end → AreReadBack a → AreReadBack b
     → 0 < length left → Fails plan (Some told) last k left place kind stop → all_shown show.Moves plan n a ++ left ≡ all_shown show.Moves plan n b → ⊥
 unfolding Leads all_shown

@@ -1,7 +1,7 @@
 -- A sink that compares what is put to it with a text (a convention of this project).
 use Rattle.std.specs.Prelude.{◌≡◌, ℕ, ◌≤◌, ◌<◌, suc, List, [], ◌∷◌, ◌++◌, length, take, map, slice_get, Option, Some, None, IfSome, IsSome}
 
--- the text, how many of its bytes were put, the byte behind them that was another, where one was, and how often the sink has failed since
+-- the text, how many of its bytes were put, the byte after them that differs, if one does, and how often the sink has failed since
 pub record Comparison : Type 0 where
   pub text : List ℕ
   pub agreed : ℕ
@@ -20,7 +20,7 @@ IsOther text place byte = slice_get text place ≡ Some byte → ⊥
 abbrev pub AreApart : (one other : List ℕ) → ℕ → Type 0
 AreApart one other place = (byte : ℕ) → slice_get other place ≡ Some byte → IsOther one place byte
 
--- the bytes that agree are the text's, the other byte is another, and the sink fails only behind that
+-- the bytes that agree are the text's, the other byte is not the text's, and the sink fails only after that byte
 pub record IsComparison (c : Comparison) : Type 0 where
   pub within : c.agreed ≤ length c.text
   pub other : IfSome c.other (λ byte. IsOther c.text c.agreed byte)
@@ -48,6 +48,6 @@ alone (Some byte) = byte ∷ []
 abbrev pub put_of : Comparison → List ℕ
 put_of c = take c.agreed c.text ++ alone c.other
 
--- what the sink tells: the text, in bytes raised by one, so that the first 0 ends it; and behind that 0 what was put. So whoever puts to it is known to leave its text as it is
+-- what the sink tells: the text, in bytes raised by one, so that the first 0 ends it; and after that 0 what was put. So whatever puts to it is known to leave its text as it is
 unfoldable pub told_by : Comparison → List ℕ
 told_by c = map suc c.text ++ 0 ∷ put_of c

@@ -1,10 +1,10 @@
--- The first line of a text, and the move that a line tells.
+-- The first line of a text, and the move that a line names.
 use Rattle.std.specs.Prelude.{◌≡◌, ℕ, false, List, ◌∷◌, ◌++◌, codes, decimal}
 use Rattle.cf_bind.specs.declared.moves.Move.{Move}
 use Rattle.cf_bind.specs.MoveTexts.{move_line}
 use Rattle.cf_audit.specs.Traces.{IsReadBack, has_line}
 
--- what stands in front of a move in its line, the one of this number
+-- what comes before the move of this number in its line
 abbrev pub move_front : ℕ → List ℕ
 move_front n = codes "move " ++ decimal n ++ codes " "
 
@@ -14,7 +14,7 @@ pub record IsFirstLine (text line : List ℕ) : Type 0 where
   pub behind : List ℕ
   pub is : text ≡ line ++ 10 ∷ behind
 
--- the line is the one that is written for the move, and it tells that move
+-- the line is the one that is written for the move, and is read as that move
 pub record Tells (line : List ℕ) (mv : Move) : Type 0 where
   pub written : line ≡ move_line mv
   pub told : IsReadBack mv

@@ -1,4 +1,4 @@
--- Recorded traces: the text of a run, and where a text that is none goes wrong (a format of this project).
+-- Recorded traces: the text of a run, and where a text that is no trace goes wrong (a format of this project).
 use Rattle.std.specs.Prelude.{◌≡◌, ◌⊎◌, ℕ, ◌+◌, ◌-◌, ◌<◌, ◌^◌, Bool, true, false, List, [], ◌∷◌, ◌++◌, length, take, slice_get, count_by, Option, Some, None, Ok}
 use Rattle.std.specs.List.{list_any}
 use Rattle.cf_asked.specs.declared.show.Show.TheVariants as show
@@ -20,20 +20,20 @@ use Rattle.cf_run.specs.Going.{moment_of, Finds, IsMade, Leads}
 use Rattle.cf_scripts.specs.declared.trace_refusal.TraceKind.{TraceKind}
 use Rattle.cf_scripts.specs.declared.trace_refusal.TraceKind.TheVariants.{NotAMove, Barred, Differs, Cut}
 
--- so many instructions at most can retire: their count is a u64
+-- at most this many instructions can retire: their count is a u64
 abbrev pub most_retired : ℕ
 most_retired = 2 ^ 64 - 1
 
--- the line that is written for the move tells it
+-- the line that is written for the move is read as that move
 abbrev pub IsReadBack : Move → Type 0
 IsReadBack mv = move_in (move_line mv) ≡ Ok mv
 
--- so does that of each of these moves
+-- so is that of each of these moves
 abbrev pub AreReadBack : List Made → Type 0
 AreReadBack [] = Unit {0}
 AreReadBack (made ∷ trace) = IsReadBack made.move × AreReadBack trace
 
--- The text is the trace of a run of n moves from the processor, over what the input tells: for each move its line, the line of the instruction that retired with it, if one did, and the picture behind it. The run leads to this moment.
+-- The text is the trace of a run of n moves from the processor, over what the input tells: for each move its line, the line of the instruction that retired with it, if one did, and the picture after it. The run leads to this moment.
 pub record IsTrace (core : Processor) (told : Option (List ℕ)) (text : List ℕ) (n : ℕ) (last : Moment) : Type 0 where
   pub trace : List Made
   pub rest : List ℕ
@@ -48,7 +48,7 @@ pub record StandsAt (core new : Processor) (told now : Option (List ℕ)) (last 
   pub processor : new ≡ in_state core last.state
   pub input : Becomes told now last.rest
 
--- the text begins with the line of this move, the one of this number
+-- the text begins with the line of this move under this number
 pub record BeginsWith (text : List ℕ) (n : ℕ) (mv : Move) : Type 0 where
   pub told : IsReadBack mv
   pub behind : List ℕ
@@ -68,7 +68,7 @@ pub record AgreesSoFar (core : Processor) (told : Option (List ℕ)) (text front
   pub some : 0 < length left
   pub is : IsTrace core told front n last
 
--- the next move is made at the moment, the one of this number, and this is its group: all that is shown of it
+-- the next move, of this number, is made at the moment, and this is its group: all that is shown of it
 pub record IsGroup (plan : Plan) (told : Option (List ℕ)) (last : Moment) (n : ℕ) (mv : Move) (group : List ℕ) : Type 0 where
   pub rest : List ℕ
   pub finds : Finds told last.rest rest
@@ -77,7 +77,7 @@ pub record IsGroup (plan : Plan) (told : Option (List ℕ)) (last : Moment) (n :
   pub move : made.move ≡ mv
   pub is : group ≡ shown show.Moves plan n made
 
--- what is left begins with the line of a move that can be made, which leads to the moment `stop`, and it is the move's group up to this place, at which the group has another byte or the text has none
+-- what is left begins with the line of a move that can be made, which leads to the moment `stop`, and it is the move's group up to this place, at which the group has another byte or the text has ended
 pub record PartsAt (plan : Plan) (told : Option (List ℕ)) (last : Moment) (n : ℕ) (left : List ℕ) (place : ℕ) (stop : Moment) : Type 0 where
   pub move : Move
   pub begins : BeginsWith left n move
@@ -89,7 +89,7 @@ pub record PartsAt (plan : Plan) (told : Option (List ℕ)) (last : Moment) (n :
   pub goes_on : slice_get group place ≡ Some other
   pub differs : slice_get left place ≡ Some other → ⊥
 
--- why what is left, which is not empty, is not the trace of further moves from the moment, the next of which has this number; the place is that of the byte of it that shows it. The tests stand in the order in which they are made: no line feed is left; the first line is that of no move; the move is barred; what follows is not its group. Only for the last is a move made: all stops at the moment to which it leads, and else at this one
+-- why what is left, which is not empty, is not the trace of further moves from the moment, the next of which has this number; the place is that of the byte that shows it. The tests stand in the order in which they are made: no line feed is left; the first line is that of no move; the move is barred; what follows is not its group. Only for the last is a move made: all stops at the moment to which it leads, and else at this one
 unfoldable pub Fails : Plan → Option (List ℕ) → Moment → ℕ → List ℕ → ℕ → TraceKind → (stop : Moment) → Type 0
 Fails plan told last n left place Cut stop =
     ((has_line left ≡ false) × (place ≡ 0) × (stop ≡ last))
@@ -101,7 +101,7 @@ Fails plan told last n left place (Barred b) stop =
 Fails plan told last n left place Differs stop =
     PartsAt plan told last n left place stop × (place < length left)
 
--- The text is not the trace of a run: behind the groups of a run a test fails, in this line. The moves that are made lead to the moment `stop`.
+-- The text is not the trace of a run: after the groups of a run a test fails, in this line. The moves that are made lead to the moment `stop`.
 pub record GoesWrong (core : Processor) (told : Option (List ℕ)) (text : List ℕ) (line : ℕ) (kind : TraceKind) (stop : Moment) : Type 0 where
   pub front : List ℕ
   pub left : List ℕ
@@ -112,7 +112,7 @@ pub record GoesWrong (core : Processor) (told : Option (List ℕ)) (text : List 
   pub fails : Fails core.plan told last (n + 1) left place kind stop
   pub line_is : line ≡ line_of text (length front + place)
 
--- Behind the groups of a run stands the line of Serve, which nothing bars: this call is the one that failed, and the processor and the input are what it leaves.
+-- After the groups of a run comes the line of Serve, which nothing bars: this call is the one that failed, and the processor and the input are what it leaves.
 pub record StopsAtCall (core new : Processor) (told now : Option (List ℕ)) (text : List ℕ) : Type 0 where
   pub front : List ℕ
   pub left : List ℕ

@@ -16,7 +16,7 @@ use Rattle.cf_scripts.specs.declared.trace_refusal.TraceKind.TheVariants.{NotAMo
 use Rattle.cf_audit.specs.Compared.{Comparison, told_by, HasOther, IsSame}
 use Rattle.cf_audit.specs.Traces.{BeginsWith, has_line, line_of}
 
--- where an audit has come to: the place of its run, and the comparison that is its report
+-- where an audit has arrived: the place of its run, and the comparison that is its report
 pub record Stand : Type 0 where
   pub place : Place
   pub seen : Comparison
@@ -25,7 +25,7 @@ pub record Stand : Type 0 where
 abbrev pub stand_of : Place → Comparison → Stand
 stand_of place seen = record { place = place; seen = seen }
 
--- the stand with these, by what a source tells; what the program writes goes nowhere
+-- the stand with these, given what a source tells; what the program writes goes nowhere
 abbrev pub stand_by : {S : Type 0} → (S → Option (List ℕ)) → Processor → S → Comparison → Tally → Stand
 stand_by unread core input seen tally = stand_of (place_of core (streams_of (unread input) None) (Some (told_by seen)) tally) seen
 
@@ -76,7 +76,7 @@ Tries text mv now new (Some (Wrong line Cut)) =
     Parts mv now new × (new.seen.agreed ≡ length new.seen.text) × (line ≡ line_of text new.seen.agreed)
 Tries text mv now new (Some ReadFault) = Does show.Moves mv now.place new.place (Err ran.ReadFault)
 
--- the next group is tested: its first line tells a move, which is tried, or none
+-- the next group is tested: its first line names a move, which is tried, or names none
 unfoldable pub Tests : List ℕ → (now new : Stand) → Option Audit → Type 0
 Tests text now new (Some (Agrees n)) =
     (length (left_of now.seen) ≡ 0) × (n ≡ now.place.tally.moves) × (new ≡ now)

@@ -29,7 +29,7 @@ fn has_line(text: &[u8]) -> bool
     text.iter().any(|byte| *byte == b'\n')
 }
 
-/// How many lines end in a text.
+/// How many line feeds are in a text.
 fn count_lines(text: &[u8]) -> usize
     ensures count { result ≡ count_by is_line_feed text.now }
     ensures within { result ≤ length text.now }
@@ -122,12 +122,12 @@ fn advance<S: Source>(
 /// Audits a recorded trace: what `--show moves` writes of a run, without the report that closes it. The processor is an
 /// opened one on which nothing has retired, and the trace has at most `MOST_TRACE` bytes.
 ///
-/// Group after group the move that the trace tells is made, and all that is shown of it is compared with the trace, byte
-/// by byte; nothing of it is kept. `Agrees` comes exactly where the trace is that of a run, of so many moves, which leads to
-/// where the processor and the input then stand. `Wrong` comes exactly where it is none, by the first test that fails, in
+/// Group after group the move that the trace names is made, and all that is shown of it is compared with the trace, byte
+/// by byte; nothing of it is kept. `Agrees` comes exactly where the trace is that of a run, of this many moves, which leads to
+/// where the processor and the input then stand. `Wrong` comes exactly where it is not, by the first test that fails, in
 /// the order of [`TraceKind`]. The line is that of the group's first line; for `Differs` that of the first byte that
-/// differs, and for `Cut` that in which the trace ends. The processor and the input then stand where the moves lead that
-/// were made: those of the groups before, and for `Differs`, and for `Cut` within a group, the one of this group too.
+/// differs, and for `Cut` that in which the trace ends. The processor and the input then stand where the moves that were
+/// made lead: those of the groups before, and for `Differs`, and for `Cut` within a group, the one of this group too.
 ///
 /// So the lines of retired instructions in a trace that agrees are those of the sequential machine, in its order, whoever
 /// has made the trace and in whatever order its moves were made.

@@ -9,7 +9,7 @@ use crate::common::{byte_at, common};
 use cf_io::{Failed, Sink};
 use std::marker::Model;
 
-/// A sink that takes what is put to it while it agrees with a text, and the first byte that is another or stands behind
+/// A sink that takes what is put to it while it agrees with a text, and the first byte that differs or comes after
 /// the text's end. Then it fails.
 #[derive(Drop)]
 pub(crate) struct Compared<'a> {
@@ -30,7 +30,7 @@ impl<'a> Model for Compared<'a> {
 }
 
 impl<'a> Compared<'a> {
-    /// A comparison with a text to which nothing was put yet.
+    /// A comparison with a text to which nothing has been put yet.
     pub(crate) fn with(text: &'a [u8]) -> Compared<'a>
         ensures { result ≡ fresh text.now }
     {
@@ -50,7 +50,7 @@ impl<'a> Compared<'a> {
         self.agreed
     }
 
-    /// The text behind the bytes that agree.
+    /// The text after the bytes that agree.
     pub(crate) fn rest(&self) -> &'a [u8]
         ensures { result.now ≡ drop self.now.agreed self.now.text }
     {

@@ -1,4 +1,4 @@
-//! The first line of a group, which tells a move.
+//! The first line of a group, which names a move.
 
 ghost use Rattle.std.specs.Prelude.{◌≡◌, ◌++◌, ◌↔◌, IsTrue, MatchOption, List, ℕ};
 ghost use Rattle.cf_bind.specs.declared.moves.Move.{Move as AnyMove};
@@ -11,7 +11,7 @@ use cf_report::move_number;
 use cf_scripts::read_move;
 use rv_text::find_byte;
 
-/// What stands behind a front of the text, where it begins with that.
+/// What comes after a front of the text, where it begins with that front.
 fn behind<'a>(text: &'a [u8], front: &[u8]) -> Option<&'a [u8]>
     ensures { MatchOption result ((rest : List ℕ) → text.now ≡ front.now ++ rest → ⊥)
         (λ rest. text.now ≡ front.now ++ rest.now) }
@@ -19,7 +19,7 @@ fn behind<'a>(text: &'a [u8], front: &[u8]) -> Option<&'a [u8]>
     text.strip_prefix(front)
 }
 
-/// What stands behind `move ` and the number, where the text begins so.
+/// What comes after `move ` and the number, where the text begins with them.
 fn behind_number(text: &[u8], n: u64) -> Option<&[u8]>
     ensures { MatchOption result ((rest : List ℕ) → text.now ≡ move_front n ++ rest → ⊥)
         (λ rest. text.now ≡ move_front n ++ rest.now) }

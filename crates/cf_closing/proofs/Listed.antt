@@ -1,4 +1,4 @@
--- The lines of some moves, and of those behind them.
+-- The lines of some moves, and of those after them.
 use Rattle.std.proofs.Common.{◌≡◌, ℕ, zero, suc, ◌+◌, ◌-◌, ◌<◌, ◌≤◌, List, [], ◌∷◌, ◌++◌, map, length, take, drop, get_or, refl, ap, sym, ◌∙◌, subst, append-nil, append_assoc, arith}
 use Rattle.std.specs.List.{flat_map}
 use Rattle.std.specs.Prelude.{slice_get, unwrap_or}
@@ -57,7 +57,7 @@ line-next plan s f a i n m e k =
     rw (e, k) (ap (λ (text : List ℕ). lines_from plan s f a n ++ text) (sym (lines-one plan s (f (a + n))))
     ∙ sym (lines-split plan s f a n 1))
 
--- behind it stand those of the others
+-- after it come those of the others
 pub line-behind : (plan : Plan) (s : State) (f : ℕ → Move) (a i n whole : ℕ) → i ≡ a + n → n < whole →
     (rest : List ℕ) × ((lines_from plan s f a n ++ line_in plan s (f i)) ++ rest ≡ lines_from plan s f a whole)
 line-behind plan s f a i n whole e below =
@@ -69,7 +69,7 @@ line-behind plan s f a i n whole e below =
           ∙ (sym (lines-split plan s f a (n + 1) left) ∙ ap (lines_from plan s f a) all),
     )
 
--- the moves of the first sidings, and of those behind them
+-- the moves of the first sidings, and of those after them
 siding-split : (k i : ℕ) (sidings : List SidingPlan) →
     siding_moves k sidings ≡ siding_moves k (take i sidings) ++ siding_moves (k + i) (drop i sidings)
 siding-split k zero sidings = let e : k + zero ≡ k = omega arith in rw e refl
@@ -114,7 +114,7 @@ sidings-next plan s i below =
     rw one (sym (lines-append plan s (siding_moves 0 (take i plan.sidings))
     (cell_moves i (unwrap_or (slice_get plan.sidings i) no_siding).cells)) ∙ ap (lines_in plan s) (sym next))
 
--- behind them stand those of the others
+-- after them come those of the others
 pub sidings-behind : (plan : Plan) (s : State) (i : ℕ) → i < length plan.sidings →
     (rest : List ℕ) × ((lines_in plan s (siding_moves 0 (take i plan.sidings))
     ++ lines_in plan s (cell_moves i (cells_of plan i))) ++ rest ≡ lines_in plan s (siding_moves 0 plan.sidings))
@@ -126,7 +126,7 @@ sidings-behind plan s i below =
           ∙ ap (lines_in plan s) (sym (siding-split 0 (i + 1) plan.sidings))),
     )
 
--- the moves of the first parts, and of those behind them
+-- the moves of the first parts, and of those after them
 part-more : (plan : Plan) (parts : List Part) (i : ℕ) (none : Part) → i < length parts →
     flat_map (part_moves plan) (take i parts) ++ part_moves plan (get_or parts i none)
     ≡ flat_map (part_moves plan) (take (i + 1) parts)

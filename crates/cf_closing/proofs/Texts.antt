@@ -1,4 +1,4 @@
--- A line of two texts, put behind a page one after the other.
+-- A line of two texts, added to a page one after the other.
 use Rattle.std.proofs.Common.{◌≡◌, ℕ, List, ◌++◌, append_assoc, refl}
 use Rattle.cf_texts.specs.Texts.{line, newline}
 

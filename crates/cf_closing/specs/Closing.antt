@@ -12,7 +12,7 @@ use Rattle.cf_run.specs.declared.answer.Scripted.{Scripted}
 use Rattle.cf_run.specs.declared.answer.Scripted.TheVariants.{Ran}
 use Rattle.cf_closing.specs.Lines.{first_line}
 
--- the report failed in the run
+-- the report failed during the run
 abbrev pub is_report_fault : Scripted → Bool
 is_report_fault (Ran ReportFault) = true
 is_report_fault answer = false
@@ -33,7 +33,7 @@ rest_text plan s tally = tally_text tally ++ registers_text s.regs ++ picture pl
 unfoldable pub closing : (limit : ℕ) → Scripted → Plan → State → Tally → List ℕ
 closing limit answer plan s tally = head_text limit tally.moves answer s.retired ++ rest_text plan s tally
 
--- what closes a run in rounds: the same, with the number of the rounds behind that of the retired instructions
+-- what closes a run in rounds: the same, with the number of rounds after that of the retired instructions
 unfoldable pub closing_in_rounds : (limit : ℕ) → Scripted → (rounds : ℕ) → Plan → State → Tally → List ℕ
 closing_in_rounds limit answer rounds plan s tally =
     head_text limit tally.moves answer s.retired ++ counted_line (codes "rounds ") rounds ++ rest_text plan s tally

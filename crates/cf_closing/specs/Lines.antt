@@ -11,7 +11,7 @@ use Rattle.cf_run.specs.declared.answer.Ran.TheVariants as ran
 use Rattle.cf_run.specs.declared.answer.Scripted.{Scripted}
 use Rattle.cf_run.specs.declared.answer.Scripted.TheVariants.{Ran, ScriptEnd, BadScript, BarredAt}
 
--- what bars a move: its name, and behind a space the register of a source without a value
+-- what bars a move: its name, and after a space the register of a source without a value
 unfoldable pub bar_text : Bar → List ℕ
 bar_text bar.Halted = codes "Halted"
 bar_text bar.Failed = codes "Failed"
@@ -34,7 +34,7 @@ bar_text bar.BadGuess = codes "BadGuess"
 bar_text bar.Dead = codes "Dead"
 bar_text bar.AlreadyDone = codes "AlreadyDone"
 
--- why a line of a script tells no move: the name
+-- why a line of a script is no move: the name
 unfoldable pub script_text : ScriptKind → List ℕ
 script_text script.UnknownMove = codes "UnknownMove"
 script_text script.BadNumber = codes "BadNumber"
@@ -45,7 +45,7 @@ script_text script.NotAscii = codes "NotAscii"
 unfoldable pub place_in_script : List ℕ → ℕ → List ℕ
 place_in_script what number = what ++ decimal number ++ codes ": "
 
--- a line of the script tells no move
+-- a line of the script is no move
 unfoldable pub bad_line : ScriptErr → List ℕ
 bad_line refusal = line (place_in_script (codes "bad script line ") refusal.line ++ script_text refusal.kind)
 
@@ -53,7 +53,7 @@ bad_line refusal = line (place_in_script (codes "bad script line ") refusal.line
 unfoldable pub barred_line : ℕ → Bar → List ℕ
 barred_line number bar = line (place_in_script (codes "barred at line ") number ++ bar_text bar)
 
--- how a run finished, under this limit; a report that failed is told nothing
+-- how a run finished, under this limit; no line where the report failed
 unfoldable pub line_of_run : ℕ → Answer → List ℕ
 line_of_run limit (ran.Exit status) = counted_line (codes "exit ") status
 line_of_run limit (ran.Trap cause pc detail) = trap_line cause pc detail
@@ -62,7 +62,7 @@ line_of_run limit ran.ReadFault = line (codes "read fault input")
 line_of_run limit ran.WriteFault = line (codes "write fault output")
 line_of_run limit ran.ReportFault = []
 
--- how the run of a script finished, under this limit, with so many moves made
+-- how the run of a script finished, under this limit, with this many moves made
 unfoldable pub first_line : (limit moves : ℕ) → Scripted → List ℕ
 first_line limit moves (Ran answer) = line_of_run limit answer
 first_line limit moves ScriptEnd = line (codes "script end after " ++ decimal moves ++ codes " moves")

@@ -12,7 +12,7 @@ use Rattle.cf_semantics.specs.moves.Candidates.{counted_from, at_stages}
 use Rattle.cf_semantics.specs.state.State.{State}
 use Rattle.cf_closing.specs.Lines.{bar_text}
 
--- the moves from each cell of a siding, the last one, which leads nowhere, among them
+-- the moves from each cell of a siding, among them the last one, which leads nowhere
 abbrev pub cell_moves : ℕ → ℕ → List Move
 cell_moves siding cells = map (Slide siding) (counted_from 0 cells)
 

@@ -1,4 +1,4 @@
--- How the order of all moves is gone through, part by part.
+-- The order of all moves, part by part.
 use Rattle.std.specs.Prelude.{ℕ, List, [], ◌∷◌}
 use Rattle.std.specs.List.{flat_map}
 use Rattle.cf_layout.specs.Layout.{Plan}

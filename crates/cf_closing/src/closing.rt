@@ -67,8 +67,8 @@ fn put_rest<R: Sink>(core: &Core, tally: &Tally, report: &mut R) -> Result<(), F
     put_picture(core, report)
 }
 
-/// Puts the report that closes a run of the sequential machine under this limit, which finished with this answer, with so
-/// many instructions retired and these registers: the line that tells how it finished, the count and the registers. After
+/// Puts the report that closes a run of the sequential machine under this limit, which finished with this answer, with this
+/// many instructions retired and these registers: the line that says how it finished, the count and the registers. After
 /// `Failed` a front of it was put.
 pub fn put_machine_closing<R: Sink>(
     limit: u64,
@@ -84,8 +84,8 @@ pub fn put_machine_closing<R: Sink>(
     put_all(report, page.bytes())
 }
 
-/// Puts the report that closes a run of the processor under this limit, which finished with this answer and left the
-/// processor and the count so: the line that tells how it finished, how many instructions have retired, what was counted,
+/// Puts the report that closes a run of the processor under this limit, which finished with this answer and left this
+/// processor and these counts: the line that says how it finished, how many instructions have retired, what was counted,
 /// the registers, and the picture of the processor. After `Failed` a front of it was put.
 pub fn put_closing<R: Sink>(
     core: &Core,
@@ -102,7 +102,7 @@ pub fn put_closing<R: Sink>(
     put_rest(core, tally, report)
 }
 
-/// Puts the report that closes a run in so many rounds: that of any run of the processor, with their number behind that of
+/// Puts the report that closes a run in this many rounds: that of any run of the processor, with their number after that of
 /// the retired instructions. After `Failed` a front of it was put.
 pub fn put_closing_in_rounds<R: Sink>(
     core: &Core,

@@ -45,7 +45,7 @@ pub fn push_bar(page: &mut Page, bar: Bar)
     }
 }
 
-/// Why a line of a script tells no move.
+/// Why a line of a script is no move.
 #[tactic(auto, unfolding(crate::specs::Lines::script_text))]
 pub fn push_script(page: &mut Page, kind: ScriptKind)
     requires { length page.old + 20 ≤ page_room }
@@ -72,7 +72,7 @@ fn push_place(page: &mut Page, what: &[u8], number: u32)
     page.push(b": ");
 }
 
-/// The line of a script that tells no move, and why.
+/// The line of a script that is no move, and why.
 fn push_bad_line(page: &mut Page, refusal: ScriptErr)
     requires { length page.old + 80 ≤ page_room }
     ensures text { page.new ≡ page.old ++ bad_line refusal }
@@ -121,7 +121,7 @@ fn push_ran(page: &mut Page, limit: u64, answer: Ran)
     }
 }
 
-/// The line that tells how a run finished, whatever its schedule: the first of its report. There is none where the report failed.
+/// The line that says how a run finished, whatever its schedule: the first of its report. It is empty where the report failed.
 pub fn run_line(limit: u64, answer: Ran) -> Page
     ensures line { result ≡ line_of_run limit answer }
     ensures size { length result ≤ 80 }
@@ -131,7 +131,7 @@ pub fn run_line(limit: u64, answer: Ran) -> Page
     page
 }
 
-/// The first line of a closing report: how the run of a script finished under a limit, with so many moves made.
+/// The first line of a closing report: how the run of a script finished under a limit, with this many moves made.
 pub(crate) fn push_first_line(page: &mut Page, limit: u64, moves: u64, answer: Scripted)
     requires { length page.old + 80 ≤ page_room }
     ensures text { page.new ≡ page.old ++ first_line limit moves answer }

@@ -16,7 +16,7 @@ use cf_core::Core;
 use cf_io::{Failed, Sink, put_all};
 use cf_texts::Page;
 
-/// What stands behind the move in the line of one that is barred.
+/// What follows the move in the line of a move that is barred.
 fn bar_page(bar: Bar) -> Page
     ensures { result ≡ codes " " ++ bar_text bar ++ codes "\n" }
 {
@@ -27,7 +27,7 @@ fn bar_page(bar: Bar) -> Page
     page
 }
 
-/// Puts a move, and a text behind it.
+/// Puts a move, and a text after it.
 fn put_move<R: Sink>(mv: Move, behind: &[u8], report: &mut R) -> Result<(), Failed>
     ensures { PutsText (R.written report.old) (R.written report.new)
         (R.faults report.old) (R.faults report.new) (move_line mv ++ behind.now) result }

@@ -42,7 +42,7 @@ unfolding CarriesOut
 carries-told command now new text written after i j (Ok done) all part put = (text, all, put.all)
 carries-told command now new text written after i j (Err failed) all part put = (text, part, put.front)
 
--- the output did not fail then, and the report just where the text did
+-- the output did not fail then, and the report exactly where the text did
 pub told-still : (faults : ℕ) (answer : Result (Unit {0}) Failed) → HasCause faults faults (output_broken (of_report answer))
 told-still faults (Ok done) = record { never_falls = omega arith; rose = tt; still = refl }
 told-still faults (Err failed) = record { never_falls = omega arith; rose = tt; still = refl }
@@ -132,7 +132,7 @@ carries-back core new ring later output stop written after i j answer (text, h, 
 
 -- Lines --
 
--- what a command leaves ends the session so
+-- what a command leaves ends the session in this way
 pub ends-command : (line : List ℕ) (command : Command) (now new : Desk) (written after : Option (List ℕ)) (answer : Result (Unit {0}) Broken) → command_in line ≡ Ok command → command ≢ End → CarriesOut command now new written after answer → Ends line now new written after (ended_by answer)
 unfolding Ends CarriesOut Answers AnswersPart FailsAnswer
 ends-command line command now new written after (Ok done) is other (text, h, put) =
@@ -167,7 +167,7 @@ unfolding Ends AnswersPart
 ends-unrefused line refusal now written after i j failed is put =
     (refused_line (refusal_text refusal), subst (λ (told : Result Command Refusal). AnswersPart told now now (refused_line (refusal_text refusal))) (sym is) (refl, refl), put.front)
 
--- a line that tells the same ends the session so
+-- a line that tells the same ends the session in the same way
 pub ends-same : (line other : List ℕ) (now new : Desk) (written after : Option (List ℕ)) (answer : Option Debugged) → command_in line ≡ command_in other → Ends line now new written after answer → Ends other now new written after answer
 unfolding Ends
 ends-same line other now new written after None same (text, h, put) = (text, subst (λ (told : Result Command Refusal). Answers told now new text) same h, put)
@@ -177,7 +177,7 @@ ends-same line other now new written after (Some ReportFault) same (text, h, put
 ends-same line other now new written after (Some Limit) same h = absurd h
 ends-same line other now new written after (Some ReadFault) same h = absurd h
 
--- one line more
+-- one more line
 pub answers-more : (lines : List (List ℕ)) (line : List ℕ) (begin now new : Desk) (first text : List ℕ) → AnswersAll lines begin now first → Answers (command_in line) now new text → AnswersAll (lines ++ line ∷ []) begin new (first ++ text)
 unfolding AnswersAll
 answers-more [] line begin now new first text (same, none) h =
@@ -250,7 +250,7 @@ ends-fed line now new written after ReadFault before faults still e = absurd e
 ends-fed line now new written after WriteFault before faults still e = record { never_falls = omega (arith, still); rose = tt; still = still }
 ends-fed line now new written after ReportFault before faults still e = record { never_falls = omega (arith, still); rose = tt; still = still }
 
--- so it is with a byte
+-- a byte that is used keeps a session on its run too
 pub uses-stand : (start : Processor) (byte : ℕ) (line later : List ℕ) (now new : Desk) (written after : Option (List ℕ)) → Stands start now.bench.core now.bench.ring → UsesByte byte line later now new written after None → Stands start new.bench.core new.bench.ring
 unfolding Ends
 uses-stand start byte line later now new written after h (inl (other, held_is, same, still, goes)) = bench_same start now new h same

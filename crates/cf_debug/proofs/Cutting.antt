@@ -33,12 +33,12 @@ alone : {X : Type 0} (P : X → Type 0) (x : X) → P x → All P (x ∷ [])
 alone P x h zero y low = h
 alone P x h (suc i) y low = absurd (omega (arith, low))
 
--- no byte was taken yet
+-- no byte has been taken yet
 pub has-none : HasLines [] [] []
 unfolding joined
 has-none = record { pieces = []; are_pieces = no_pieces IsPiece; is_piece = no_pieces (λ (byte : ℕ). byte ≢ 10); bytes_are = refl; lines_are = refl }
 
--- one byte more of the unfinished line
+-- one more byte of the unfinished line
 pub has-byte : (bytes : List ℕ) (lines : List (List ℕ)) (line : List ℕ) (byte : ℕ) → HasLines bytes lines line → byte ≢ 10 → HasLines (bytes ++ byte ∷ []) lines (line ++ byte ∷ [])
 has-byte bytes lines line byte h other = record {
   pieces = h.pieces;
@@ -60,7 +60,7 @@ has-end bytes lines line h = record {
 
 -- What is held of a line --
 
--- one byte more
+-- one more byte
 pub held-more : (line : List ℕ) (byte : ℕ) → held (held line ++ byte ∷ []) ≡ held (line ++ byte ∷ [])
 held-more line byte = of (nat_lt 258 (length line)) refl
   where
@@ -217,7 +217,7 @@ pub one-failed : {E : Type 0} (before after : Option (List ℕ)) (into new : Lis
 unfolding Feeds
 one-failed before after into new e feed takes none = (none, subst (λ (o : Option (List ℕ)). Gives before o []) (sym takes.unchanged.1) (gives-none before), refl)
 
--- One byte more, where a line has room for n --
+-- One more byte, where a line has room for n --
 
 pub pushed : (n : ℕ) (line items new : List ℕ) (byte : ℕ) (full : Bool) → full ≡ (length items == n) → length items ≤ n → full ≡ false → items ≡ line → new ≡ items ++ byte ∷ [] → new ≡ take n (line ++ byte ∷ [])
 pushed n line items new byte full is fits room seen new_is =

@@ -1,4 +1,4 @@
--- Moves in turn: one move more, by a count that stops where Issue is held back, and how they end.
+-- Moves in turn: one more move, by a count that stops where Issue is held back, and how they end.
 use Rattle.std.proofs.Common.{◌≡◌, ℕ, zero, suc, ◌+◌, ◌<◌, ◌≤◌, List, [], ◌∷◌, ◌++◌, length, Option, Some, None, Bool, true, false, Ok, Err, refl, sym, ap, subst, ◌∙◌, append-nil, append_assoc, inl, inr, arith}
 use Rattle.std.specs.Prelude.{◌⊎◌, slice_get}
 use Rattle.std.proofs.lemmas.List.{length-append}
@@ -44,7 +44,7 @@ unfolding Steers MakesOrFails
 steers-on stop at later now new mv e last written after i j answer goes is makes ends next put =
     (made_of mv e new, record { goes = goes; pick_is = is; makes = makes; state = refl }, sym ends, next, put.all)
 
--- or the report failed behind it
+-- or the report failed after it
 pub steers-unshown : {T : Type 0} (stop : Option ℕ) (at later : Turn) (now new : Bench) (mv : Move) (e : Event) (written after : Option (List ℕ)) (i j : ℕ) (failed : Failed)
     → GoesOn most_retired now.core.state → pick at now ≡ Some mv → MakesOrFails mv now new (Ok e) → PutsText {T = T} written after i j (retirement new.core.state.retired e) (Err failed)
     → Steers stop at later now new written after (Err broken.Report)
@@ -59,7 +59,7 @@ unfolding Steers MakesOrFails
 steers-aground stop at later now new mv written failed goes is fails =
     (goes, is ∙ ap Some fails.serves, subst (λ (v : Move). FailsOne v now new) fails.serves fails, refl)
 
--- the turn behind it
+-- the turn after it
 pub next-is : (at : Turn) (now : Bench) (made : Made) (c later : Count) (policy : Option Move) (drained : Bool) → at.count ≡ c.count → c.stages ≡ now.core.plan.stages → drained ≡ is_drained made.state → later ≡ saw c made.move made.event drained → policy ≡ round_on at.policy (offered_to now.core.plan at now.core.state)
     → IsNextTurn at (chooser policy later.count) now made
 next-is at now made c later policy drained count beside drained_is later_is on = record {
@@ -81,7 +81,7 @@ chosen-pick last c now mv beside is = sym (is ∙ ap (λ (moves : List Move). sl
 pub chosen-allowed : (last : Option Move) (c : Count) (now : Bench) (mv : Move) → c.stages ≡ now.core.plan.stages → Some mv ≡ slice_get (offers_by c now.core.plan now.core.state) (round_pick last (offers_by c now.core.plan now.core.state)) → bar now.core.plan now.core.state mv ≡ None
 chosen-allowed last c now mv beside is = offered_allowed now.core.plan c.count now.core.state (round_pick last (offered now.core.plan c.count now.core.state)) mv (chosen-pick last c now mv beside is)
 
--- and behind it stands the next turn
+-- and after it comes the next turn
 pub chosen-next : (last policy : Option Move) (c later : Count) (now new : Bench) (mv : Move) (e : Event) (drained : Bool) → c.stages ≡ now.core.plan.stages → drained ≡ is_drained new.core.state → later ≡ saw c mv e drained → policy ≡ round_on last (offers_by c now.core.plan now.core.state)
     → IsNextTurn (chooser last c.count) (chooser policy later.count) now (made_of mv e new)
 chosen-next last policy c later now new mv e drained beside drained_is later_is on =
@@ -89,7 +89,7 @@ chosen-next last policy c later now new mv e drained beside drained_is later_is 
 
 -- Moves so far --
 
--- so many moves were made, none of which issued an instruction at the break address; the turn is told by a count that stops, and their lines were put
+-- this many moves were made, none of which issued an instruction at the break address; the turn is kept by a count that stops, and their lines were put
 pub record Comes (stop : Option ℕ) (start now : Bench) (held : Turn) (written after : Option (List ℕ)) (count : ℕ) : Type 0 where
   pub trace : List Made
   pub at : Turn
@@ -149,7 +149,7 @@ passes_more stop first start [] at now made new (same, here) takes free =
 passes_more stop first start (one ∷ trace) at now made new (next, t, f, more) takes free =
     (next, t, f, passes_more stop (next_turn first start one) next trace at now made new more takes free)
 
--- the lines with one move more
+-- the lines with one more move
 retirements_more : (trace : List Made) (made : Made) → retirements (trace ++ made ∷ []) ≡ retirements trace ++ retirement made.state.retired made.event
 unfolding retirements
 retirements_more [] made = append-nil (retirement made.state.retired made.event)
@@ -159,7 +159,7 @@ retirements_more (first ∷ trace) made =
 one_more : (trace : List Made) (made : Made) → length (trace ++ made ∷ []) ≡ length trace + 1
 one_more trace made = length-append trace (made ∷ [])
 
--- one move more
+-- one more move
 pub comes-more : (stop : Option ℕ) (start now new : Bench) (held later : Turn) (written between after : Option (List ℕ)) (count : ℕ) (last : Bool) → last ≡ false → Comes stop start now held written between count → Steers stop held later now new between after (Ok last)
     → Comes stop start new later written after (count + 1)
 unfolding Steers
@@ -184,7 +184,7 @@ pub steers-stands : (stop : Option ℕ) (at later : Turn) (now new : Bench) (wri
 unfolding Steers
 steers-stands stop at later now new written after last (start, h) (made, takes, hit, next, put) = (start, makes-stands start made.move made.event now new h takes.makes)
 
--- the stages stay as many
+-- the number of stages stays
 pub steers-plan : (stop : Option ℕ) (at later : Turn) (now new : Bench) (written after : Option (List ℕ)) (last : Bool) → Steers stop at later now new written after (Ok last) → new.core.plan ≡ now.core.plan
 unfolding Steers
 steers-plan stop at later now new written after last (made, takes, hit, next, put) = takes.makes.makes.plan
@@ -240,7 +240,7 @@ drives-break n stop start now new held later written between after count last is
       subst P (sym (retirements_more c.trace made)) (writes-again written between after (retirements c.trace) (retirement made.state.retired made.event) c.put put),
     )
 
--- the report failed behind a move
+-- the report failed after a move
 pub drives-unshown : (n : ℕ) (stop : Option ℕ) (start now new : Bench) (held later : Turn) (written between after : Option (List ℕ)) (count : ℕ) → count < n → Comes stop start now held written between count → Steers stop held later now new between after (Err broken.Report) → DrivesOut n stop start new written after (Err broken.Report)
 unfolding DrivesOut Steers
 drives-unshown n stop start now new held later written between after count few c (made, takes, put) =

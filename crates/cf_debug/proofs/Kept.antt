@@ -11,7 +11,7 @@ use Rattle.cf_debug.specs.Rings.{with_record}
 map_last : {X Y : Type 0} (f : X → Y) (n : ℕ) (xs : List X) → map f (keep_last n xs) ≡ keep_last n (map f xs)
 map_last f n xs = sym (drop-map f (length xs - n) xs) ∙ ap (λ (m : ℕ). drop (m - n) (map f xs)) (sym (length-map xs f))
 
--- one record more
+-- one more record
 pub kept_more : (n : ℕ) (records : List Undo) (undo : Undo) → n ≡ 1024 → map kept_by (keep_last n (records ++ undo ∷ [])) ≡ with_record (map kept_by records) (kept_by undo)
 kept_more n records undo is =
     map_last kept_by n (records ++ undo ∷ []) ∙ ap (keep_last n) (map-append kept_by records (undo ∷ [])) ∙ ap (λ (k : ℕ). keep_last k (map kept_by records ++ kept_by undo ∷ [])) is
@@ -40,7 +40,7 @@ kept-last (first ∷ records) (Some undo) is =
     let all : List Undo = first ∷ records in
     ap (map kept_by) (cut_at all (length all - 1) undo (omega arith) (sym is)) ∙ map-append kept_by (take (length all - 1) all) (undo ∷ [])
 
--- so it is of the lists that are seen
+-- the same of the lists that are seen
 pub popped : (records rest : List Undo) (old new : List Kept) (last : Option Undo) → last ≡ last_item records → rest ≡ take (length records - 1) records → map kept_by records ≡ old → new ≡ map kept_by rest → MatchOption last ((old ≡ []) × (new ≡ [])) (λ undo. old ≡ new ++ kept_by undo ∷ [])
 popped records rest old new None is rest_is seen seen_rest =
     let none = kept-last records None is in

@@ -41,7 +41,7 @@ serves-or (Recover i) = inr ((λ e. cc), (λ plan s ring. refl))
 serves-or Leave = inr ((λ e. cc), (λ plan s ring. refl))
 serves-or Exit = inr ((λ e. cc), (λ plan s ring. refl))
 
--- what is kept of another move than Serve
+-- what is kept of a move other than Serve
 kept_other : (mv : Move) → mv ≢ Serve → (plan : Plan) (s : State) (ring : List Kept) → ring_behind plan s mv ring ≡ with_record ring (kept plan s mv)
 kept_other mv other plan s ring = of (serves-or mv)
   where
@@ -49,7 +49,7 @@ kept_other mv other plan s ring = of (serves-or mv)
     of (inl serves) = absurd (other serves)
     of (inr h) = h.1 plan s ring
 
--- another move than Serve was made and kept
+-- a move other than Serve was made and kept
 pub made-other : (mv : Move) (e : Event) (core new : Processor) (ring later : List Kept) (out after : Option (List ℕ)) (undo : Undo) → CanStand core.plan core.state → kept_by undo ≡ kept core.plan core.state mv → bar core.plan core.state mv ≡ None → mv ≢ Serve
     → StepsOrFails core new mv (streams_of (Some []) out) (streams_of (Some []) after) (Ok e) → later ≡ with_record ring (kept_by undo) → MakesOne mv e (bench_of core ring out) (bench_of new later after)
 unfolding StepsOrFails
@@ -79,7 +79,7 @@ pub failed-serve : (core new : Processor) (ring later : List Kept) (out after : 
 unfolding StepsOrFails
 failed-serve core new ring later out after free h = record { allowed = free; serves = refl; fails = h.1 }
 
--- nothing fails another move
+-- nothing fails a move other than Serve
 pub never-fails : (mv : Move) (core new : Processor) (before after : Streams) → mv ≢ Serve → StepsOrFails core new mv before after (Err fault.Write) → ⊥
 unfolding StepsOrFails
 never-fails mv core new before after other h = other h.0
@@ -91,7 +91,7 @@ never-reads mv core new before after other h = other h.0
 same_some : {X : Type 0} (x y : X) → Some x ≡ Some y → x ≡ y
 same_some x y h = cc
 
--- the moment behind a move that finds nothing left, whatever was written before
+-- the moment after a move that finds nothing left, whatever was written before
 behind_move : (now new : Bench) (mv : Move) → Makes now.core new.core mv (streams_of (Some []) now.output) (streams_of (Some []) new.output) → (added : List ℕ) × ((before : List ℕ) → next now.core.plan (record { state = now.core.state; rest = []; output = before }) mv ≡ record { state = new.core.state; rest = []; output = before ++ added })
 behind_move now new mv m =
     let plan : Plan = now.core.plan in
@@ -105,7 +105,7 @@ behind_move now new mv m =
           ∙ ap (λ (t : Moment). record t { output = before ++ t.output }) blank,
     )
 
--- the processor behind another move than Serve
+-- the processor after a move other than Serve
 moved_core : (now new : Bench) (mv : Move) → mv ≢ Serve → Makes now.core new.core mv (streams_of (Some []) now.output) (streams_of (Some []) new.output) → new.core ≡ in_state now.core (moved now.core.plan now.core.state mv)
 moved_core now new mv other m =
     let plan : Plan = now.core.plan in
@@ -113,7 +113,7 @@ moved_core now new mv other m =
     let state : new.core.state ≡ moved plan now.core.state mv = ap (λ (t : Moment). t.state) (sym led ∙ next_moved plan (record { state = now.core.state; rest = []; output = [] }) mv other) in
     ap (λ (p : Plan). record { plan = p; state = new.core.state }) m.plan ∙ ap (in_state now.core) state
 
--- a session stays on its run behind a move
+-- a session stays on its run after a move
 pub makes-stands : (start : Processor) (mv : Move) (e : Event) (now new : Bench) → Stands start now.core now.ring → MakesOne mv e now new → Stands start new.core new.ring
 unfolding ring_behind kept
 makes-stands start mv e now new h m = of (serves-or mv)

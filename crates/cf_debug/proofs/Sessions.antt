@@ -1,4 +1,4 @@
--- Where a session has come to, one byte more, and how it ends.
+-- Where a session has arrived, one more byte, and how it ends.
 use Rattle.std.proofs.Common.{◌≡◌, ◌≢◌, ℕ, ◌+◌, ◌<◌, ◌≤◌, List, [], ◌∷◌, ◌++◌, length, Option, Some, None, Ok, Err, refl, sym, ap, subst, ◌∙◌, append-nil, append_assoc, inl, inr, arith}
 use Rattle.std.specs.Prelude.{◌⊎◌, Result}
 use Rattle.std.proofs.lemmas.List.{length-append}
@@ -73,13 +73,13 @@ fed before begin now commands after report line feed next byte c (taken, gives, 
       few = few;
     }
 
--- answers with one line more
+-- answers with one more line
 answers_again : (lines : List (List ℕ)) (line : List ℕ) (begin now new : Desk) (written between after : Option (List ℕ)) → AnswersLines lines begin now written between → Ends line now new between after None → AnswersLines (lines ++ line ∷ []) begin new written after
 unfolding Ends
 answers_again lines line begin now new written between after (first, all, put) (text, h, more) =
     (first ++ text, answers-more lines line begin now new first text all h, writes-again written between after first text put more)
 
--- one byte more, with which the session goes on
+-- one more byte, with which the session goes on
 pub comes-more : (before : Session) (begin now new : Desk) (commands fed_commands report after : Option (List ℕ)) (line later : List ℕ) (feed next : Feeding) (byte : ℕ) → Comes before begin now commands report line feed → Feeds commands fed_commands feed next (Byte byte) → UsesByte byte line later now new report after None
     → Comes before begin new fed_commands after later next
 comes-more before begin now new commands fed_commands report after line later feed next byte c feeds (inl (other, held_is, same, still, goes)) =
@@ -116,7 +116,7 @@ pub comes-nearer : (commands after : Option (List ℕ)) (feed next : Feeding) (b
 unfolding Feeds
 comes-nearer commands after feed next byte (taken, gives, is, left, few) = omega (arith, left, ap length is, length-append feed.rest taken)
 
--- one byte more, with which the session ends
+-- one more byte, with which the session ends
 pub ends-byte : (before : Session) (begin now new : Desk) (commands fed_commands report after : Option (List ℕ)) (line later : List ℕ) (feed next : Feeding) (byte : ℕ) (answer : Debugged) → Comes before begin now commands report line feed → Feeds commands fed_commands feed next (Byte byte) → UsesByte byte line later now new report after (Some answer)
     → EndsAtLine before (session_of new.bench fed_commands after) begin new answer
 ends-byte before begin now new commands fed_commands report after line later feed next byte answer c feeds (inl (other, held_is, same, still, goes)) = absurd (cc)
@@ -229,7 +229,7 @@ ends-last before begin now new commands fed_commands report after line feed next
       ends = ends-same line c.unfinished now new report after (Some answer) told ends;
     })
 
--- there are more bytes than may be
+-- there are more bytes than there may be
 pub ends-limit : (before : Session) (begin now : Desk) (commands after report : Option (List ℕ)) (line : List ℕ) (feed next : Feeding) → Comes before begin now commands report line feed → Feeds commands after feed next TooMany → EndsSession before (session_of now.bench after report) begin now Limit
 unfolding Feeds EndsSession
 ends-limit before begin now commands after report line feed next c (none, spent, (byte, gives), same) =

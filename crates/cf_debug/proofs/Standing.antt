@@ -27,7 +27,7 @@ use Rattle.cf_debug.specs.Standing.{Stands, IsOnRun}
 
 -- Runs --
 
--- one move more
+-- one more move
 run_more : (plan : Plan) (m : Moment) (moves : List Move) (mv : Move) → IsRun plan m moves → bar plan (run plan m moves).state mv ≡ None → IsRun plan m (moves ++ mv ∷ [])
 unfolding IsRun run
 run_more plan m [] mv runs free = (free, tt)
@@ -77,7 +77,7 @@ leads_drop plan x zero s ring last c l = (s, c, l)
 leads_drop plan x (suc n) s [] last c l = (s, c, l)
 leads_drop plan x (suc n) s (k ∷ ring) last c l = leads_drop plan x n (moved plan s k.move) ring last (comes_more plan x s k.move c l.0.allowed l.0.other) l.1
 
--- one record more
+-- one more record
 leads_more : (plan : Plan) (s : State) (ring : List Kept) (last : State) (k : Kept) → Leads plan s ring last → WasKept plan last k → Leads plan s (ring ++ k ∷ []) (moved plan last k.move)
 unfolding Leads
 leads_more plan s [] last k l was = subst (λ (t : State). WasKept plan t k × (moved plan last k.move ≡ moved plan t k.move)) l (was, refl)
@@ -139,7 +139,7 @@ stands_at start core new ring later s h c l same = record {
   plan = same ∙ h.plan;
 }
 
--- behind a move that was kept
+-- after a move that was kept
 pub stands-kept : (start core new : Processor) (ring : List Kept) (k : Kept) → Stands start core ring → WasKept core.plan core.state k → new ≡ in_state core (moved core.plan core.state k.move) → Stands start new (with_record ring k)
 stands-kept start core new ring k h was is =
     let plan : Plan = start.plan in

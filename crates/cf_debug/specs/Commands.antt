@@ -1,4 +1,4 @@
--- What a line tells the debugger (a format of this project): a command by its first word, and what has to stand behind that.
+-- What a line tells the debugger (a format of this project): a command by its first word, and what has to follow that.
 use Rattle.std.specs.Prelude.{ℕ, ◌≤◌, ◌==◌, ◌&&◌, List, [], drop, length, Option, Some, None, Result, Ok, Err, codes, nat_le, nat_lt, if◌then◌else◌}
 use Rattle.std.specs.Str.{bytes_eq}
 use Rattle.rv_text.specs.Pieces.{name_part, operand_part}
@@ -39,11 +39,11 @@ address_told word = needed (address_in word)
 unfoldable pub break_told : List ℕ → Result (Option ℕ) Refusal
 break_told word = if bytes_eq word (codes "none") then Ok None else and_then (address_told word) (λ a. Ok (Some a))
 
--- a command behind which no word is left
+-- a command after which no word is left
 unfoldable pub alone : List (List ℕ) → Command → Result Command Refusal
 alone words command = if length words == 0 then Ok command else Err ExtraWords
 
--- the move that the text behind `move` tells, as a line of a script
+-- the move that the text after `move` names, as a line of a script
 abbrev pub move_told : Result AnyMove ScriptKind → Result Command Refusal
 move_told (Ok mv) = Ok (Move mv)
 move_told (Err kind) = Err (Script kind)
@@ -63,7 +63,7 @@ memory_told words =
 unfoldable pub stop_told : List (List ℕ) → Result Command Refusal
 stop_told words = and_then (break_told (first_word words)) (λ stop. alone (drop 1 words) (Break stop))
 
--- the command of this name, with the text behind it
+-- the command of this name, with the text after it
 unfoldable pub command_named : List ℕ → List ℕ → Result Command Refusal
 command_named name behind =
     if bytes_eq name (codes "") then Ok Nothing

@@ -11,12 +11,12 @@ use Rattle.cf_debug.specs.Limits.{longest_line, most_taken}
 abbrev pub IsPiece : List ℕ → Type 0
 IsPiece piece = All (λ byte. byte ≢ 10) piece
 
--- the pieces, each with a line feed behind it, and then the rest
+-- the pieces, each with a line feed after it, and then the rest
 unfoldable pub joined : List (List ℕ) → List ℕ → List ℕ
 joined [] rest = rest
 joined (piece ∷ pieces) rest = piece ++ 10 ∷ joined pieces rest
 
--- the bytes are these lines, each ended by a line feed, before which one carriage return is dropped; and behind them the unfinished one
+-- the bytes are these lines, each ended by a line feed, before which one carriage return is dropped; and after them the unfinished one
 pub record HasLines (bytes : List ℕ) (lines : List (List ℕ)) (unfinished : List ℕ) : Type 0 where
   pub pieces : List (List ℕ)
   pub are_pieces : All IsPiece pieces
@@ -24,21 +24,21 @@ pub record HasLines (bytes : List ℕ) (lines : List (List ℕ)) (unfinished : L
   pub bytes_are : bytes ≡ joined pieces unfinished
   pub lines_are : lines ≡ map without_return pieces
 
--- at the end of the commands the unfinished line is one, unless it is empty
+-- at the end of the commands the unfinished line counts as a line, unless it is empty
 abbrev pub last_line : List ℕ → List (List ℕ)
 last_line [] = []
 last_line (byte ∷ line) = (byte ∷ line) ∷ []
 
--- of an unfinished line as much is held as tells whether it is too long, with a carriage return too
+-- of an unfinished line as much is held as shows whether it is too long, with a carriage return too
 abbrev pub held : List ℕ → List ℕ
 held line = take (longest_line + 2) line
 
--- the bytes that were taken and not used yet, and how many may be taken still
+-- the bytes that were taken and not used yet, and how many may still be taken
 pub record Feeding : Type 0 where
   pub rest : List ℕ
   pub left : ℕ
 
--- the next byte of the commands: where none that was taken is left, some are taken; or the commands are at their end, or there are more than may be, or a take failed
+-- the next byte of the commands: where no byte that was taken is left, some are taken; or the commands are at their end, or there are more than there may be, or a take failed
 unfoldable pub Feeds : (before after : Option (List ℕ)) → (now new : Feeding) → Next → Type 0
 Feeds before after now new (Byte byte) =
     (taken : List ℕ) × Gives before after taken × (now.rest ++ taken ≡ byte ∷ new.rest)

@@ -35,7 +35,7 @@ first_turn = fresh None
 abbrev pub pick : Turn → Bench → Option Move
 pick at now = choice round_pick now.core.plan at now.core.state
 
--- the turn behind a move that was made
+-- the turn after a move that was made
 abbrev pub next_turn : Turn → Bench → Made → Turn
 next_turn at now made = behind_choice round_on now.core.plan at now.core.state made
 
@@ -58,14 +58,14 @@ unfoldable pub retirements : List Made → List ℕ
 retirements [] = []
 retirements (made ∷ trace) = retirement made.state.retired made.event ++ retirements trace
 
--- behind so many of n moves: there are enough, or the run is over; or the next one issues an instruction at the break address, and is the last
+-- after this many of n moves: there are enough, or the run is over; or the next one issues an instruction at the break address, and is the last
 abbrev pub Pauses : ℕ → Option ℕ → ℕ → Turn → (now new : Bench) → List Made → Type 0
 Pauses n stop count at now new [] = (new ≡ now) × ((count ≡ n) ⊎ (GoesOn most_retired now.core.state → ⊥))
 Pauses n stop count at now new (made ∷ []) =
     (count < n) × Takes at made now new × (breaks stop now.core.state made.move ≡ true)
 Pauses n stop count at now new (made ∷ other ∷ more) = ⊥
 
--- at most n moves were made, so many, with these lines of the instructions that retired
+-- at most n moves were made, `count` of them, with these lines of the instructions that retired
 pub record Drives (n : ℕ) (stop : Option ℕ) (start new : Bench) (count : ℕ) (lines : List ℕ) : Type 0 where
   pub trace : List Made
   pub at : Turn

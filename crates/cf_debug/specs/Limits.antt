@@ -9,7 +9,7 @@ most_bytes = 16777216
 abbrev pub longest_line : ℕ
 longest_line = 256
 
--- the bytes that one take asks for at most
+-- the most bytes that one take asks for
 abbrev pub most_taken : ℕ
 most_taken = 4096
 

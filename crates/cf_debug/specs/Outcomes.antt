@@ -1,4 +1,4 @@
--- What is left behind a command, or a move of `auto`: it is done and its answer put, or the report failed behind a front of that, or the output failed it.
+-- What a command, or a move of `auto`, leaves: it is done and its answer put, or the report failed after a front of that, or the output failed it.
 use Rattle.std.specs.Prelude.{◌≡◌, ℕ, List, Option, Some, Bool, Result, Ok, Err}
 use Rattle.cf_io.specs.Puts.{Writes, WritesFront}
 use Rattle.cf_io.specs.declared.failed.Failed.{Failed}
@@ -17,7 +17,7 @@ use Rattle.cf_debug.specs.Limits.{most_retired}
 use Rattle.cf_debug.specs.Making.{Bench, FailsOne}
 use Rattle.cf_debug.specs.Replies.{Desk, Carries, CarriesPart, RunsAground, TakesBack}
 
--- the turn behind a move, by a count that stops where Issue is held back
+-- the turn after a move, by a count that stops where Issue is held back
 pub record IsNextTurn (at later : Turn) (now : Bench) (made : Made) : Type 0 where
   pub policy : later.policy ≡ (next_turn at now made).policy
   pub count : later.count ≡ stopped now.core.plan.stages (next_turn at now made).count
@@ -47,7 +47,7 @@ of_report (Err failed) = Err broken.Report
 abbrev pub PutsBack : (now new : Bench) → (written after : Option (List ℕ)) → (before faults : ℕ) → Result (Unit {0}) Failed → Type 0
 PutsBack now new written after before faults answer = (text : List ℕ) × TakesBack now new text × PutsText written after before faults text answer
 
--- what a command leaves: it is carried out and its answer put; or the report failed behind a front of that, or the output failed it
+-- what a command leaves: it is carried out and its answer put; or the report failed after a front of that, or the output failed it
 unfoldable pub CarriesOut : Command → (now new : Desk) → (written after : Option (List ℕ)) → Result (Unit {0}) Broken → Type 0
 CarriesOut command now new written after (Ok done) = (text : List ℕ) × Carries command now new text × Writes written after text
 CarriesOut command now new written after (Err broken.Report) = (text : List ℕ) × CarriesPart command now new text × WritesFront written after text

@@ -39,7 +39,7 @@ desk_of bench stop = record { bench = bench; stop = stop }
 abbrev pub refused_line : List ℕ → List ℕ
 refused_line why = line (codes "? " ++ why)
 
--- why a line tells no command
+-- why a line is no command
 unfoldable pub refusal_text : Refusal → List ℕ
 refusal_text TooLong = codes "TooLong"
 refusal_text UnknownCommand = codes "UnknownCommand"
@@ -47,7 +47,7 @@ refusal_text BadNumber = codes "BadNumber"
 refusal_text ExtraWords = codes "ExtraWords"
 refusal_text (Script kind) = script_text kind
 
--- bytes, each as two hexadecimal digits behind a space
+-- bytes, each as two hexadecimal digits after a space
 unfoldable pub bytes_text : List ℕ → List ℕ
 bytes_text [] = []
 bytes_text (byte ∷ bytes) = (codes " " ++ digit_char (byte / 16) ∷ digit_char (byte % 16) ∷ []) ++ bytes_text bytes
@@ -103,7 +103,7 @@ TakesBack now new text =
     ⊎ ((older : List Kept) × (k : Kept) × (now.ring ≡ older ++ k ∷ [])
     × (new ≡ record now { core = in_state now.core (restored now.core.state k); ring = older }) × (text ≡ back_text k.move))
 
--- nothing changes, and this is told
+-- nothing changes, and this is the answer
 abbrev pub Shows : (now new : Desk) → (text told : List ℕ) → Type 0
 Shows now new text told = (new ≡ now) × (text ≡ told)
 
@@ -120,7 +120,7 @@ Carries Bound now new text = Shows now new text (counted_line (codes "bound ") (
 Carries Back now new text = (new.stop ≡ now.stop) × TakesBack now.bench new.bench text
 Carries End now new text = Shows now new text []
 
--- all of it, or `auto` in part: what is done where the report fails behind a front of the text
+-- all of it, or `auto` in part: what is done where the report fails after a front of the text
 unfoldable pub CarriesPart : Command → (now new : Desk) → List ℕ → Type 0
 CarriesPart (Auto n) now new text = Carries (Auto n) now new text ⊎ ((new.stop ≡ now.stop) × DrivesOn n now.stop now.bench new.bench text)
 CarriesPart command now new text = Carries command now new text
@@ -138,12 +138,12 @@ unfoldable pub Answers : Result Command Refusal → (now new : Desk) → List �
 Answers (Ok command) now new text = (command ≢ End) × Carries command now new text
 Answers (Err refusal) now new text = Shows now new text (refused_line (refusal_text refusal))
 
--- so it is in part
+-- the same in part
 unfoldable pub AnswersPart : Result Command Refusal → (now new : Desk) → List ℕ → Type 0
 AnswersPart (Ok command) now new text = (command ≢ End) × CarriesPart command now new text
 AnswersPart (Err refusal) now new text = Shows now new text (refused_line (refusal_text refusal))
 
--- the output fails it
+-- the output fails the command
 unfoldable pub FailsAnswer : Result Command Refusal → (now new : Desk) → List ℕ → Type 0
 FailsAnswer (Ok command) now new text = RunsAground command now new text
 FailsAnswer (Err refusal) now new text = ⊥

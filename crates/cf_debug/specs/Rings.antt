@@ -11,11 +11,11 @@ use Rattle.cf_semantics.specs.state.State.{State}
 use Rattle.cf_core.specs.Undo.{CanStand}
 use Rattle.cf_debug.specs.Limits.{most_kept}
 
--- with one record more, for which the oldest goes out of a full ring
+-- with one more record, for which the oldest goes out of a full ring
 abbrev pub with_record : List Kept → Kept → List Kept
 with_record ring k = keep_last most_kept (ring ++ k ∷ [])
 
--- the ring behind a move: what the move writes is kept; but Serve empties it, for its output cannot be taken back
+-- the ring after a move: what the move writes is kept; but Serve empties it, since its output cannot be taken back
 unfoldable pub ring_behind : Plan → State → Move → List Kept → List Kept
 ring_behind plan s Serve ring = []
 ring_behind plan s mv ring = with_record ring (kept plan s mv)

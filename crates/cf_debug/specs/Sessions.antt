@@ -66,20 +66,20 @@ Taken before after bytes = Gives before.commands after.commands bytes × (length
 abbrev pub AnswersLines : List (List ℕ) → (begin now : Desk) → (written after : Option (List ℕ)) → Type 0
 AnswersLines lines begin now written after = (text : List ℕ) × AnswersAll lines begin now text × Writes written after text
 
--- the whole lines among the bytes that were taken are answered, and then this comes
+-- the whole lines among the bytes that were taken are answered, and then this follows
 pub record AnswersWhole (bytes : List ℕ) (begin now : Desk) (written after : Option (List ℕ)) : Type 0 where
   pub lines : List (List ℕ)
   pub unfinished : List ℕ
   pub has : HasLines bytes lines unfinished
   pub answers : AnswersLines lines begin now written after
 
--- the next line, behind these: one that was taken whole, with less bytes behind it than one take gives; or the unfinished one at the end of the commands
+-- the next line, after these: one that was taken whole, with fewer bytes after it than one take gives; or the unfinished one at the end of the commands
 abbrev pub IsNext : (told : Option (List ℕ)) → List ℕ → List (List ℕ) → List ℕ → Type 0
 IsNext told bytes lines line =
     ((front rest : List ℕ) × (bytes ≡ front ++ rest) × (length rest < most_taken) × HasLines front (lines ++ line ∷ []) [])
     ⊎ (IsTold told bytes × (0 < length line) × HasLines bytes lines line)
 
--- the lines before it are answered, and this one ends the session so
+-- the lines before it are answered, and this one ends the session in this way
 pub record EndsAtLine (before after : Session) (begin new : Desk) (answer : Debugged) : Type 0 where
   pub bytes : List ℕ
   pub taken : Taken before after bytes
@@ -123,7 +123,7 @@ EndsSession before after begin new ReadFault = EndsAtFault before after begin ne
 EndsSession before after begin new WriteFault = EndsAtLine before after begin new WriteFault
 EndsSession before after begin new ReportFault = EndsAtLine before after begin new ReportFault
 
--- the session: it begins without a break address, and ends so
+-- the session: it begins without a break address, and ends in this way
 pub record Debugs (before after : Session) (answer : Debugged) : Type 0 where
   pub stop : Option ℕ
   pub ends : EndsSession before after (desk_of before.bench None) (desk_of after.bench stop) answer

@@ -3,7 +3,7 @@
 /// How a session of the debugger ends.
 #[derive(Clone, Copy, Debug, PartialEq, Eq)]
 pub enum Debugged {
-    /// A line told `end`, or the commands are at their end.
+    /// A line said `end`, or the commands are at their end.
     Done,
 
     /// There are more bytes of commands than 16,777,216.

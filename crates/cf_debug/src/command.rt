@@ -1,4 +1,4 @@
-//! The commands of the debugger, and why a line tells none.
+//! The commands of the debugger, and why a line is no command.
 
 use cf_bind::Move as AnyMove;
 use cf_scripts::ScriptKind;
@@ -12,7 +12,7 @@ pub(crate) enum Command {
     /// Makes a move.
     Move(AnyMove),
 
-    /// Makes so many moves in turn, at most.
+    /// Makes at most this many moves in turn.
     Auto(u32),
 
     /// Shows the picture of the processor.
@@ -21,7 +21,7 @@ pub(crate) enum Command {
     /// Shows the registers.
     Registers,
 
-    /// Shows so many bytes of memory, from an address on.
+    /// Shows this many bytes of memory, from an address on.
     Memory(u32, u32),
 
     /// Sets the address at which `auto` stops, or that it stops at none.
@@ -37,7 +37,7 @@ pub(crate) enum Command {
     End,
 }
 
-/// Why a line tells no command, in the order in which it is tested.
+/// Why a line is no command, in the order in which it is tested.
 #[derive(Clone, Copy, PartialEq, Eq)]
 pub(crate) enum Refusal {
     /// The line has more than 256 bytes.
@@ -52,6 +52,6 @@ pub(crate) enum Refusal {
     /// There are more words than the command has.
     ExtraWords,
 
-    /// What stands behind `move` is no move of a script.
+    /// What follows `move` is no move of a script.
     Script(ScriptKind),
 }

@@ -29,7 +29,7 @@ pub(crate) enum Next {
     Fault,
 }
 
-/// The bytes that were taken of the commands and not used yet, and how many may be taken still, of 16,777,216.
+/// The bytes that were taken of the commands and not used yet, and how many may still be taken, of 16,777,216.
 #[derive(Drop)]
 pub(crate) struct Feed {
     piece: [u8; 4096],
@@ -64,7 +64,7 @@ fn one_more<S: Source>(commands: &mut S) -> Next
 }
 
 impl Feed {
-    /// Nothing was taken yet.
+    /// Nothing has been taken yet.
     pub(crate) fn new() -> Feed
         ensures { result ≡ record { rest = []; left = most_bytes } }
     {
@@ -76,7 +76,7 @@ impl Feed {
         }
     }
 
-    /// Takes some bytes, where none is left that was taken, and answers how many.
+    /// Takes some bytes, where no byte that was taken is left, and answers how many.
     fn fill<S: Source>(&mut self, commands: &mut S) -> Result<usize, Failed>
         requires none { self.old.rest ≡ [] }
         requires some { 0 < self.old.left }
@@ -107,7 +107,7 @@ impl Feed {
         byte
     }
 
-    /// Whether no byte is left that was taken.
+    /// Whether no byte that was taken is left.
     #[tactic(auto, using(crate::proofs::Cutting::nothing_behind, crate::proofs::Cutting::something_behind))]
     fn is_used(&self) -> bool
         ensures yes { result ≡ true → self.now.rest ≡ [] }
@@ -116,8 +116,8 @@ impl Feed {
         self.at == self.end
     }
 
-    /// The next byte of the commands, or why none comes. Bytes are taken only where none is left that was taken: a take asks for
-    /// 4,096 of them, or for as many as may be taken still.
+    /// The next byte of the commands, or why none comes. Bytes are taken only where none of those taken is left: a take asks for
+    /// 4,096 of them, or for as many as may still be taken.
     pub(crate) fn next<S: Source>(&mut self, commands: &mut S) -> Next
         ensures feeds { Feeds (S.left commands.old) (S.left commands.new) self.old self.new result }
         ensures cause { HasCause (S.faults commands.old) (S.faults commands.new) (commands_fed result) }

@@ -12,7 +12,7 @@ use cf_bind::Move;
 use cf_core::{Core, Event, Fault};
 use cf_io::{Empty, Failed, Sink};
 
-/// Serve is made. It cannot be taken back, so that nothing is kept then.
+/// Serve is made. It cannot be taken back, so nothing is kept then.
 fn serve<K: Sink>(core: &mut Core, ring: &mut Ring, output: &mut K) -> Result<Event, Failed>
     requires allowed { bar core.old.plan core.old.state moves.Serve ≡ None }
     requires retired { core.old.state.retired + 1 < 2 ^ 64 }
@@ -52,7 +52,7 @@ fn make_other<K: Sink>(core: &mut Core, ring: &mut Ring, mv: Move, output: &mut 
     }
 }
 
-/// Makes an allowed move and keeps it, and tells what is seen of it; or the output failed its call.
+/// Makes an allowed move and keeps it, and gives what is seen of it; or the output failed its call.
 pub(crate) fn make<K: Sink>(
     core: &mut Core,
     ring: &mut Ring,

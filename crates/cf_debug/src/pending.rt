@@ -6,7 +6,7 @@ ghost use Rattle.rv_text.specs.Lines.{without_return};
 use arrayvec::ArrayVec;
 use std::marker::Model;
 
-/// The first 258 bytes of a line that is not ended yet: as many as tell whether it is too long, a carriage return among them.
+/// The first 258 bytes of a line that is not ended yet: as many as show whether it is too long, a carriage return among them.
 #[derive(Drop)]
 pub(crate) struct Pending {
     bytes: ArrayVec<u8, 258>,
@@ -30,7 +30,7 @@ impl Pending {
         }
     }
 
-    /// One byte more.
+    /// One more byte.
     pub(crate) fn push(&mut self, byte: u8)
         ensures { self.new ≡ take 258 (self.old ++ byte ∷ []) }
     {

@@ -55,7 +55,7 @@ fn alone(words: &Words<'_>, command: Command) -> Result<Command, Refusal>
     }
 }
 
-/// What stands behind `move`: a move, as in a script.
+/// What follows `move`: a move, as in a script.
 fn read_moves(behind: &[u8]) -> Result<Command, Refusal>
     ensures { result ≡ move_told (move_in behind.now) }
 {
@@ -65,7 +65,7 @@ fn read_moves(behind: &[u8]) -> Result<Command, Refusal>
     }
 }
 
-/// What stands behind `auto`: how many moves.
+/// What follows `auto`: how many moves.
 #[tactic(auto, unfolding(crate::specs::Commands::auto_told))]
 fn read_auto(mut words: Words<'_>) -> Result<Command, Refusal>
     ensures { result ≡ auto_told words.entry }
@@ -74,7 +74,7 @@ fn read_auto(mut words: Words<'_>) -> Result<Command, Refusal>
     alone(&words, Command::Auto(count))
 }
 
-/// What stands behind `mem`: an address, and how many bytes.
+/// What follows `mem`: an address, and how many bytes.
 #[tactic(auto, unfolding(crate::specs::Commands::memory_told))]
 fn read_memory(mut words: Words<'_>) -> Result<Command, Refusal>
     ensures { result ≡ memory_told words.entry }
@@ -96,7 +96,7 @@ fn break_address(word: &[u8]) -> Result<Option<u32>, Refusal>
     }
 }
 
-/// What stands behind `break`.
+/// What follows `break`.
 #[tactic(auto, unfolding(crate::specs::Commands::stop_told))]
 fn read_break(mut words: Words<'_>) -> Result<Command, Refusal>
     ensures { result ≡ stop_told words.entry }
@@ -105,7 +105,7 @@ fn read_break(mut words: Words<'_>) -> Result<Command, Refusal>
     alone(&words, Command::Break(stop))
 }
 
-/// The command of a name, with the text behind it.
+/// The command of a name, with the text after it.
 #[tactic(auto, unfolding(crate::specs::Commands::command_named))]
 fn read_named(name: &[u8], behind: &[u8]) -> Result<Command, Refusal>
     ensures { result ≡ command_named name.now behind.now }
@@ -136,7 +136,7 @@ fn read_named(name: &[u8], behind: &[u8]) -> Result<Command, Refusal>
 }
 
 /// What a line tells: a command, or the first refusal of `TooLong`, `UnknownCommand`, `BadNumber` and `ExtraWords`, where
-/// those of scripts stand in the place of the last two behind `move`.
+/// after `move` those of scripts take the place of the last two.
 #[tactic(auto, unfolding(crate::specs::Commands::command_in))]
 pub(crate) fn read_command(line: &[u8]) -> Result<Command, Refusal>
     ensures { result ≡ command_in line.now }

@@ -61,7 +61,7 @@ pub(crate) fn refuse_bar<R: Sink>(bar: Bar, report: &mut R) -> Result<(), Failed
     put(page.bytes(), report)
 }
 
-/// Why a line tells no command.
+/// Why a line is no command.
 #[tactic(auto, unfolding(crate::specs::Replies::refusal_text))]
 fn push_refusal(page: &mut Page, refusal: Refusal)
     requires { length page.old + 20 ≤ page_room }
@@ -77,7 +77,7 @@ fn push_refusal(page: &mut Page, refusal: Refusal)
     }
 }
 
-/// Puts why a line tells no command.
+/// Puts why a line is no command.
 pub(crate) fn refuse_line<R: Sink>(refusal: Refusal, report: &mut R) -> Result<(), Failed>
     ensures { PutsText (R.written report.old) (R.written report.new) (R.faults report.old) (R.faults report.new)
         (refused_line (refusal_text refusal)) result }
@@ -104,7 +104,7 @@ pub(crate) fn put_retirement<R: Sink>(
     }
 }
 
-/// Puts that a move was made, and the line of an instruction that retired with it, if one did.
+/// Puts `moved` for a move that was made, and the line of an instruction that retired with it, if one did.
 pub(crate) fn put_moved<R: Sink>(core: &Core, event: &Event, report: &mut R) -> Result<(), Failed>
     ensures { PutsText (R.written report.old) (R.written report.new) (R.faults report.old) (R.faults report.new)
         (codes "moved\n" ++ retirement core.now.state.retired event.now) result }
@@ -113,7 +113,7 @@ pub(crate) fn put_moved<R: Sink>(core: &Core, event: &Event, report: &mut R) -> 
     put_retirement(core, event, report)
 }
 
-/// Bytes, each as two hexadecimal digits behind a space.
+/// Bytes, each as two hexadecimal digits after a space.
 #[tactic(auto, unfolding(crate::specs::Replies::bytes_text))]
 fn push_bytes(page: &mut Page, bytes: &[u8])
     requires { length page.old + 3 * length bytes.now ≤ page_room }

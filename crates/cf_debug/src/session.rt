@@ -44,7 +44,7 @@ fn is_end(command: Command) -> bool
     matches!(command, Command::End)
 }
 
-/// Answers what a line tells, or tells how the session ends there.
+/// Answers what a line tells, or says how the session ends there.
 fn answer_line<K: Sink, R: Sink>(
     line: &[u8],
     desk: Desk<'_>,
@@ -127,9 +127,9 @@ fn finish<K: Sink, R: Sink>(
 /// back; unless the output or the report failed, the processor stands at a moment of a run of the machine on which it was opened.
 ///
 /// `Done` comes at `end` and at the end of the commands. `Limit` comes where 16,777,216 bytes were taken, no whole line among them
-/// is `end`, and there is one byte more. `ReadFault` comes only where the commands failed, behind the answers to all lines that
+/// is `end`, and there is one more byte. `ReadFault` comes only where the commands failed, after the answers to all lines that
 /// were taken whole; `WriteFault` only where the output failed a call of the environment, and `ReportFault` only where the report
-/// failed. The count of the faults of that one rose.
+/// failed. In each case that object's count of faults rose.
 pub fn debug<S: Source, K: Sink, R: Sink>(
     core: &mut Core,
     candidates: &mut Candidates,

@@ -6,16 +6,16 @@ use Rattle.cf_gen.specs.Draws.{next_state, state_after}
 range-next : (a b : ℕ) → a < b → range_with_len a (b - a) ≡ a ∷ range_with_len (a + 1) (b - (a + 1))
 range-next a b h = let e : b - a ≡ suc (b - (a + 1)) = omega arith in rw e refl
 
--- the lines of the numbers from a up to b are that of a and those behind it
+-- the lines of the numbers from a up to b are that of a and those after it
 lines-next : (f : ℕ → List ℕ) (a b : ℕ) → a < b
     → flat_map f (range_with_len a (b - a)) ≡ f a ++ flat_map f (range_with_len (a + 1) (b - (a + 1)))
 lines-next f a b h = ap (flat_map f) (range-next a b h)
 
--- none is left at the end
+-- no line is left at the end
 pub lines-none : (f : ℕ → List ℕ) (a b : ℕ) → b ≤ a → flat_map f (range_with_len a (b - a)) ≡ []
 lines-none f a b h = let e : b - a ≡ 0 = omega arith in rw e refl
 
--- where the line of a was appended, those behind it are left
+-- where the line of a was appended, those after it are left
 pub lines-more : (f : ℕ → List ℕ) (a b : ℕ) (page next whole : List ℕ) → a < b → next ≡ page ++ f a
     → page ++ flat_map f (range_with_len a (b - a)) ≡ whole
     → next ++ flat_map f (range_with_len (a + 1) (b - (a + 1))) ≡ whole

@@ -1,4 +1,4 @@
--- The text of a drawn program (a format of this project, in GNU as's syntax): registers are given drawn numbers, so many drawn statements follow, and what the registers are then is written out.
+-- The text of a drawn program (a format of this project, in GNU as's syntax): registers are given drawn numbers, a number of drawn statements follow, and what the registers then hold is written out.
 use Rattle.std.specs.Prelude.{ℕ, ◌+◌, ◌*◌, ◌-◌, min, List, ◌++◌, codes, decimal}
 use Rattle.std.specs.List.{flat_map, range_with_len}
 use Rattle.cf_texts.specs.Texts.{line}
@@ -13,7 +13,7 @@ statement text = codes "    " ++ line text
 abbrev pub label_line : List ℕ → List ℕ
 label_line name = name ++ line (codes ":")
 
--- a register from 8 on is given the number below 65536 that is drawn behind those of the registers before it
+-- a register from 8 on is given the number below 65536 that is drawn after those of the registers before it
 unfoldable pub load_line : ℕ → ℕ → List ℕ
 load_line x r =
     statement (codes "li " ++ register_text r ++ codes ", " ++ decimal (drawn 65536 (state_after (r - 8) x)))
@@ -24,17 +24,17 @@ opening_text x =
     statement (codes ".text") ++ statement (codes ".globl _start") ++ label_line (codes "_start")
     ++ statement (codes "la x7, buf") ++ flat_map (load_line x) (range_with_len 8 8)
 
--- the label to which the i-th of so many statements may branch: past the next statement, within the program
+-- the label to which the i-th of `number` statements may branch: past the next statement, within the program
 abbrev pub branch_label : ℕ → ℕ → ℕ
 branch_label number i = min (i + 2) (number + 1)
 
--- the i-th of so many statements, drawn from a state, behind its label
+-- the i-th of `number` statements, drawn from a state, after its label
 unfoldable pub drawn_statement : ℕ → ℕ → ℕ → List ℕ
 drawn_statement number i x =
     label_line (label_text i)
     ++ statement (instruction_text (choice_of x).operation (choice_of x) (branch_label number i))
 
--- the i-th statement of the program: eight draws and those of the statements before it stand before its own
+-- the i-th statement of the program: eight draws and those of the statements before it come before its own
 abbrev pub numbered_statement : ℕ → ℕ → List ℕ
 numbered_statement number i = drawn_statement number i (state_after (8 + 5 * (i - 1)) number)
 
@@ -78,6 +78,6 @@ ending_text = gathering_text ++ converting_text ++ writing_text ++ data_text
 unfoldable pub closing_text : ℕ → List ℕ
 closing_text number = label_line (label_text (number + 1)) ++ ending_text
 
--- the program of so many statements
+-- the program of this many statements
 unfoldable pub program_text : ℕ → List ℕ
 program_text number = opening_text number ++ statements_text number ++ closing_text number

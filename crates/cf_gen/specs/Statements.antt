@@ -44,7 +44,7 @@ two_registers choice = register_text choice.first ++ codes ", " ++ register_text
 abbrev pub three_registers : Choice → List ℕ
 three_registers choice = two_registers choice ++ codes ", " ++ register_text choice.third
 
--- the first register and a word of the data: its place is the offset times 4 behind x7
+-- the first register and a word of the data: its place is the offset times 4 after x7
 abbrev pub register_and_word : Choice → List ℕ
 register_and_word choice =
     register_text choice.first ++ codes ", " ++ decimal (4 * choice.offset) ++ codes "(x7)"

@@ -22,7 +22,7 @@ pub enum Operation {
     Blt,
 }
 
-/// A statement's operation, its three registers (8 to 15) and an offset (0 to 63). Not every operation has use for all.
+/// A statement's operation, its three registers (8 to 15) and an offset (0 to 63). Not every operation uses them all.
 #[derive(Clone, Copy)]
 pub struct Choice {
     pub operation: Operation,

@@ -1,4 +1,4 @@
-//! The generator of programs: an assembly program of so many statements, drawn from their number.
+//! The generator of programs: an assembly program of a number of statements, drawn from that number.
 #![tactic(auto)]
 
 mod choice;

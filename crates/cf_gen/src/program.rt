@@ -16,14 +16,14 @@ use crate::statement::{push_instruction, push_label, push_register};
 use cf_io::{Failed, Sink, put_all};
 use cf_texts::Page;
 
-/// The lines in front of the first draw.
+/// The lines before the first draw.
 const OPENING: &[u8] = b"    .text
     .globl _start
 _start:
     la x7, buf
 ";
 
-/// The lines behind the last label: what the registers are is written out, and the data.
+/// The lines after the last label: what the registers hold is written out, and the data.
 const CLOSING: &[u8] = b"    xor x8, x8, x9
     xor x8, x8, x10
     xor x8, x8, x11
@@ -87,7 +87,7 @@ fn opening(draws: &mut Draws) -> Page
     page
 }
 
-/// The statement with number `i` of so many, behind its label.
+/// The `i`th of `number` statements, after its label.
 fn statement(number: u32, i: u32, draws: &mut Draws) -> Page
     requires within { i ≤ number }
     requires limit { number ≤ most_statements }
@@ -102,7 +102,7 @@ fn statement(number: u32, i: u32, draws: &mut Draws) -> Page
     page
 }
 
-/// The lines behind the statements.
+/// The lines after the statements.
 #[tactic(auto, unfolding(crate::specs::Program::closing_text, crate::specs::Program::ending_text))]
 fn closing(number: u32) -> Page
     requires { number ≤ most_statements }
@@ -115,7 +115,7 @@ fn closing(number: u32) -> Page
     page
 }
 
-/// Puts the text of a program of so many statements, at most 30,000, which are drawn from their number. After `Failed`
+/// Puts the text of a program of this many statements, at most 30,000, which are drawn from that number. After `Failed`
 /// a front of the text was written, and the sink's count of faults rose.
 #[tactic(auto, using(cf_io::proofs::Owing::owes), unfolding(crate::specs::Program::program_text))]
 pub fn generate<K: Sink>(number: u32, out: &mut K) -> Result<(), Failed>

@@ -1,4 +1,4 @@
--- What one move more changes: times, sums of delays, and numbers of moves by kind.
+-- What one more move changes: times, sums of delays, and numbers of moves by kind.
 use Rattle.std.proofs.Common.{◌≡◌, ◌≢◌, ◌∙◌, refl, ap, ℕ, suc, ◌+◌, ◌*◌, ◌^◌, ◌<◌, ◌≤◌, List, [], ◌∷◌, ◌++◌, length, Bool, true, false, cond, nat_eq, arith}
 use Rattle.std.specs.Prelude.{filter, slice_set, ◌==◌}
 use Rattle.std.proofs.lemmas.Bool.Decides.{nat_tests}
@@ -29,7 +29,7 @@ pub times_none : (plan : Plan) (delays : List ℕ) → times plan delays [] ≡ 
 unfolding times
 times_none plan delays = refl
 
--- there is one of each move
+-- there is one for each move
 behind_length : (plan : Plan) (delays : List ℕ) (earlier : List Done) (moves : List Move) → length (times_behind plan delays earlier moves) ≡ length earlier + length moves
 behind_length plan delays earlier [] = omega arith
 behind_length plan delays earlier (mv ∷ moves) = let r = behind_length plan delays (done_behind plan delays earlier mv ∷ earlier) moves in omega (arith, r)
@@ -38,7 +38,7 @@ pub times_length : (plan : Plan) (delays : List ℕ) (moves : List Move) → len
 unfolding times
 times_length plan delays moves = let r = behind_length plan delays [] moves in omega (arith, r)
 
--- they are few
+-- they are small
 behind_few : (plan : Plan) (delays : List ℕ) (earlier : List Done) (moves : List Move) → AreDelays delays → greatest_time (times_behind plan delays earlier moves) ≤ greatest_time earlier + 1000 * length moves
 behind_few plan delays earlier [] h = omega arith
 behind_few plan delays earlier (mv ∷ moves) h =
@@ -69,7 +69,7 @@ busy_more delays test moves mv =
     ∙ sum_more delays (filter test moves) (cond (test mv) (mv ∷ []) [])
     ∙ ap (λ (n : ℕ). sum_of_delays delays (filter test moves) + n) (sum_if delays (test mv) mv)
 
--- they are few too
+-- they are small too
 sum_few : (delays : List ℕ) (test : Move → Bool) (moves : List Move) → AreDelays delays → sum_of_delays delays (filter test moves) ≤ 1000 * length moves
 unfolding sum_of_delays
 sum_few delays test [] h = omega arith
@@ -129,7 +129,7 @@ kind_within Leave = omega arith
 kind_within Exit = omega arith
 kind_within Serve = omega arith
 
--- one move more of its kind
+-- one more move of its kind
 pub kinds_more : (moves : List Move) (mv : Move) → length moves + 1 < 2 ^ 64 → one_more (kinds moves) mv ≡ kinds (moves ++ mv ∷ [])
 kinds_more moves mv small =
     ap (λ (n : ℕ). slice_set (kinds moves) (kind_place mv) (plus n 1)) (numbered_at (of_kind moves) 14 (kind_place mv) (kind_within mv))

@@ -105,7 +105,7 @@ mark_now plan delays moves l mv h kept few small =
         → record { time = plus first.time (delay ds mv); number = plus count 1; kinds = one_more first.kinds mv } ≡ mark_behind plan delays (done_behind plan delays (times plan delays moves) mv) (times plan delays moves)
     all ds count first old a b c t n k = rw (a, b, c, t, n, k) refl
 
--- the mark of a place behind it
+-- the mark of a place after it
 marks_more : (plan : Plan) (delays : List ℕ) (moves : List Move) (l : Ledger) (mv : Move) (x : Site) → Keeps plan delays moves l → AreKept plan mv → IsKept x → mark_of l mv ≡ mark_behind plan delays (done_behind plan delays (times plan delays moves) mv) (times plan delays moves)
     → mark_at (put_marks (mark_of l mv) l.marks (place_numbers plan mv)) (place_number x) ≡ latest_where plan delays (at_place plan x) (done_behind plan delays (times plan delays moves) mv ∷ times plan delays moves)
 unfolding uses_place
@@ -124,7 +124,7 @@ marks_more plan delays moves l mv x h kept here mark_is =
         sym (later_new (latest_where plan delays (at_place plan x) (times plan delays moves)) (mark_behind plan delays (done_behind plan delays (times plan delays moves) mv) (times plan delays moves)) (omega (arith, t, late)) (omega (arith, n)))
     by false e = sym (later_none (latest_where plan delays (at_place plan x) (times plan delays moves)))
 
--- one move more
+-- one more move
 pub keeps-more : (plan : Plan) (delays : List ℕ) (moves : List Move) (l : Ledger) (mv : Move) → Keeps plan delays moves l → AreKept plan mv → AreDelays delays → 1000 * (length moves + 1) < 2 ^ 64 → Keeps plan delays (moves ++ mv ∷ []) (noted l mv)
 unfolding noted
 keeps-more plan delays moves l mv h kept few small =
@@ -186,7 +186,7 @@ keeps-start plan delays =
       kinds_are = refl;
     }
 
--- and behind all moves of a run
+-- and after all moves of a run
 pub keeps-all : (plan : Plan) (delays : List ℕ) (front moves : List Move) (l : Ledger) → AreDelays delays → AllByRecursion (AreKept plan) moves → 1000 * (length front + length moves) < 2 ^ 64 → Keeps plan delays front l → Keeps plan delays (front ++ moves) (noted_all l moves)
 keeps-all plan delays front [] l few kept small h = subst (λ (ms : List Move). Keeps plan delays ms l) (sym (append-nil front)) h
 keeps-all plan delays front (mv ∷ moves) l few kept small h =

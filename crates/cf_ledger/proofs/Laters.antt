@@ -4,15 +4,15 @@ use Rattle.std.proofs.lemmas.Bool.Decides.{nat_tests}
 use Rattle.cf_ledger.specs.Ledgers.{is_later, later, no_mark}
 use Rattle.cf_ledger.specs.declared.mark.Mark.{Mark}
 
--- none is later than no mark is
+-- the later of a mark and no mark is the mark
 pub later_none : (a : Mark) → later a no_mark ≡ a
 later_none a = let e : is_later a no_mark ≡ false = grind (arith, nat_tests) in rw e refl
 
--- a mark with a greater number and no earlier time is
+-- a mark with a greater number and no earlier time is the later one
 pub later_new : (a b : Mark) → a.time ≤ b.time → a.number < b.number → later a b ≡ b
 later_new a b t n = let e : is_later a b ≡ true = grind (arith, nat_tests) in rw e refl
 
--- one with an earlier time is not
+-- a mark with an earlier time is not
 pub later_old : (a b : Mark) → b.time < a.time → later a b ≡ a
 later_old a b t = let e : is_later a b ≡ false = grind (arith, nat_tests) in rw e refl
 
@@ -24,7 +24,7 @@ later_time a b = by (is_later a b) refl
     by true e = grind (arith, nat_tests)
     by false e = grind (arith, nat_tests)
 
--- and its number one of both
+-- and its number is one of the two
 pub later_number : (a b : Mark) (most : ℕ) → a.number ≤ most → b.number ≤ most → (later a b).number ≤ most
 later_number a b most h g = by (is_later a b)
   where

@@ -11,7 +11,7 @@ use Rattle.cf_ledger.specs.Ledgers.{later, latest_of, no_mark}
 use Rattle.cf_ledger.specs.declared.mark.Mark.{Mark}
 use Rattle.cf_ledger.proofs.Laters.{later_new, later_none, later_number, later_old, later_time, new_both, new_first, new_second}
 
--- the mark of a move behind earlier ones
+-- the mark of a move after earlier ones
 abbrev pub mark_behind : Plan → List ℕ → Done → List Done → Mark
 mark_behind plan delays done earlier = record {
   time = done.time;
@@ -19,7 +19,7 @@ mark_behind plan delays done earlier = record {
   kinds = kinds (chain_to plan delays (leads_to plan delays done) earlier ++ done.move ∷ []);
 }
 
--- or none, where it does not count
+-- or no mark, where it does not count
 abbrev pub mark_if : Plan → List ℕ → Bool → Done → List Done → Mark
 mark_if plan delays counts done earlier = cond counts (mark_behind plan delays done earlier) no_mark
 

@@ -12,7 +12,7 @@ use Rattle.cf_timed.proofs.Chaining.{always, linked_last, part_last, part_more, 
 use Rattle.cf_timed.proofs.Greatest.{greatest_where, where_more, where_none}
 use Rattle.cf_ledger.specs.Breakdowns.{chain_to, is_last, leads_to, longest_chain}
 
--- the moves in the order of the run, of which the last stands first
+-- the moves in the order of the run, of which the last comes first
 abbrev run_of : List Done → List Move
 run_of [] = []
 run_of (done ∷ earlier) = run_of earlier ++ done.move ∷ []
@@ -39,7 +39,7 @@ part-of plan delays test (d ∷ earlier) = by (test d) (part-of plan delays (lea
     by true h g = part_last (chain_to plan delays (leads_to plan delays d) earlier) (run_of earlier) d.move h
     by false h g = part_more (chain_to plan delays test earlier) (run_of earlier) d.move g
 
--- each of it uses a place that the next one uses
+-- each move of it uses a place that the next one uses
 both-hold : (a b : Bool) → (a && b) ≡ true → a ≡ true
 both-hold true b e = refl
 both-hold false b e = e

@@ -75,7 +75,7 @@ at_put (m ∷ marks) zero (suc j) mark within = let e : nat_eq (suc j) 0 ≡ fal
 at_put (m ∷ marks) (suc i) zero mark within = let e : nat_eq 0 (suc i) ≡ false = grind (arith, nat_tests) in rw e refl
 at_put (m ∷ marks) (suc i) (suc j) mark within = let e : nat_eq (suc j) (suc i) ≡ nat_eq j i = grind (arith, nat_tests) in rw e (at_put marks i j mark (omega arith))
 
--- there stay as many
+-- their number stays
 set_size : (marks : List Mark) (i : ℕ) (mark : Mark) → length (slice_set marks i mark) ≡ length marks
 set_size [] i mark = refl
 set_size (m ∷ marks) zero mark = refl
@@ -85,7 +85,7 @@ pub put_size : (mark : Mark) (marks : List Mark) (places : List ℕ) → length 
 put_size mark marks [] = refl
 put_size mark marks (place ∷ places) = put_size mark (slice_set marks place mark) places ∙ set_size marks place mark
 
--- the mark at a place, behind one that was put at some
+-- the mark at a place, after one was put at some places
 pub marks_put : (mark : Mark) (marks : List Mark) (ys : List Site) (x : Site) → length marks ≡ 102 → AllByRecursion IsKept ys → IsKept x → mark_at (put_marks mark marks (map place_number ys)) (place_number x) ≡ cond (among x ys) mark (mark_at marks (place_number x))
 marks_put mark marks [] x room kept here = refl
 marks_put mark marks (y ∷ ys) x room kept here =

@@ -60,7 +60,7 @@ stops-timed limit now new at later ran.ReadFault h = chooses-timed limit now new
 stops-timed limit now new at later ran.WriteFault h = chooses-timed limit now new at later ran.WriteFault h
 stops-timed limit now new at later ran.ReportFault h = chooses-timed limit now new at later ran.ReportFault h
 
--- where the report does not fail, no move stands behind those that lead to the end
+-- where the report does not fail, no move comes after those that lead to the end
 none-last : {P : Type 0} (picked : P → List Move → ℕ) (onward : P → List Move → P) (limit : ℕ) (at : Chooser P) (now new : Place) (later : P) (answer : Answer) (stops : StopsPolicy picked onward limit show.Report at now new later answer) → answer ≢ ran.ReportFault → made_last picked onward limit show.Report at now new later answer stops ≡ []
 none-last picked onward limit at now new later (ran.Exit status) stops none = refl
 none-last picked onward limit at now new later (ran.Trap cause pc detail) stops none = refl
@@ -90,7 +90,7 @@ kept-trace plan at s (made ∷ trace) last acc (pick, picks) = (
   kept-trace plan (behind_choice behind_watched plan at s made) made.state trace last acc picks,
 )
 
--- and of none besides
+-- and it is told of none besides
 stopped-told : (limit : ℕ) (now new : Place) (at : Chooser Watched) (later : Watched) (answer : Answer) → StopsPolicy watched_pick behind_watched limit show.Report at now new later answer → ledger_behind later answer ≡ ledger_told at.policy
 unfolding ledger_behind
 stopped-told limit now new at later (ran.Exit status) h = ap ledger_told h.2
@@ -138,7 +138,7 @@ run-told delays limit begin new later answer acc wide o few small within none r 
     ∙ told-all plan delays (moves_of trace) few (kept-trace plan first begin.core.state trace runs.at acc runs.picks) (omega (arith, n, count))
     ∙ ap (breakdown plan delays) (sym (moves-are plan delays limit begin new later answer none r))
 
--- and the run is one by the clock
+-- and the run is a run by the clock
 right-timed : (plan : Plan) (delays : List ℕ) (limit : ℕ) (begin new : Place) (later : Watched) (answer : Answer) → answer ≢ ran.ReportFault → (r : RunsRight watched_pick behind_watched limit show.Report begin new (first_watched plan delays) later answer)
     → RunsPolicy pending_pick behind_pick limit show.Report begin new (record { clock = started plan delays; last = None }) later.pending r.moves answer
 right-timed plan delays limit begin new later answer none r =

@@ -32,7 +32,7 @@ same_from f g m (suc n) same =
 pub numbered_same : {X : Type 0} (f g : ℕ → X) (n : ℕ) → ((i : ℕ) → i < n → f i ≡ g i) → map f (counted_from 0 n) ≡ map g (counted_from 0 n)
 numbered_same f g n same = same_from f g 0 n (λ i low high. same i (omega arith))
 
--- one of them is put anew
+-- one of them is replaced
 set_from : (f g : ℕ → ℕ) (m n i v : ℕ) → i < n → v ≡ g (m + i) → ((j : ℕ) → j ≢ m + i → f j ≡ g j) → slice_set (map f (counted_from m n)) i v ≡ map g (counted_from m n)
 set_from f g m zero i v within is same = absurd (omega arith)
 set_from f g m (suc n) zero v within is same =
@@ -55,13 +55,13 @@ charged_numbered counts more f g n numbers is grows =
     ∙ numbered_same (λ i. plus_if (counts i) (number_at numbers i) more) g n
     (λ i within. ap (λ (xs : List ℕ). plus_if (counts i) (number_at xs i) more) is ∙ ap (λ (k : ℕ). plus_if (counts i) k more) (numbered_at f n i within) ∙ grows i within)
 
--- there stay as many
+-- their number stays
 pub set_length : (xs : List ℕ) (i v : ℕ) → length (slice_set xs i v) ≡ length xs
 set_length [] i v = refl
 set_length (x ∷ xs) zero v = refl
 set_length (x ∷ xs) (suc i) v = ap suc (set_length xs i v)
 
--- an array that is filled from 0 on, one number more
+-- an array that is filled from 0 on, one more number
 take_set : (xs : List ℕ) (i v : ℕ) → i < length xs → take (i + 1) (slice_set xs i v) ≡ take i xs ++ v ∷ []
 take_set [] i v within = absurd (omega arith)
 take_set (x ∷ xs) zero v within = refl

@@ -1,4 +1,4 @@
--- A ledger behind a move, part by part.
+-- A ledger after a move, part by part.
 use Rattle.std.proofs.Common.{◌≡◌, refl, ℕ, List}
 use Rattle.cf_bind.specs.declared.moves.Move.{Move}
 use Rattle.cf_timed.specs.Delays.{delay}

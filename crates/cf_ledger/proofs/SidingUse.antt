@@ -13,7 +13,7 @@ use Rattle.cf_index.proofs.Counted.{map_choice}
 use Rattle.cf_index.specs.Sites.{ways_in, ways_out}
 use Rattle.cf_ledger.specs.Breakdowns.{is_cell_of, uses_siding}
 
--- the first of a list that may begin with one cell more
+-- the first of a list that may begin with one more cell
 chosen : (a k c : ℕ) (set : Bool) (xs : List Site) → list_any (is_cell_of a) (cond set (SidingCell k c ∷ xs) xs) ≡ ((nat_eq a k && set) || list_any (is_cell_of a) xs)
 chosen a k c true xs = by (nat_eq a k)
   where

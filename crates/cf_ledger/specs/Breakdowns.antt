@@ -37,12 +37,12 @@ of_kind moves kind = length (filter (λ mv. kind_place mv == kind) moves)
 abbrev pub kinds : List Move → List ℕ
 kinds moves = map (of_kind moves) (counted_from 0 14)
 
--- the earlier move uses a place that the later one uses, and is done when that begins
+-- the earlier move uses a place that the later one uses, and is done when the later one begins
 abbrev pub leads_to : Plan → List ℕ → Done → Done → Bool
 leads_to plan delays later earlier =
     shares plan later.move earlier.move && (earlier.time == (later.time - delay delays later.move))
 
--- of moves with their times, the last first: the chain that ends with the last one that passes a test; each time the last earlier move that leads to the one behind it is followed
+-- of moves with their times, the last first: the chain that ends with the last one that passes a test; each time the last earlier move that leads to the one after it is followed
 abbrev pub chain_to : Plan → List ℕ → (Done → Bool) → List Done → List Move
 chain_to plan delays test [] = []
 chain_to plan delays test (done ∷ earlier) =

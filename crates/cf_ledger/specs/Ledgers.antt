@@ -31,7 +31,7 @@ no_mark = record { time = 0; number = 0; kinds = replicate 14 0 }
 abbrev pub mark_at : List Mark → ℕ → Mark
 mark_at marks place = unwrap_or (slice_get marks place) no_mark
 
--- the second mark is of a move that is done later, or of a later one of those that are done then
+-- the second mark is of a move that is done later, or of one that is done at the same time and has a greater number
 abbrev pub is_later : Mark → Mark → Bool
 is_later a b = nat_lt a.time b.time || (nat_eq a.time b.time && nat_lt a.number b.number)
 
@@ -48,15 +48,15 @@ latest_of mark (next ∷ marks) = latest_of (later mark next) marks
 abbrev pub plus : ℕ → ℕ → ℕ
 plus a b = min (a + b) (2 ^ 64 - 1)
 
--- a number more where it counts
+-- a number, and this much more where it counts
 abbrev pub plus_if : Bool → ℕ → ℕ → ℕ
 plus_if counts number more = if counts then plus number more else number
 
--- some numbers, of which those that count have so many more
+-- some numbers, of which those that count have this much more
 abbrev pub charged : (ℕ → Bool) → ℕ → List ℕ → List ℕ
 charged counts more numbers = map (λ i. plus_if (counts i) (number_at numbers i) more) (counted_from 0 (length numbers))
 
--- one move more of its kind
+-- one more move of its kind
 abbrev pub one_more : List ℕ → Move → List ℕ
 one_more numbers mv = slice_set numbers (kind_place mv) (plus (number_at numbers (kind_place mv)) 1)
 
@@ -69,7 +69,7 @@ put_marks mark marks (place ∷ places) = put_marks mark (slice_set marks place 
 abbrev pub with_marks : Ledger → List Mark → Ledger
 with_marks l marks = record l { marks = marks }
 
--- no move was made yet
+-- no move has been made yet
 unfoldable pub opened : Plan → List ℕ → Ledger
 opened plan delays = record {
   layout = plan;
@@ -98,7 +98,7 @@ mark_of l mv = record {
   kinds = one_more (followed l mv).kinds mv;
 }
 
--- the ledger behind a move
+-- the ledger after a move
 unfoldable pub noted : Ledger → Move → Ledger
 noted l mv = record {
   layout = l.layout;
@@ -111,7 +111,7 @@ noted l mv = record {
   kinds = one_more l.kinds mv;
 }
 
--- and behind some moves
+-- and after some moves
 abbrev pub noted_all : Ledger → List Move → Ledger
 noted_all l [] = l
 noted_all l (mv ∷ moves) = noted_all (noted l mv) moves

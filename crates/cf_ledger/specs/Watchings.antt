@@ -1,4 +1,4 @@
--- The policy of a timed run of which a ledger is kept: the clock picks, and the ledger is told each move when the clock is.
+-- The policy of a timed run of which a ledger is kept: the clock picks, and the ledger is told of each move when the clock is.
 use Rattle.std.specs.Prelude.{ℕ, List}
 use Rattle.cf_bind.specs.declared.moves.Move.{Move}
 use Rattle.cf_semantics.specs.state.Options.{on}
@@ -8,7 +8,7 @@ use Rattle.cf_timed.specs.Timings.{Pending, behind_pick, pending_pick}
 use Rattle.cf_ledger.specs.Ledgers.{noted}
 use Rattle.cf_ledger.specs.declared.ledger.Ledger.{Ledger}
 
--- the clock with the last move that was picked, and the ledger, which was not told of that move yet
+-- the clock with the last move that was picked, and the ledger, which has not been told of that move yet
 pub record Watched : Type 0 where
   pub pending : Pending
   pub ledger : Ledger
@@ -21,11 +21,11 @@ ledger_told w = on w.pending.last w.ledger (noted w.ledger)
 abbrev pub watched_pick : Watched → List Move → ℕ
 watched_pick w moves = pending_pick w.pending moves
 
--- and what there is behind that
+-- and what there is after that
 abbrev pub behind_watched : Watched → List Move → Watched
 behind_watched w moves = record { pending = behind_pick w.pending moves; ledger = ledger_told w }
 
--- the ledger behind the moves that were made: a fault comes at a move that was picked and not made
+-- the ledger after the moves that were made: a fault occurs at a move that was picked and not made
 unfoldable pub ledger_behind : Watched → Answer → Ledger
 ledger_behind w ran.ReadFault = w.ledger
 ledger_behind w ran.WriteFault = w.ledger

@@ -9,7 +9,7 @@ use cf_bind::Move;
 use cf_layout::Layout;
 use cf_timed::kind_place;
 
-/// The number, with so many more where that counts, or the greatest u64 where it would be beyond.
+/// The number, with this many more where the move counts, or the greatest u64 where that would be beyond it.
 #[inline(always)]
 fn plus_if(counts: bool, number: u64, more: u64) -> u64
     ensures { result ≡ plus_where counts number more }
@@ -21,7 +21,7 @@ fn plus_if(counts: bool, number: u64, more: u64) -> u64
     }
 }
 
-/// How long each stage is in use with a move that takes so many ticks.
+/// How long each stage is in use with a move that takes this many ticks.
 pub(crate) fn charge_stages(layout: &Layout, mv: Move, ticks: u64, busy: &[u64; 33]) -> [u64; 33]
     ensures { result ≡ charged (λ i. at_stage layout.now i mv) ticks busy.now }
 {
@@ -32,7 +32,7 @@ pub(crate) fn charge_stages(layout: &Layout, mv: Move, ticks: u64, busy: &[u64; 
     charged
 }
 
-/// How long each siding is.
+/// How long each siding is in use.
 pub(crate) fn charge_sidings(layout: &Layout, mv: Move, ticks: u64, busy: &[u64; 8]) -> [u64; 8]
     ensures { result ≡ charged (λ k. at_siding layout.now k mv) ticks busy.now }
 {
@@ -43,7 +43,7 @@ pub(crate) fn charge_sidings(layout: &Layout, mv: Move, ticks: u64, busy: &[u64;
     charged
 }
 
-/// One move more of its kind.
+/// One more move of its kind.
 #[inline(always)]
 pub(crate) fn one_more(kinds: [u64; 14], mv: Move) -> [u64; 14]
     ensures { result ≡ one_more_of kinds mv }

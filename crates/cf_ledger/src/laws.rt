@@ -8,7 +8,7 @@ ghost use Rattle.cf_timed.specs.Times.{greatest_time, times};
 ghost use Rattle.cf_ledger.specs.Breakdowns.{longest_chain};
 
 /// The chain that is followed back from the last move that is done last is a chain of the run, and the sum of its delays is the
-/// run's time, so that none has a greater one.
+/// run's time, so no chain has a greater sum.
 pub fn chain_is_longest()
     ensures chain { (plan : Plan) (delays : List ℕ) (moves : List Move) →
         IsChain plan moves (longest_chain plan delays moves) }

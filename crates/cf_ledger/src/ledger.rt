@@ -30,7 +30,7 @@ pub struct Ledger {
 }
 
 impl Ledger {
-    /// No move was made yet.
+    /// No move has been made yet.
     #[tactic(auto, unfolding(crate::specs::Ledgers::opened))]
     pub fn new(layout: &Layout, delays: Delays) -> Ledger
         ensures { result ≡ opened layout.now delays }

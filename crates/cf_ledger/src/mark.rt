@@ -30,7 +30,7 @@ impl Mark {
     }
 }
 
-/// The mark of the move that is done later, or of the later one where both are done at one time.
+/// The mark of the move that is done later, or of the later move where both are done at the same time.
 #[inline(always)]
 pub(crate) fn later(a: Mark, b: Mark) -> Mark
     ensures { result ≡ later_mark a b }

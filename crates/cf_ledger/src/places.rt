@@ -41,7 +41,7 @@ fn cell(k: usize, c: usize) -> usize
     38 + 8 * k + c
 }
 
-/// One place more, unless it is passed over.
+/// One more place, unless it is passed over.
 #[inline(always)]
 fn push_if(places: &mut ArrayVec<usize, 10>, taken: bool, place: usize)
     requires { length places.old.items < 10 }
@@ -80,7 +80,7 @@ fn push_exits(layout: &Layout, i: u32, places: &mut ArrayVec<usize, 10>)
     }
 }
 
-/// The places that the move uses, behind none.
+/// The places that the move uses, put into an empty list.
 fn push_places(layout: &Layout, mv: Move, places: &mut ArrayVec<usize, 10>)
     requires { places.old.items ≡ [] }
     ensures { places.new.items ≡ place_numbers layout.now mv }

@@ -12,7 +12,7 @@ use cf_sched::{Pace, Policy};
 use cf_timed::{Clock, Timing};
 use std::marker::Model;
 
-/// Picks what is done first by a clock, and tells a ledger each move when the clock is told it.
+/// Picks what is done first by a clock, and tells a ledger of each move when the clock is told of it.
 #[derive(Drop)]
 pub(crate) struct Watching {
     timing: Timing,
@@ -28,7 +28,7 @@ impl Model for Watching {
 }
 
 impl Watching {
-    /// Nothing was picked yet.
+    /// Nothing has been picked yet.
     pub(crate) fn new(clock: Clock, ledger: Ledger) -> Watching
         ensures { result ≡ record { pending = record { clock = clock; last = None }; ledger = ledger } }
     {
@@ -56,7 +56,7 @@ impl Watching {
         }
     }
 
-    /// The ledger behind the moves that were made.
+    /// The ledger after the moves that were made.
     #[tactic(auto, unfolding(crate::specs::Watchings::ledger_behind, crate::specs::Watchings::ledger_told))]
     pub(crate) fn ledger_behind(&self, ran: Ran) -> Ledger
         ensures { result ≡ ledger_behind self.now ran }

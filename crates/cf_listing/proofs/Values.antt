@@ -17,7 +17,7 @@ none_ascend = λ i j d le within. absurd (omega arith)
 
 pub ruleset none = (none_ascend)
 
--- the symbols of lower values in front are none of the value
+-- none of the symbols of lower values in front has the value
 pub passed : (value i : ℕ) (xs : List LazySymbol) → AllWithin (λ x. ltb x.value value ≡ true) xs 0 i
     → filter (has_value value) (drop i xs) ≡ filter (has_value value) xs
 passed value zero xs h = refl
@@ -27,7 +27,7 @@ passed value (suc i) (x ∷ xs) h =
     let apart : (x.value == value) ≡ false = grind (arith, nat_tests) in
     passed value i xs (λ k d le within. h (suc k) d (omega arith) (omega arith)) ∙ rw apart refl
 
--- and those behind them have no lower ones
+-- and those after them have no lower values
 pub from_value : (value i : ℕ) (xs : List LazySymbol) → AllWithin (λ x. ltb x.value value ≡ false) xs i (length xs)
     → All (λ x. value ≤ x.value) (drop i xs)
 from_value value zero xs h = λ k d within.
@@ -36,7 +36,7 @@ from_value value zero xs h = λ k d within.
 from_value value (suc i) [] h = λ k d within. absurd (omega arith)
 from_value value (suc i) (x ∷ xs) h = from_value value i xs (λ k d le within. h (suc k) d (omega arith) (omega arith))
 
--- symbols of greater values are none of the value
+-- no symbol of a greater value has the value
 none_of : (value : ℕ) (xs : List LazySymbol) → AllWithin (λ x. leb x.value value ≡ false) xs 0 (length xs) → filter (has_value value) xs ≡ []
 none_of value [] h = refl
 none_of value (x ∷ xs) h =

@@ -57,7 +57,7 @@ skip symbols pc next bytes rest e k h = rw (e, k) (sym (skip-by (skipped pc) sym
 pub skipped-aligned : (pc next : ℕ) → next ≡ (pc + skipped pc) % 2 ^ 32 → pc < 2 ^ 32 → next % 4 ≡ 0
 skipped-aligned pc next e h = omega arith
 
--- the bytes behind the first of a word have no line
+-- the bytes after the first of a word have no line
 others : (symbols : List NamedSymbol) (pc b c d : ℕ) (rest : List ℕ) → pc < 2 ^ 32 → pc % 4 ≡ 0
     → lines_from symbols ((pc + 1) % 2 ^ 32) (b ∷ c ∷ d ∷ rest) ≡ lines_from symbols ((pc + 4) % 2 ^ 32) rest
 others symbols pc b c d rest h k =
@@ -77,7 +77,7 @@ word-first symbols pc a b c d rest k h =
     ap (λ (l : List ℕ). l ++ lines_from symbols ((pc + 1) % 2 ^ 32) (b ∷ c ∷ d ∷ rest)) first
     ∙ ap (λ (l : List ℕ). (label_lines symbols pc ++ word_line pc (from_le_bytes w32 (a ∷ b ∷ c ∷ d ∷ []))) ++ l) (others symbols pc b c d rest h k)
 
--- the same of any bytes of which there are four at least
+-- the same of any bytes of which there are at least four
 pub word-next : (symbols : List NamedSymbol) (pc next word : ℕ) (bytes rest : List ℕ) → IsFirstWord bytes word rest
     → next ≡ (pc + 4) % 2 ^ 32 → pc % 4 ≡ 0 → pc < 2 ^ 32
     → lines_from symbols pc bytes ≡ (label_lines symbols pc ++ word_line pc word) ++ lines_from symbols next rest

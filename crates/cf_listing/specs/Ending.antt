@@ -1,10 +1,10 @@
--- What is left of the output where a listing is not put whole.
+-- What the output has where a listing is not put whole.
 use Rattle.std.specs.Prelude.{◌≡◌, ℕ, List, Option, Result, Ok, Err}
 use Rattle.cf_io.specs.Puts.{WritesFront}
 use Rattle.cf_listing.specs.declared.listing.ListingErr.{ListingErr}
 use Rattle.cf_listing.specs.declared.listing.ListingErr.TheVariants as err
 
--- memory was refused before anything was put; or the output failed behind a front of the text
+-- memory was refused before anything was put; or the output failed after a front of the text
 abbrev pub StopsAt : List ℕ → Option (List ℕ) → Option (List ℕ) → ListingErr → Type 0
 StopsAt text before after err.NoMemory = after ≡ before
 StopsAt text before after err.Failed = WritesFront before after text

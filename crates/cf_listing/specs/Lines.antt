@@ -1,4 +1,4 @@
--- The lines of a listing: the words of a program with their addresses, their instructions and the labels in front of them (a format of this project, with the instructions as in the RISC-V Assembly Programmer's Manual).
+-- The lines of a listing: the words of a program with their addresses, their instructions and the labels before them (a format of this project, with the instructions as in the RISC-V Assembly Programmer's Manual).
 use Rattle.std.specs.Prelude.{◌≡◌, ◌≤◌, ℕ, ◌+◌, ◌-◌, ◌%◌, ◌^◌, ◌==◌, ◌&&◌, not, nat_le, List, [], ◌∷◌, ◌++◌, codes, length, take, drop, Option, Some, None, if◌then◌else◌, Bool, map}
 use Rattle.std.specs.List.{flat_map}
 use Rattle.std.specs.Int.{w32, from_le_bytes}
@@ -10,7 +10,7 @@ use Rattle.elf_view.specs.declared.symbols.LazySymbol.{LazySymbol}
 use Rattle.digits.specs.Hexadecimal.{hex8}
 use Rattle.cf_texts.specs.Texts.{newline, line}
 
--- the text of an instruction at an address, or the word itself where it is none
+-- the text of an instruction at an address, or the word itself where it is no instruction
 unfoldable pub word_text : ℕ → ℕ → Option Instr → List ℕ
 word_text pc word (Some i) = text_of i pc
 word_text pc word None = codes ".word 0x" ++ hex8 word
@@ -32,13 +32,13 @@ label_line pc symbol = if is_label_at pc symbol then symbol.name ++ line (codes 
 abbrev pub label_lines : List NamedSymbol → ℕ → List ℕ
 label_lines symbols pc = flat_map (label_line pc) symbols
 
--- a word and its labels, where the address is a multiple of 4 and the bytes from there on are a word at least
+-- a word and its labels, where the address is a multiple of 4 and the bytes from there on are at least a word
 unfoldable pub lines_at : List NamedSymbol → ℕ → List ℕ → List ℕ
 lines_at symbols pc bytes =
     if (pc % 4 == 0) && nat_le 4 (length bytes)
     then label_lines symbols pc ++ word_line pc (from_le_bytes w32 (take 4 bytes)) else []
 
--- the lines of bytes from an address on, each at its own; behind the last address comes 0
+-- the lines of bytes from an address on, each at its own; after the last address comes 0
 abbrev pub lines_from : List NamedSymbol → ℕ → List ℕ → List ℕ
 lines_from symbols pc [] = []
 lines_from symbols pc (byte ∷ bytes) =
@@ -48,11 +48,11 @@ lines_from symbols pc (byte ∷ bytes) =
 abbrev pub labelled_lines : List LazySymbol → ℕ → List ℕ → List ℕ
 labelled_lines symbols pc bytes = lines_from (map shown_lazy symbols) pc bytes
 
--- how many bytes stand before the next address that 4 divides
+-- how many bytes come before the next address that 4 divides
 abbrev pub skipped : ℕ → ℕ
 skipped pc = (4 - pc % 4) % 4
 
--- bytes begin with a word, behind which these stand
+-- bytes begin with a word, after which these come
 pub record IsFirstWord (bytes : List ℕ) (word : ℕ) (behind : List ℕ) : Type 0 where
   pub enough : 4 ≤ length bytes
   pub word_is : word ≡ from_le_bytes w32 (take 4 bytes)

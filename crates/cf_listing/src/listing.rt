@@ -65,7 +65,7 @@ fn put_segments<K: Sink>(symbols: &[LazySymbol], elf: &Elf, out: &mut K) -> Resu
 }
 
 /// Puts the listing of an ELF file: of each executable segment the words at addresses that 4 divides,
-/// each on a line behind those of the labels there. The symbols are put in order first, for which memory may be refused,
+/// each on a line after those of the labels there. The symbols are put in order first, for which memory may be refused,
 /// before anything is put.
 #[tactic(auto, using(crate::proofs::Walked::listings), unfolding(crate::specs::Listing::elf_listing))]
 pub fn put_elf_listing<K: Sink>(alloc: Global, elf: &Elf, out: &mut K) -> Result<(), ListingErr>

@@ -1,4 +1,4 @@
-//! Texts that are put one behind the other.
+//! Texts that are put one after the other.
 #![tactic(auto, using(cf_io::proofs::Owing::owing))]
 
 ghost use Rattle.std.specs.Prelude.{◌++◌, OnOk, OnErr};

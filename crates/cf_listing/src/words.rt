@@ -83,7 +83,7 @@ fn aligned(pc: u32, bytes: &[u8]) -> (u32, &[u8])
     (pc.wrapping_add(skipped), rest)
 }
 
-/// The first word of bytes, the low byte first, and the bytes behind it.
+/// The first word of bytes, the low byte first, and the bytes after it.
 fn first_word(bytes: &[u8]) -> Option<(u32, &[u8])>
     ensures some { IfSome result (λ first. IsFirstWord bytes.now first.0 first.1.now) }
     ensures none { result ≡ None → length bytes.now ≤ 3 }

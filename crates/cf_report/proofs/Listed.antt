@@ -19,7 +19,7 @@ requests-none (r ∷ lane) h = absurd (omega arith)
 
 pub ruleset listed = (requests-listed, requests-none)
 
--- the requests from one on are that one and those behind it
+-- the requests from one on are that one and those after it
 pub requests-next : (text : List ℕ) (lane : List ℕ) (j : ℕ) → j < length lane
     → ((text ++ codes " ") ++ register_name (slice_index lane j)) ++ requests_text (drop (j + 1) lane) ≡ text ++ requests_text (drop j lane)
 requests-next text lane j h = rw (add-one, drop-cons lane j 0) (simp append_assoc)

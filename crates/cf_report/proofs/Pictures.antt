@@ -23,7 +23,7 @@ cut-stages n m (suc k) (c ∷ cells) e =
     sym (append_assoc (stage_lines m (drop k cells)) (lower_lines (suc n) k cells) (stage_line n c))
     ∙ ap (λ text. text ++ stage_line n c) (cut-stages (suc n) m k cells (omega arith))
 
--- the line of a stage stands behind those above it
+-- the line of a stage follows those of the stages above it
 next-stage : (n k : ℕ) (cells : List Cell) (c : Cell) → slice_get cells k ≡ Some c → stage_lines (suc n) (drop (suc k) cells) ++ stage_line n c ≡ stage_lines n (drop k cells)
 next-stage n k [] c e = absurd (cc)
 next-stage n zero (d ∷ cells) c e = let same : d ≡ c = cc in rw same refl
@@ -35,7 +35,7 @@ stage-next cells (suc k) j c e here =
     let same : j ≡ k = omega arith in
     rw (same, add-one, add-one) (next-stage (suc k) k cells c (sym here))
 
--- below it others may stand
+-- after it others may follow
 pub stages-below : (cells : List Cell) (i : ℕ) (c : Cell) → Some c ≡ cell_at cells i → (rest : List ℕ) × ((stage_lines (i + 1) (drop i cells) ++ stage_line i c) ++ rest ≡ stage_lines 1 cells)
 stages-below cells zero c here = absurd (cc)
 stages-below cells (suc k) c here =
@@ -70,7 +70,7 @@ cut-sidings n m (suc k) (ops ∷ sidings) e =
     append_assoc (siding_line n ops) (siding_lines (suc n) (take k sidings)) (siding_lines m (drop k sidings))
     ∙ ap (λ text. siding_line n ops ++ text) (cut-sidings (suc n) m k sidings (omega arith))
 
--- behind it others may stand
+-- after it others may follow
 pub sidings-behind : (sidings : List (List (Option Op))) (k : ℕ) → (rest : List ℕ) × ((siding_lines 0 (take k sidings) ++ siding_line k (held sidings k)) ++ rest ≡ siding_lines 0 sidings)
 sidings-behind sidings k =
     let rest : List ℕ = siding_lines (k + 1) (drop (k + 1) sidings) in

@@ -41,7 +41,7 @@ stopped a b i j x y e (Err f) failed h = record {
   cause = record { never_falls = h.cause.never_falls; rose = h.cause.rose; still = tt };
 }
 
--- a text failed, behind which another was to follow
+-- a text failed, after which another was to come
 pub puts-stopped : {T U E : Type 0} {a b : Option (List ℕ)} {i j : ℕ} {x : List ℕ} (y z : List ℕ) {first : Result T E} {answer : Result U E} {e : E}
     → first ≡ Err e → x ++ y ≡ z → IsErr answer → PutsText a b i j x first → PutsText a b i j z answer
 puts-stopped {a = a} {b = b} {i = i} {j = j} {x = x} y z {answer = answer} {e = e} err both failed h =
@@ -61,7 +61,7 @@ put-more a b c i j k x y t h g = record {
   still = g.cause.still ∙ h.still;
 }
 
--- one more text was put behind it
+-- one more text was put after it
 pub has-more : {T E : Type 0} {a b c : Option (List ℕ)} {i j k : ℕ} {x y : List ℕ} {answer : Result T E} {t : T} → answer ≡ Ok t → HasPut a b i j x → PutsText b c j k y answer → HasPut a c i k (x ++ y)
 has-more {a = a} {b = b} {c = c} {i = i} {j = j} {k = k} {x = x} {y = y} {t = t} ok h g = put-more a b c i j k x y t h (rw ok at g)
 
@@ -73,7 +73,7 @@ has-same y same h = rw (← same) h
 pub put-all : {E : Type 0} {a b : Option (List ℕ)} {i j : ℕ} {x : List ℕ} (z : List ℕ) (answer : Result (Unit {0}) E) → answer ≡ Ok tt → x ≡ z → HasPut a b i j x → PutsText a b i j z answer
 put-all z answer ok same h = rw (ok, ← same) (record { all = h.told; front = tt; cause = record { never_falls = omega (arith, h.still); rose = tt; still = h.still } })
 
--- the last text was put behind it, or failed
+-- the last text was put after it, or failed
 put-last : {T E : Type 0} (a b c : Option (List ℕ)) (i j k : ℕ) (x y : List ℕ) (answer : Result T E) → HasPut a b i j x → PutsText b c j k y answer → PutsText a c i k (x ++ y) answer
 put-last a b c i j k x y (Ok t) h g = record {
   all = writes-again a b c x y h.told g.all;
@@ -93,7 +93,7 @@ put-last a b c i j k x y (Err e) h g = record {
 pub has-last : {T E : Type 0} {a b c : Option (List ℕ)} {i j k : ℕ} {x y : List ℕ} {answer : Result T E} → HasPut a b i j x → PutsText b c j k y answer → PutsText a c i k (x ++ y) answer
 has-last {a = a} {b = b} {c = c} {i = i} {j = j} {k = k} {x = x} {y = y} {answer = answer} h g = put-last a b c i j k x y answer h g
 
--- what failed is the whole's failure
+-- what failed fails the whole
 pub has-failed : {T U E : Type 0} {a b : Option (List ℕ)} {i j : ℕ} {x : List ℕ} {first : Result T E} (answer : Result U E) {e : E} → first ≡ Err e → IsErr answer → PutsText a b i j x first → PutsText a b i j x answer
 has-failed (Ok u) err failed h = absurd (false≢true failed)
 has-failed {a = a} {b = b} {i = i} {j = j} {x = x} (Err f) {e = e} err failed h =
@@ -105,7 +105,7 @@ pub failed-more : {T E : Type 0} {a b : Option (List ℕ)} {i j : ℕ} {x : List
 failed-more y (Ok t) failed h = absurd (false≢true failed)
 failed-more {a = a} {b = b} {x = x} y (Err e) failed h = record { all = tt; front = front-first a b x y h.front; cause = h.cause }
 
--- the text behind those so far failed, and more was to follow
+-- the text after those so far failed, and more was to come
 pub has-front : {T U E : Type 0} {a b c : Option (List ℕ)} {i j k : ℕ} {x y z : List ℕ} {first : Result T E} (answer : Result U E) {e : E} → first ≡ Err e → IsErr answer → ((rest : List ℕ) × ((x ++ y) ++ rest ≡ z)) → HasPut a b i j x → PutsText b c j k y first → PutsText a c i k z answer
 has-front {a = a} {c = c} {i = i} {k = k} answer err failed (rest, same) h g =
     subst (λ text. PutsText a c i k text answer) same (failed-more rest answer failed (has-last h (has-failed answer err failed g)))

@@ -1,4 +1,4 @@
--- The lines of a report beside the picture (a format of this project).
+-- The lines of a report besides the picture (a format of this project).
 use Rattle.std.specs.Prelude.{ℕ, List, ◌++◌, codes, decimal}
 use Rattle.rv_machine.specs.declared.outcome.Retired.{Retired}
 use Rattle.cf_bind.specs.declared.moves.Move.{Move}
@@ -7,11 +7,11 @@ use Rattle.cf_texts.specs.Texts.{line, counted_line, registers_from}
 use Rattle.cf_texts.specs.Retirement.{retirement_text}
 use Rattle.cf_report.specs.declared.tally.Tally.{Tally}
 
--- the line of an instruction that retired, the one of this number
+-- the line of the instruction that retired as the n-th
 abbrev pub retired_line : ℕ → Retired → List ℕ
 retired_line n r = retirement_text n r.pc r.word r.reg r.value
 
--- the line of a move, the one of this number
+-- the line of the move of this number
 unfoldable pub numbered_move : ℕ → Move → List ℕ
 numbered_move n mv = (codes "move " ++ decimal n ++ codes " ") ++ line (move_line mv)
 

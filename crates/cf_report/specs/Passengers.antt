@@ -39,7 +39,7 @@ unfoldable pub binding_text : Option Binding → List ℕ
 binding_text (Some b) = known_text b.reg b.value
 binding_text None = codes "-"
 
--- what an instruction has still to send, or `-`
+-- what an instruction still has to send, or `-`
 unfoldable pub owed_text : Option Packet → List ℕ
 owed_text (Some k) = packet_text k
 owed_text None = codes "-"
@@ -65,7 +65,7 @@ abbrev pub bindings_text : Passenger → List ℕ
 bindings_text p =
     binding_text p.src1 ++ codes " " ++ binding_text p.src2 ++ codes " " ++ binding_text p.dst ++ codes " "
 
--- an instruction: its address, guess and flag, its sources and its destination, and what it has still to send
+-- an instruction: its address, guess and flag, its sources and its destination, and what it still has to send
 unfoldable pub passenger_text : Passenger → List ℕ
 passenger_text p = standing_text p ++ bindings_text p ++ owed_text p.owes
 
@@ -85,7 +85,7 @@ held_text None None met = []
 abbrev pub is_empty : Cell → Bool
 is_empty c = is_none c.passenger && is_none c.packet
 
--- the line of a stage, and none of an empty one
+-- the line of a stage, and no line for an empty one
 unfoldable pub stage_line : ℕ → Cell → List ℕ
 stage_line i c =
     if is_empty c then []

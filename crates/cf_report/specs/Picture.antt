@@ -22,7 +22,7 @@ abbrev pub or_dash : List ℕ → List ℕ
 or_dash [] = codes " -"
 or_dash (byte ∷ listed) = byte ∷ listed
 
--- registers, each behind a space
+-- registers, each after a space
 abbrev pub requests_text : List ℕ → List ℕ
 requests_text [] = []
 requests_text (r ∷ lane) = codes " " ++ register_name r ++ requests_text lane
@@ -31,7 +31,7 @@ requests_text (r ∷ lane) = codes " " ++ register_name r ++ requests_text lane
 unfoldable pub lane_line : List ℕ → List ℕ
 lane_line lane = line (codes "lane" ++ or_dash (requests_text lane))
 
--- a register that is kept at the bottom, behind a space
+-- a register that is kept at the bottom, after a space
 abbrev pub kept_text : ℕ → Option ℕ → List ℕ
 kept_text r None = []
 kept_text r (Some v) = codes " " ++ value_text r v
@@ -65,7 +65,7 @@ abbrev pub ops_text : List (Option Op) → List ℕ
 ops_text [] = []
 ops_text (cell ∷ ops) = op_text cell ++ ops_text ops
 
--- the line of a siding, and none of one without an operation
+-- the line of a siding, and no line for one without an operation
 unfoldable pub siding_line : ℕ → List (Option Op) → List ℕ
 siding_line k ops = if list_any is_some ops then line (codes "siding " ++ decimal k ++ ops_text ops) else []
 

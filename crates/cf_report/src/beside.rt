@@ -38,7 +38,7 @@ pub fn put_fetch<R: Sink>(fetch: Fetch, report: &mut R) -> Result<(), Failed>
     put_text(page.bytes(), report)
 }
 
-/// The registers that were requested, each behind a space.
+/// The registers that were requested, each after a space.
 #[tactic(auto, using(crate::proofs::Listed::listing))]
 fn push_requests(page: &mut Page, core: &Core)
     requires { length page.old + 4 * length core.now.state.lane ≤ page_room }
@@ -84,7 +84,7 @@ pub(crate) fn put_lane<R: Sink>(core: &Core, report: &mut R) -> Result<(), Faile
     put_text(page.bytes(), report)
 }
 
-/// A register that is kept, behind a space, or nothing.
+/// A register that is kept, after a space, or nothing.
 fn push_kept(page: &mut Page, register: u8, kept: Option<u32>)
     requires { length page.old + 13 ≤ page_room }
     ensures text { page.new ≡ page.old ++ kept_text register kept }
@@ -178,7 +178,7 @@ fn siding_page(siding: u32, ops: &[Option<Op>]) -> Page
     page
 }
 
-/// Puts the line of a siding with its cells, at most eight, and nothing of one without an operation.
+/// Puts the line of a siding with its cells, at most eight, and nothing for one without an operation.
 pub fn put_siding<R: Sink>(siding: u32, ops: &[Option<Op>], report: &mut R) -> Result<(), Failed>
     requires { length ops.now ≤ 8 }
     ensures { PutsText (R.written report.old) (R.written report.new)

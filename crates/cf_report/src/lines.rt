@@ -1,4 +1,4 @@
-//! The lines of a report beside the picture.
+//! The lines of a report besides the picture.
 #![tactic(auto, unfolding(crate::specs::Lines::tally_text, crate::specs::Lines::numbered_move))]
 
 ghost use Rattle.std.specs.Prelude.{◌≡◌, ◌++◌, codes, decimal};
@@ -14,7 +14,7 @@ use cf_io::{Failed, Sink};
 use cf_texts::{Page, retirement_line};
 use rv_machine::Retired;
 
-/// Puts the line of an instruction that retired, which makes `n` with it.
+/// Puts the line of the instruction that retired as the `n`th.
 pub fn put_retired<R: Sink>(n: u64, r: &Retired, report: &mut R) -> Result<(), Failed>
     ensures { PutsText (R.written report.old) (R.written report.new)
         (R.faults report.old) (R.faults report.new) (retired_line n r.now) result }
@@ -33,7 +33,7 @@ fn put_move_text<R: Sink>(mv: Move, report: &mut R) -> Result<(), Failed>
     put_text(b"\n", report)
 }
 
-/// What stands in front of a move in its line, the `n`th.
+/// What stands before the `n`th move in its line.
 pub fn move_number(n: u64) -> Page
     ensures { result ≡ codes "move " ++ decimal n ++ codes " " }
 {
@@ -44,7 +44,7 @@ pub fn move_number(n: u64) -> Page
     page
 }
 
-/// Puts the line of a move, the `n`th.
+/// Puts the line of the `n`th move.
 pub fn put_move<R: Sink>(n: u64, mv: Move, report: &mut R) -> Result<(), Failed>
     ensures { PutsText (R.written report.old) (R.written report.new)
         (R.faults report.old) (R.faults report.new) (numbered_move n mv) result }

@@ -51,7 +51,7 @@ fn push_guess(page: &mut Page, guess: Guess)
     }
 }
 
-/// A binding, or `-` where there is none, with a space behind it.
+/// A binding, or `-` where there is none, with a space after it.
 fn push_binding(page: &mut Page, binding: Option<Binding>)
     requires { length page.old + 13 ≤ page_room }
     ensures text { page.new ≡ page.old ++ binding_text binding ++ codes " " }
@@ -135,7 +135,7 @@ fn push_bindings(page: &mut Page, passenger: &Passenger)
     push_binding(page, passenger.dst);
 }
 
-/// An instruction: its address, guess and flag, its sources and destination, and what it has still to send.
+/// An instruction: its address, guess and flag, its sources and destination, and what it still has to send.
 #[tactic(auto, unfolding(crate::specs::Passengers::passenger_text))]
 pub(crate) fn push_passenger(page: &mut Page, passenger: &Passenger)
     requires { length page.old + 82 ≤ page_room }

@@ -94,7 +94,7 @@ fn stage_page(stage: u32, cell: &Cell) -> Page
     page
 }
 
-/// Puts the line of a stage, and nothing of an empty one.
+/// Puts the line of a stage, and nothing for an empty one.
 pub fn put_stage<R: Sink>(stage: u32, cell: &Cell, report: &mut R) -> Result<(), Failed>
     ensures { PutsText (R.written report.old) (R.written report.new)
         (R.faults report.old) (R.faults report.new) (stage_line stage cell.now) result }

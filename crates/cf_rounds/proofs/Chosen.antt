@@ -63,7 +63,7 @@ found_one test p (first ∷ moves) mv (h, hs) e = by (p first) refl (λ g. found
     by true f rest g = let same : first ≡ mv = cc in (subst test same h, ap p (sym same) ∙ f)
     by false f rest g = rest g
 
--- where none is found, none passes it
+-- where no move is found, none passes it
 none_found : (p : Move → Bool) (moves : List Move) → find p moves ≡ None → AllByRecursion (λ mv. p mv ≡ false) moves
 none_found p [] e = tt
 none_found p (mv ∷ moves) e = by (p mv) refl (λ g. none_found p moves g) e
@@ -76,7 +76,7 @@ both_hold : (one other : Move → Type 0) (both : Move → Type 0) (moves : List
 both_hold one other both [] make h k = tt
 both_hold one other both (mv ∷ moves) make (h, hs) (k, ks) = (make mv h k, both_hold one other both moves make hs ks)
 
--- one move behind a list
+-- one move after a list
 pub all_behind : (test : Move → Type 0) (round : List Move) (mv : Move) → AllByRecursion test round → test mv → AllByRecursion test (round ++ mv ∷ [])
 all_behind test [] mv h k = (k, tt)
 all_behind test (first ∷ round) mv (h, hs) k = (h, all_behind test round mv hs k)

@@ -88,7 +88,7 @@ number_small plan (AtCell k c) accepted there =
     let within = siding_within plan k accepted there.0 in
     omega (arith, within.1, within.2, there.1)
 
--- and tells which it is
+-- and different homes have different numbers
 same_home : (plan : Plan) (g h : Home) → IsAccepted plan → IsHome plan g → IsHome plan h → number_of g ≡ number_of h → g ≡ h
 same_home plan (AtStage i) (AtStage j) accepted a b e = ap AtStage (omega (arith, a.0, b.0, e))
 same_home plan (AtStage i) (AtCell k c) accepted a b e = absurd (omega (arith, accepted.stages.1, a.0, a.1, e))

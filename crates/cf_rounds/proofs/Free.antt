@@ -39,15 +39,15 @@ unshared_back plan a b e = go (shares plan b a) refl
 apart_pair : (plan : Plan) (s : State) (a b : Move) → HasSidings plan s → IsPlain plan s a → IsPlain plan s b → shares plan a b ≡ false → AreIndependent plan s a b
 apart_pair plan s a b h p q e = independent plan s a b h p q e (unshared_back plan a b e)
 
--- as many cells stay
+-- the number of cells stays
 pub sidings_stay : (plan : Plan) (m : Moment) (a : Move) → bar plan m.state a ≡ None → HasSidings plan m.state → HasSidings plan (next plan m a).state
 sidings_stay plan m a free h k = sym (((move_local plan m a).frame free).sizes k) ∙ h k
 
--- the highest stage is read by who leaves
+-- the highest stage is read by a Leave
 leave_reads : (plan : Plan) (s : State) → reads plan s Leave (Stage plan.stages) ≡ true
 leave_reads plan s = grind (arith, nat_tests)
 
--- so who is independent of that does not write it
+-- so a move that is independent of a Leave does not write it
 stays_there : (plan : Plan) (m : Moment) (a : Move) → bar plan m.state a ≡ None → AreIndependent plan m.state a Leave → ends_there plan (next plan m a).state ≡ ends_there plan m.state
 stays_there plan m a free i = go (writes plan m.state a (Stage plan.stages)) refl
   where

@@ -1,4 +1,4 @@
--- Behind each round the run is level with the count at its limit, and the program ends below that: so it ends as the sequential machine does.
+-- After each round the run is level with the count at its limit, and the program ends below that: so it ends as the sequential machine does.
 use Rattle.std.proofs.Common.{◌≡◌, ℕ, ◌<◌, List, [], ◌∷◌, Bool, true, false, Option, None, inl, inr, ◌⊎◌, refl, sym, ap, subst, ◌∙◌, arith}
 use Rattle.std.specs.List.{AllByRecursion}
 use Rattle.std.proofs.lemmas.Bool.Decides.{nat_tests}
@@ -28,7 +28,7 @@ use Rattle.cf_rounds.proofs.Chosen.{Form, alone, together, round_form}
 use Rattle.cf_rounds.proofs.Free.{IsFree, free_step}
 use Rattle.cf_rounds.proofs.Making.{both_leave, is_leave, kept_counts, leave_one, leave_there}
 
--- a stage that a move does not use it does not write
+-- a move does not write a stage that it does not use
 unwritten : (plan : Plan) (s : State) (n : ℕ) (mv : Move) → uses_place plan mv (Stage n) ≡ false → writes plan s mv (Stage n) ≡ false
 unfolding uses_place
 unwritten plan s n (Issue g) e = grind (arith, nat_tests)
@@ -54,7 +54,7 @@ unused_top plan mv apart = by (uses_place plan mv (Stage plan.stages)) refl
     by false e = e
     by true e = absurd (let both : shares plan Leave mv ≡ true = shared_at plan Leave mv (Stage plan.stages) (leave_there plan) e in cc)
 
--- and is none
+-- and is no Leave
 other_than_leave : (plan : Plan) (mv : Move) → shares plan Leave mv ≡ false → is_leave mv ≡ false
 other_than_leave plan mv apart = by (is_leave mv) refl
   where
@@ -80,7 +80,7 @@ level_stays plan limit m mv free apart over =
       below = λ e ended. let low = over.below e (sym kept.ending ∙ ended) in let count = kept.retired in omega (arith, low, count);
     }
 
--- where the moves of a round have come to: the count is below the limit; or the run is level there, and none of the moves that are left shares a place with a Leave
+-- where the moves of a round have led: the count is below the limit; or the run is level there, and none of the moves that are left shares a place with a Leave
 abbrev Stands : Plan → ℕ → State → List Move → Type 0
 Stands plan limit s round = (s.retired < limit) ⊎ (Over plan limit s × AllByRecursion (λ other. shares plan Leave other ≡ false) round)
 
@@ -110,7 +110,7 @@ free_level plan limit (made ∷ trace) now new same f (there, one, is, all) stan
     (subst (λ (s : State). IsFree plan s (moves_of trace)) state (free_step plan m made.move (moves_of trace) f)) all
     (subst (λ (s : State). Stands plan limit s (moves_of trace)) state (stands_on plan limit m made.move made.event (moves_of trace) f event stands))
 
--- one that is made alone
+-- a move that is made alone
 alone_level : (plan : Plan) (limit : ℕ) (mv : Move) (trace : List Made) (now new : Place) → now.core.plan ≡ plan → moves_of trace ≡ mv ∷ [] → MakesAll trace now new → now.core.state.retired < limit → Over plan limit new.core.state
 unfolding MakesAll
 alone_level plan limit mv [] now new same is all low = absurd (cc)
@@ -122,7 +122,7 @@ alone_level plan limit mv (made ∷ []) now new same is (there, one, at, all) lo
     subst (λ (p : Plan). Over p limit new.core.state) same (subst (Over now.core.plan limit) (state ∙ ap (λ (p : Place). p.core.state) (sym all)) over)
 alone_level plan limit mv (made ∷ more ∷ trace) now new same is all low = absurd (cc)
 
--- so it is behind each round that is made below the limit
+-- so it is after each round that is made below the limit
 pub round-level : (plan : Plan) (limit : ℕ) (trace : List Made) (now new : Place) → now.core.plan ≡ plan → HasSidings plan now.core.state → IsRound plan now.core.state (moves_of trace) → MakesAll trace now new → now.core.state.retired < limit → Over plan limit new.core.state
 round-level plan limit trace now new same sidings r all low = by (round_form plan now.core.state (moves_of trace) sidings r)
   where

@@ -1,4 +1,4 @@
--- The moves of a round, one behind the other.
+-- The moves of a round, one after the other.
 use Rattle.std.proofs.Common.{◌≡◌, ℕ, zero, suc, ◌+◌, ◌≤◌, Bool, true, false, List, [], ◌∷◌, ◌++◌, length, take, drop, Some, None, Ok, Err, inl, inr, refl, sym, ap, subst, ◌∙◌, append_assoc, arith}
 use Rattle.std.specs.Prelude.{◌⊎◌, slice_get, if◌then◌else◌}
 use Rattle.std.specs.List.{AllByRecursion}
@@ -37,7 +37,7 @@ use Rattle.cf_rounds.proofs.InOrder.{drop_at}
 use Rattle.cf_rounds.proofs.Chosen.{Form, alone, together, round_form}
 use Rattle.cf_rounds.proofs.Free.{IsFree, free_step, sidings_stay}
 
--- one move more
+-- one more move
 all_more : (trace : List Made) (made : Made) (now mid new : Place) → MakesAll trace now mid → MakesAndShows show.Report made.move made.event mid new → made.state ≡ new.core.state → MakesAll (trace ++ made ∷ []) now new
 unfolding MakesAll
 all_more [] made now mid new h d e = (new, subst (λ (p : Place). MakesAndShows show.Report made.move made.event p new) h d, e, refl)
@@ -56,7 +56,7 @@ unfolding paced_by
 paced_more count [] made = refl
 paced_more count (first ∷ trace) made = paced_more (paced count first.move first.event (is_drained first.state)) trace made
 
--- what is seen with one move more
+-- what is seen with one more move
 all_one : (test : Made → Type 0) (trace : List Made) (made : Made) → AllByRecursion test trace → test made → AllByRecursion test (trace ++ made ∷ [])
 all_one test [] made h k = (k, tt)
 all_one test (first ∷ trace) made (h, hs) k = (h, all_one test trace made hs k)

@@ -1,4 +1,4 @@
--- The moves of rounds are a run under the hold rule: while the candidates are held none is an Issue unless no other move is allowed.
+-- The moves of rounds are a run under the hold rule: while the candidates are held no move is an Issue unless no other move is allowed.
 use Rattle.std.proofs.Common.{◌≡◌, ℕ, suc, ◌+◌, ◌*◌, ◌≤◌, Bool, true, false, nat_le, List, [], ◌∷◌, ◌++◌, Option, Some, None, refl, sym, ap, subst, ◌∙◌, arith}
 use Rattle.std.specs.Prelude.{◌||◌, slice_get, if◌then◌else◌}
 use Rattle.std.specs.List.{AllByRecursion, find}
@@ -86,7 +86,7 @@ one_issue plan a b apart e = by (is_issue a) refl
     by false f = f
     by true f = absurd (let both : shares plan a b ≡ true = shared_at plan a b (Stage 1) (issue_there plan a f) (issue_there plan b e) in cc)
 
--- behind a move that is no Issue the candidates are held only where they were
+-- after a move that is no Issue the candidates are held only where they were
 held_before : (plan : Plan) (count : ℕ) (mv : Move) (e : Event) (drained : Bool) → IsAccepted plan → is_issue mv ≡ false → is_held plan (paced count mv e drained) ≡ true → is_held plan count ≡ true
 unfolding paced
 held_before plan count mv e drained accepted other held = by (is_retirement e || drained) held
@@ -98,7 +98,7 @@ held_before plan count mv e drained accepted other held = by (is_retirement e ||
         none n low h = grind (arith, nat_tests)
     by false h = rw other at h
 
--- so what may be said of the moves that are left may be said behind one that was made
+-- so what may be said of the moves that are left may be said after one that was made
 may_stay : (plan : Plan) (s t : State) (count : ℕ) (mv : Move) (e : Event) (drained : Bool) (round : List Move) → IsAccepted plan → bar plan s mv ≡ None → AllByRecursion (λ other. shares plan mv other ≡ false) round → AllByRecursion (MayIssue plan count s) round
     → AllByRecursion (MayIssue plan (paced count mv e drained) t) round
 may_stay plan s t count mv e drained [] accepted free apart may = tt
@@ -109,7 +109,7 @@ may_stay plan s t count mv e drained (other ∷ round) accepted free (one, apart
         let plain : is_issue mv ≡ false = one_issue plan mv other one issue in
         absurd (h (held_before plan count mv e drained accepted plain held) issue mv plain free)
 
--- the moves of a round, and behind them those of the others
+-- the moves of a round, and after them those of the others
 record Behind (plan : Plan) (limit count : ℕ) (told : Option (List ℕ)) (x : Machine) (s : State) (made rest : List Made) (last : Moment) : Type 0 where
   go : (m : Moment) (before : List Line) → m.state ≡ state_behind s made → HoldsAnew plan x before m → Leads plan limit told m rest last → (written : List Line) × PacesTo plan (paced_by count made) m (moves_of rest) last written
 

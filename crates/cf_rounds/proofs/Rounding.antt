@@ -1,4 +1,4 @@
--- Where a run in rounds has come to.
+-- Where a run in rounds has arrived.
 use Rattle.std.proofs.Common.{◌≡◌, ℕ, suc, ◌+◌, ◌-◌, ◌<◌, ◌≤◌, ◌^◌, List, [], ◌∷◌, ◌++◌, length, Option, Some, None, Err, inl, inr, refl, sym, ap, subst, ◌∙◌, append-nil, append_assoc, length-append, arith}
 use Rattle.std.specs.Prelude.{if◌then◌else◌, Bool, true, false}
 use Rattle.cf_asked.specs.Limits.{most_limit}
@@ -60,7 +60,7 @@ offered_are plan count s = by (is_held plan count)
     by true = inr refl
     by false = inl refl
 
--- the moves of some rounds, with one round more
+-- the moves of some rounds, with one more round
 all_more : (rounds : List (List Made)) (made : List Made) → all_of (rounds ++ made ∷ []) ≡ all_of rounds ++ made
 all_more [] made = append-nil made
 all_more (first ∷ rounds) made = ap (λ (rest : List Made). first ++ rest) (all_more rounds made) ∙ sym (append_assoc first (all_of rounds) made)
@@ -73,13 +73,13 @@ rounds_more plan limit count s [] held end made (held_is, end_is) goes is =
     subst (λ (n : ℕ). P n s) held_is (subst (P held) end_is (goes, is, (refl, refl)))
 rounds_more plan limit count s (first ∷ rounds) held end made (goes_on, first_is, h) goes is = (goes_on, first_is, rounds_more plan limit (paced_by count first) (state_behind s first) rounds held end made h goes is)
 
--- the state behind the moves
+-- the state after the moves
 state_there : (trace : List Made) (now new : Place) → MakesAll trace now new → state_behind now.core.state trace ≡ new.core.state
 unfolding MakesAll
 state_there [] now new h = ap (λ (p : Place). p.core.state) (sym h)
 state_there (made ∷ trace) now new (there, one, is, h) = ap (λ (s : State). state_behind s trace) is ∙ state_there trace there new h
 
--- the moves of a round behind those of a run
+-- the moves of a round after those of a run
 record Reached (limit : ℕ) (start new : Place) (before trace : List Made) : Type 0 where
   reached : Reaches (limit + 1) show.Report start new
   all : reached.trace ≡ before ++ trace
@@ -155,7 +155,7 @@ moves_length : (trace : List Made) → length (moves_of trace) ≡ length trace
 moves_length [] = refl
 moves_length (made ∷ trace) = ap suc (moves_length trace)
 
--- one round more
+-- one more round
 pub comes-more : (limit : ℕ) (start now new : Place) (pace later : Count) (number : ℕ) (moves round : List Move) (fired : Fired) → Comes limit start now pace number → GoesOn limit now.core.state → IsOffered now pace moves round → FiresAll round now new pace later fired → Comes limit start new later (number + 1)
 comes-more limit start now new pace later number moves round fired c goes o f =
     let plan : Plan = start.core.plan in
@@ -220,7 +220,7 @@ pub comes-counted : (limit : ℕ) (start now : Place) (pace : Count) (number : �
 comes-counted limit start now pace number c =
     (c.held, subst (λ (l : Plan). HasCounted l.stages c.held pace) (sym (same_plan limit start now pace number c)) c.paced)
 
--- each round has a move, so that fewer are left
+-- each round has a move, so fewer are left
 pub comes-nearer : (limit : ℕ) (start now new : Place) (pace later : Count) (number : ℕ) (moves round : List Move) (fired : Fired) → IsAccepted start.core.plan → length start.core.state.regs ≡ 32 → IsOpened start.core → Comes limit start now pace number → GoesOn limit now.core.state → IsOffered now pace moves round → FiresAll round now new pace later fired
     → most_moves start.core.plan limit - new.tally.moves < most_moves start.core.plan limit - now.tally.moves
 comes-nearer limit start now new pace later number moves round fired accepted wide o c goes offer f =
@@ -230,7 +230,7 @@ comes-nearer limit start now new pace later number moves round fired accepted wi
     less : (most now new n : ℕ) → new ≡ now + n → 0 < n → new ≤ most → most - new < most - now
     less most now new n e some h = omega (arith, e, some, h)
 
--- the run stops where it has come to
+-- the run stops where it has arrived
 pub comes-runs : (limit : ℕ) (start now new : Place) (pace : Count) (number : ℕ) (answer : Clocked) → (c : Comes limit start now pace number) → StopsRounds limit c.held now new answer → RunsRounds limit start new number answer
 comes-runs limit start now new pace number answer c stops = record {
   now = now;
@@ -254,7 +254,7 @@ fails-there limit start now new pace number moves round answer c goes o serves d
       does = does;
     }
 
--- and the run is one of the sequential machine
+-- and the run is a run of the sequential machine
 rounds_come : (limit : ℕ) (start new : Place) (number : ℕ) (answer : Clocked) → IsAccepted start.core.plan → (r : RunsRounds limit start new number answer) → ComesTo (limit + 1) show.Report start (moves_of r.reaches.trace) new (Ran (ran_of answer))
 unfolding StopsAt Gets
 rounds_come limit start new number (Exit status) accepted r = comes_over (limit + 1) show.Report start r.now new (ran.Exit status) r.reaches r.stops.0 r.stops.1
@@ -271,7 +271,7 @@ rounds-sequential limit start new number answer accepted wide r =
 pub offers : (now : Place) (pace : Count) (moves round : List Move) → IsProcessor now.core.plan now.core.state → ((count : ℕ) → HasCounted now.core.plan.stages count pace → moves ≡ offered now.core.plan count now.core.state) → round ≡ round_of now.core.plan now.core.state moves → IsRound now.core.plan now.core.state round → 0 < length round → IsOffered now pace moves round
 offers now pace moves round p are is round_is some = record { moves_are = are; round_is = is; is_round = round_is; sidings = has_sidings now.core.plan now.core.state p; some = some }
 
--- so are its moves candidates, and there is one
+-- so its moves are candidates, and there is one
 pub offered-candidates : (plan : Plan) (s : State) (pace : Count) (moves : List Move) → (count : ℕ) × HasCounted plan.stages count pace → ((count : ℕ) → HasCounted plan.stages count pace → moves ≡ offered plan count s) → AreCandidates plan s moves
 offered-candidates plan s pace moves counted are = subst (AreCandidates plan s) (sym (are counted.0 counted.1)) (offered_are plan counted.0 s)
 

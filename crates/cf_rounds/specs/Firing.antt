@@ -1,4 +1,4 @@
--- A round is made: its moves one behind the other, each counted, and seen by the pace.
+-- A round is made: its moves one after the other, each counted, and seen by the pace.
 use Rattle.std.specs.Prelude.{◌≡◌, ℕ, List, [], ◌∷◌, ◌++◌, Bool, true, false, Result, Ok, Err}
 use Rattle.std.specs.List.{AllByRecursion}
 use Rattle.cf_asked.specs.declared.show.Show.TheVariants as show
@@ -15,14 +15,14 @@ use Rattle.cf_run.specs.Moving.{Place, MakesAndShows, Does}
 use Rattle.cf_rounds.specs.declared.answer.Fired.{Fired}
 use Rattle.cf_rounds.specs.declared.answer.Fired.TheVariants.{Plain, Retired, Ended, ReadFault, WriteFault}
 
--- the moves were made one behind the other, each with its event, and led from one place to another
+-- the moves were made one after the other, each with its event, and led from one place to another
 unfoldable pub MakesAll : List Made → (now new : Place) → Type 0
 MakesAll [] now new = new ≡ now
 MakesAll (made ∷ trace) now new =
     (next : Place) × MakesAndShows show.Report made.move made.event now next × (made.state ≡ next.core.state)
     × MakesAll trace next new
 
--- the count of Issue moves behind these
+-- the count of Issue moves after these
 unfoldable pub paced_by : ℕ → List Made → ℕ
 paced_by count [] = count
 paced_by count (made ∷ trace) = paced_by (paced count made.move made.event (is_drained made.state)) trace
@@ -46,7 +46,7 @@ IsSeen trace Plain = AllByRecursion (λ made. is_seen made.event ≡ false) trac
 IsSeen trace ReadFault = ⊥
 IsSeen trace WriteFault = ⊥
 
--- what is seen with one event more
+-- what is seen with one more event
 abbrev pub seen : Fired → Event → Fired
 seen fired (event.Retired line) = Retired line
 seen fired (event.Ended end) = Ended end

@@ -1,4 +1,4 @@
--- Rounds: the moves that a clocked processor makes at one tick. No two of them use a place in common, so that they can be made in any order.
+-- Rounds: the moves that a clocked processor makes at one tick. No two of them use a place in common, so they can be made in any order.
 use Rattle.std.specs.Prelude.{◌≡◌, ◌⊎◌, ℕ, ◌≤◌, List, length, [], ◌∷◌, ◌++◌, Bool, true, false, None, if◌then◌else◌}
 use Rattle.std.specs.List.{AllByRecursion, find, list_any}
 use Rattle.cf_layout.specs.Layout.{Plan}
@@ -19,7 +19,7 @@ pub record IsHeld (count : ℕ) (places : List Move) : Type 0 where
 abbrev pub shares_any : Plan → List Move → Move → Bool
 shares_any plan round mv = list_any (shares plan mv) round
 
--- some moves are taken; behind them each move of a list that shares no place with one that is taken, in order
+-- some moves are taken; after them each move of a list that shares no place with one that is taken, in order
 unfoldable pub taken : Plan → (round moves : List Move) → List Move
 taken plan round [] = round
 taken plan round (mv ∷ moves) = taken plan (if shares_any plan round mv then round else round ++ mv ∷ []) moves
@@ -47,7 +47,7 @@ abbrev pub AreApart : Plan → List Move → Type 0
 AreApart plan [] = Unit {0}
 AreApart plan (mv ∷ round) = AllByRecursion (λ other. shares plan mv other ≡ false) round × AreApart plan round
 
--- the move is one of the round, or shares a place with one of it
+-- the move is one of the round, or shares a place with one in it
 abbrev pub IsTaken : Plan → List Move → Move → Type 0
 IsTaken plan round mv = ((front : List Move) × (behind : List Move) × (round ≡ front ++ mv ∷ behind)) ⊎ (shares_any plan round mv ≡ true)
 

@@ -17,7 +17,7 @@ use Rattle.cf_rounds.specs.declared.answer.Clocked.TheVariants.{Exit, Trap, Limi
 use Rattle.cf_rounds.specs.Firing.{paced_by}
 use Rattle.cf_rounds.specs.Rounds.{round_of}
 
--- the state behind some moves
+-- the state after some moves
 abbrev pub state_behind : State → List Made → State
 state_behind s [] = s
 state_behind s (made ∷ trace) = state_behind made.state trace
@@ -27,7 +27,7 @@ abbrev pub all_of : List (List Made) → List Made
 all_of [] = []
 all_of (made ∷ rounds) = made ++ all_of rounds
 
--- the rounds are made one behind the other, each where the run goes on: the round of the candidates there, held back by the count of the Issue moves before it
+-- the rounds are made one after the other, each where the run goes on: the round of the candidates there, held back by the count of the Issue moves before it
 unfoldable pub InRounds : Plan → ℕ → ℕ → State → List (List Made) → (last : ℕ) → (end : State) → Type 0
 InRounds plan limit count s [] last end = (last ≡ count) × (end ≡ s)
 InRounds plan limit count s (made ∷ rounds) last end =
@@ -48,7 +48,7 @@ StopsRounds limit count now new Limit = IsOver limit now.core.state ran.Limit ×
 StopsRounds limit count now new ReadFault = FailsThere limit count now new ran.ReadFault
 StopsRounds limit count now new WriteFault = FailsThere limit count now new ran.WriteFault
 
--- the run makes so many rounds, and stops behind them with this answer. Behind the Leave with which the limit is reached a round may have another move
+-- the run makes this many rounds, and stops after them with this answer. After the Leave with which the limit is reached a round may have another move
 pub record RunsRounds (limit : ℕ) (start new : Place) (number : ℕ) (answer : Clocked) : Type 0 where
   pub now : Place
   pub reaches : Reaches (limit + 1) show.Report start now
@@ -67,7 +67,7 @@ ran_of Limit = ran.Limit
 ran_of ReadFault = ran.ReadFault
 ran_of WriteFault = ran.WriteFault
 
--- the run in rounds, and it is one of the sequential machine
+-- the run in rounds, and it is a run of the sequential machine
 pub record RunsRight (limit : ℕ) (start new : Place) (number : ℕ) (answer : Clocked) : Type 0 where
   pub runs : RunsRounds limit start new number answer
   pub sequential : RunsSequentially show.Report (moves_of runs.reaches.trace) start new (Ran (ran_of answer))

@@ -12,7 +12,7 @@ pub enum Fired {
     /// This instruction retired.
     Retired(Line),
 
-    /// The program ended so.
+    /// The program ended in this way.
     Ended(End),
 
     /// The input failed in a call of the environment.
@@ -31,7 +31,7 @@ pub enum Clocked {
     /// An instruction trapped.
     Trap { cause: u8, pc: u32, detail: u32 },
 
-    /// So many instructions have retired as the limit allows.
+    /// As many instructions have retired as the limit allows.
     Limit,
 
     /// The input failed in a call of the environment.

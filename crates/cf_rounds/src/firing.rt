@@ -16,7 +16,7 @@ use cf_report::Tally;
 use cf_run::{Ran, Show, make_and_show};
 use cf_sched::Pace;
 
-/// What is seen of a round with one event more.
+/// What is seen of a round with one more event.
 fn with_event(fired: Fired, event: &Event) -> Fired
     ensures { result ≡ seen fired event.now }
 {
@@ -31,8 +31,8 @@ fn with_event(fired: Fired, event: &Event) -> Fired
 /// Nothing bars any of them where its turn comes, and they could be made in any order.
 ///
 /// `Retired` and `Ended` come exactly where a move of the round has that event. `ReadFault` and `WriteFault` come only of Serve,
-/// which is a round of its own, and only where the input, the output failed its call; the move is not counted then. The
-/// count of the faults of that one rose.
+/// which is a round of its own, and only where the input or the output failed its call; the move is not counted then. In
+/// each case that stream's count of faults rose.
 pub fn fire<S: Source, K: Sink>(
     core: &mut Core,
     set: &RoundSet,

@@ -43,7 +43,7 @@ impl RoundSet {
         self.len
     }
 
-    /// The one of this place, counted from 0.
+    /// The move at this place, counted from 0.
     pub fn get(&self, place: u32) -> Move
         requires { place < length self.now }
         ensures { Some result ≡ slice_get self.now place }
@@ -51,14 +51,14 @@ impl RoundSet {
         self.moves[place as usize]
     }
 
-    /// Takes all out.
+    /// Takes all moves out.
     pub(crate) fn clear(&mut self)
         ensures { self.new ≡ [] }
     {
         self.len = 0;
     }
 
-    /// Puts one behind the others.
+    /// Puts a move after the others.
     pub(crate) fn push(&mut self, mv: Move)
         requires { length self.old < 128 }
         ensures { self.new ≡ self.old ++ mv ∷ [] }

@@ -1,4 +1,4 @@
--- Where a run has come to, whatever its input tells; and where it has, over an input that tells what it has left.
+-- Where a run has arrived, whatever its input tells; and where it has arrived over an input that tells what it has left.
 use Rattle.std.proofs.Common.{◌≡◌, ℕ, ◌+◌, List, [], Option, Some, ap, subst, ◌∙◌, refl, length}
 use Rattle.cf_asked.specs.declared.show.Show.{Show}
 use Rattle.cf_asked.specs.declared.show.Show.TheVariants as show
@@ -24,7 +24,7 @@ use Rattle.cf_run.proofs.Retirements.{shown-lines}
 use Rattle.cf_run.proofs.Runs.{leads-run}
 use Rattle.cf_run.proofs.Settling.{IsKept, kept-run, settles}
 
--- a run has come to a moment at which what every move keeps holds over a machine, with these lines, numbered from n on
+-- a run has reached a moment at which what every move keeps holds over a machine, with these lines, numbered from n on
 pub record Arrives (shows : Show) (x : Machine) (m : Moment) (n : ℕ) (written : List Line) (begin now : Place) : Type 0 where
   pub kept : IsKept begin.core.plan x m
   pub core : now.core ≡ in_state begin.core m.state
@@ -53,7 +53,7 @@ right plan x moves accepted wide allowed = record {
   settles = settles plan x (moment_after plan x moves) accepted (kept-run plan x moves accepted wide allowed);
 }
 
--- where a run has come to by some moves that started on the machine
+-- where a run has arrived by some moves that started on the machine
 pub record ArrivesBy (shows : Show) (x : Machine) (moves : List Move) (begin now : Place) : Type 0 where
   pub right : IsRight begin.core.plan x moves
   pub arrives : Arrives shows x (moment_after begin.core.plan x moves) (x.hart.retired + 1) (lines_after begin.core.plan x moves) begin now
@@ -83,7 +83,7 @@ arrived limit shows hart rest left begin now trace last accepted wide opens tell
       };
     }
 
--- so has a run that has come to a place
+-- so has a run that has reached a place
 pub arrives-by : (limit : ℕ) (shows : Show) (hart : Hart) (rest : List ℕ) (begin now : Place) → IsAccepted begin.core.plan → length hart.regs ≡ 32 → begin.core ≡ opened begin.core.plan hart → begin.streams.input ≡ Some rest → (h : Reaches limit shows begin now)
     → ArrivesBy shows (machine_on hart rest) (moves_of h.trace) begin now
 arrives-by limit shows hart rest begin now accepted wide opens tells h =

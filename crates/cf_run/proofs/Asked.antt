@@ -1,4 +1,4 @@
--- What the moves of a run ask, with one move more.
+-- What the moves of a run ask, with one more move.
 use Rattle.std.proofs.Common.{◌≡◌, ℕ, List, [], ◌∷◌, ◌++◌, Option, Some, None, inl, inr, ap, sym, subst, ◌∙◌}
 use Rattle.std.specs.Prelude.{◌⊎◌, Result, Ok}
 use Rattle.cf_asked.specs.declared.show.Show.{Show}
@@ -30,7 +30,7 @@ some-last asks plan limit told m [] last made h k = inl (subst (λ (q : Moment).
 some-last asks plan limit told m (first ∷ trace) last made (rest, finds, is, h) k =
     inr (subst (λ (s : State). SomeAsks asks plan s (trace ++ made ∷ [])) (sym is.state) (some-last asks plan limit told (next plan (record m { rest = rest }) first.move) trace last made h k))
 
--- what the moves that were made ask, or the next one, the moves with that one ask
+-- what the moves that were made ask, or the next one asks, the moves with that one ask
 pub one-more : (asks : Processor → Move → Type 0) (limit : ℕ) (show : Show) (start now : Place) (h : Reaches limit show start now) (made : Made) → SomeAsks asks start.core.plan start.core.state h.trace ⊎ asks now.core made.move
     → SomeAsks asks start.core.plan start.core.state (h.trace ++ made ∷ [])
 one-more asks limit show start now h made (inl some) = some-first asks start.core.plan start.core.state h.trace (made ∷ []) some
@@ -48,7 +48,7 @@ next_asked : (asks : Processor → Move → Type 0) (limit : ℕ) (show : Show) 
 next_asked asks limit show now new t made same next =
     subst (asks now.place.core) (same_next (next_of now.script) next.line t.line next.move t.move next.next t.next ∙ sym same) next.asked
 
--- the same of a run with one move more
+-- the same of a run with one more move
 asked-more : (asks : Processor → Move → Type 0) (limit : ℕ) (show : Show) (start now new : Stand) (f : Follows limit show start now) (t : Tries limit show now new None) → SomeAsks asks start.place.core.plan start.place.core.state f.reaches.trace ⊎ NextAsks asks limit now.place.core now.script
     → SomeAsks asks start.place.core.plan start.place.core.state (followed-more limit show start now new f t).reaches.trace
 asked-more asks limit show start now new f t asked =
@@ -60,7 +60,7 @@ asked-more asks limit show start now new f t asked =
     here (inl some) = inl some
     here (inr next) = let made = followed-trace limit show start now new f t in inr (next_asked asks limit show now new t made.0 made.1 next)
 
--- what no move asked has stayed as it was, with one move more
+-- what no move asked has stayed as it was, with one more move
 pub unasked-more : {T : Type 0} (asks : Processor → Move → Type 0) (limit : ℕ) (show : Show) (start now new : Stand) (f : Follows limit show start now) (t : Tries limit show now new None) (first between last : T) → ((SomeAsks asks start.place.core.plan start.place.core.state f.reaches.trace → ⊥) → between ≡ first) → ((NextAsks asks limit now.place.core now.script → ⊥) → last ≡ between)
     → (SomeAsks asks start.place.core.plan start.place.core.state (followed-more limit show start now new f t).reaches.trace → ⊥) → last ≡ first
 unasked-more asks limit show start now new f t first between last before one unasked =

@@ -1,4 +1,4 @@
--- What a move does behind an output that was written before, and how many instructions retire with it.
+-- What a move does where output was written before it, and how many instructions retire with it.
 use Rattle.std.proofs.Common.{◌≡◌, ℕ, ◌+◌, ◌≤◌, List, ◌++◌, Option, Some, None, refl, ap, append_assoc, arith}
 use Rattle.rv_machine.specs.Call.{Called}
 use Rattle.rv_machine.specs.Call as called

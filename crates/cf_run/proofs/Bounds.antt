@@ -38,7 +38,7 @@ opened_count : (core : Processor) (o : IsOpened core) → core.state.retired ≡
 unfolding opened opened_on
 opened_count core o = ap (λ (p : Processor). p.state.retired) o.is
 
--- the machine that the run of an opened processor is one of, with some input
+-- the machine that the run of an opened processor is a run of, with some input
 abbrev pub machine_of : (core : Processor) → IsOpened core → List ℕ → Machine
 machine_of core o rest = machine_on o.hart rest
 
@@ -82,7 +82,7 @@ paced-offered limit shows begin now accepted wide o h written paces unended coun
     let there : P (in_state begin.core h.last.state) = offered_some plan x h.last count written accepted holds in
     subst P (sym h.core) there unended
 
--- so it is of the picks of a policy
+-- so the picks of a policy are bounded in number
 pub reached-bounded : {P : Type 0} (picked : P → List Move → ℕ) (onward : P → List Move → P) (limit : ℕ) (shows : Show) (begin now : Place) (policy : P) (at : Chooser P) → IsAccepted begin.core.plan → length begin.core.state.regs ≡ 32 → IsOpened begin.core → (h : Reaches limit shows begin now) → Picks picked onward begin.core.plan (fresh policy) begin.core.state h.trace at
     → now.tally.moves ≤ most_moves begin.core.plan (now.core.state.retired - begin.core.state.retired)
 reached-bounded {P} picked onward limit shows begin now policy at accepted wide o h picks =

@@ -1,4 +1,4 @@
--- The run of a policy: one turn more, and where it comes to, whatever stops it there.
+-- The run of a policy: one more turn, and where it arrives, whatever stops it there.
 use Rattle.std.proofs.Common.{◌≡◌, ℕ, ◌-◌, ◌≤◌, List, [], ◌∷◌, ◌++◌, Option, Some, Err, sym, ap, subst, ◌∙◌, inl, inr, append-nil, length}
 use Rattle.std.specs.Prelude.{◌⊎◌}
 use Rattle.cf_asked.specs.declared.show.Show.{Show}
@@ -33,7 +33,7 @@ PicksTo picked onward begin policy trace at = Picks picked onward begin.core.pla
 abbrev pub taken : {P : Type 0} (picked : P → List Move → ℕ) (limit : ℕ) (shows : Show) (at : Chooser P) (now new : Place) → Takes picked limit shows at now new → Made
 taken picked limit shows at now new t = record { move = t.move; event = t.event; state = new.core.state }
 
--- the policy behind it
+-- the policy after it
 abbrev pub behind : {P : Type 0} (picked : P → List Move → ℕ) (onward : P → List Move → P) (limit : ℕ) (shows : Show) (at : Chooser P) (now new : Place) → Takes picked limit shows at now new → Chooser P
 behind picked onward limit shows at now new t = behind_choice onward now.core.plan at now.core.state (taken picked limit shows at now new t)
 
@@ -48,7 +48,7 @@ chosen-stops picked onward limit shows at now new later mv (ran.Exit status) goe
 chosen-stops picked onward limit shows at now new later mv (ran.Trap cause pc detail) goes chosen on does = absurd does
 chosen-stops picked onward limit shows at now new later mv ran.Limit goes chosen on does = absurd does
 
--- one turn more
+-- one more turn
 pub turned-more : {P : Type 0} (picked : P → List Move → ℕ) (limit : ℕ) (shows : Show) (begin now new : Place) (at : Chooser P) → Reaches limit shows begin now → Takes picked limit shows at now new → Reaches limit shows begin new
 unfolding Does
 turned-more picked limit shows begin now new at h t = reached-more limit shows begin now new t.move t.event h t.goes.below t.does
@@ -70,7 +70,7 @@ turned-picks {P} picked onward limit shows begin now new policy at h t picks =
     let there : PicksTo picked onward begin policy (h.trace ++ made ∷ []) (behind picked onward limit shows at now new t) = subst (λ (c : Chooser P). PicksTo picked onward begin policy (h.trace ++ made ∷ []) c) (sym same) more in
     subst (λ (trace : List Made). PicksTo picked onward begin policy trace (behind picked onward limit shows at now new t)) (sym (turned-trace picked limit shows begin now new at h t)) there
 
--- what no move asked has stayed as it was, with one move more
+-- what no move asked has stayed as it was, with one more move
 same_choice : (chosen : Option Move) (mv last : Move) → chosen ≡ Some mv → chosen ≡ Some last → mv ≡ last
 same_choice chosen mv last e f = cc
 
@@ -84,11 +84,11 @@ unasked-turn {P} {T} picked asks limit shows begin now new at h t first between 
     there : SomeAsks asks begin.core.plan begin.core.state h.trace ⊎ asks now.core t.move → SomeAsks asks begin.core.plan begin.core.state (turned-more picked limit shows begin now new at h t).trace
     there asked = subst (SomeAsks asks begin.core.plan begin.core.state) (sym (turned-trace picked limit shows begin now new at h t)) (one-more asks limit shows begin now h (taken picked limit shows at now new t) asked)
 
--- no moves behind the others
+-- no moves after the others
 nothing_last : (moves before : List Move) → moves ≡ before ++ [] → before ≡ moves
 nothing_last moves before e = sym (e ∙ append-nil before)
 
--- whatever stops it, the run of a policy came to some place by the moves that it made and stopped there
+-- whatever stops it, the run of a policy reached some place by the moves that it made and stopped there
 pub policy-comes : {P : Type 0} (picked : P → List Move → ℕ) (onward : P → List Move → P) (limit : ℕ) (shows : Show) (begin new : Place) (policy later : P) (moves : List Move) (answer : Answer) → IsAccepted begin.core.plan → RunsPolicy picked onward limit shows begin new policy later moves answer → ComesTo limit shows begin moves new (Ran answer)
 policy-comes picked onward limit shows begin new policy later moves (ran.Exit status) accepted r =
     subst (λ (m : List Move). ComesTo limit shows begin m new (Ran (ran.Exit status))) (nothing_last moves (moves_of r.reaches.trace) r.made) (comes_over limit shows begin r.now new (ran.Exit status) r.reaches r.stops.0 r.stops.1)
@@ -103,12 +103,12 @@ policy-comes picked onward limit shows begin new policy later moves ran.WriteFau
 policy-comes picked onward limit shows begin new policy later moves ran.ReportFault accepted r =
     subst (λ (m : List Move). ComesTo limit shows begin m new (Ran ran.ReportFault)) (sym r.made) (comes_unshown limit shows begin r.now new r.stops.move r.reaches r.stops.goes.below r.stops.does)
 
--- so it is one of the sequential machine
+-- so it is a run of the sequential machine
 pub policy-sequential : {P : Type 0} (picked : P → List Move → ℕ) (onward : P → List Move → P) (limit : ℕ) (shows : Show) (begin new : Place) (policy later : P) (moves : List Move) (answer : Answer) → IsAccepted begin.core.plan → length begin.core.state.regs ≡ 32 → RunsPolicy picked onward limit shows begin new policy later moves answer → RunsSequentially shows moves begin new (Ran answer)
 policy-sequential picked onward limit shows begin new policy later moves answer accepted wide r =
     comes_sequentially limit shows begin new moves (Ran answer) accepted wide (policy-comes picked onward limit shows begin new policy later moves answer accepted r)
 
--- the place of a run whose report failed, as if that had not
+-- the place of a run whose report failed, as if it had not failed
 abbrev unfailed : (shows : Show) (now new : Place) → Move → Event → Place
 unfailed shows now new mv e = record new { report = filled now.report (shown_of shows mv e now new) }
 

@@ -1,4 +1,4 @@
--- The run of a script comes to some place by its first moves, as many as were counted, whatever stops it there.
+-- The run of a script reaches some place by its first moves, as many as were counted, whatever stops it there.
 use Rattle.std.proofs.Common.{◌≡◌, ℕ, List, [], ◌∷◌, ◌++◌, Some, None, sym, ap, subst, ◌∙◌}
 use Rattle.cf_asked.specs.declared.show.Show.{Show}
 use Rattle.cf_layout.specs.Accepted.{IsAccepted}
@@ -38,7 +38,7 @@ unshown_moves limit shows begin now new f t =
     sym (ap moves_of made.2 ∙ moves-more f.reaches.trace made.0 ∙ ap (λ (mv : Move). moves_of f.reaches.trace ++ mv ∷ []) made.1)
     ∙ followed_moves limit shows begin there (followed-more limit shows begin now there f tries)
 
--- whatever stops it, a run of a script came to some place and stopped there
+-- whatever stops it, a run of a script reached some place and stopped there
 pub comes-to : (limit : ℕ) (shows : Show) (begin now new : Stand) (answer : Scripted) → IsAccepted begin.place.core.plan → Follows limit shows begin now → Stops limit shows now new answer → ComesTo limit shows begin.place (first_moves begin.script new.place.tally) new.place answer
 unfolding Stops DoesLine Does StopsAt Gets
 comes-to limit shows begin now new ScriptEnd accepted f stops =

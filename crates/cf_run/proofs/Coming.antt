@@ -1,4 +1,4 @@
--- Where the run of a policy has come to, by a pace that counts up to where the candidates are held.
+-- Where the run of a policy has arrived, by a pace that counts up to where the candidates are held.
 use Rattle.std.proofs.Common.{◌≡◌, ℕ, ◌+◌, ◌-◌, ◌≤◌, ◌<◌, ◌^◌, List, ◌++◌, Bool, None, inl, inr, refl, sym, ap, subst, ◌∙◌, length, arith}
 use Rattle.std.specs.Prelude.{slice_get}
 use Rattle.cf_asked.specs.Limits.{most_limit}
@@ -60,7 +60,7 @@ chosen_same {P} picked onward limit shows begin now first current held c =
     ap (λ (moves : List Move). slice_get moves (picked current moves)) (offers picked onward limit shows begin now first current held c)
     ∙ ap (λ (p : P). slice_get (offered_to now.core.plan c.at now.core.state) (picked p (offered_to now.core.plan c.at now.core.state))) c.policy_is
 
--- and the policy behind it
+-- and the policy after it
 onward_same : {P : Type 0} (picked : P → List Move → ℕ) (onward : P → List Move → P) (limit : ℕ) (shows : Show) (begin now : Place) (first current : P) (held : ℕ) → (c : Comes picked onward limit shows begin now first current held) → onward current (offered_to now.core.plan (chooser current held) now.core.state) ≡ onward c.at.policy (offered_to now.core.plan c.at now.core.state)
 onward_same {P} picked onward limit shows begin now first current held c =
     ap (λ (moves : List Move). onward current moves) (offers picked onward limit shows begin now first current held c)
@@ -76,7 +76,7 @@ took picked onward limit shows begin now new first current held c t = record {
   does = t.does;
 }
 
--- one pick more
+-- one more pick
 pub comes-more : {P : Type 0} (picked : P → List Move → ℕ) (onward : P → List Move → P) (limit : ℕ) (shows : Show) (begin now new : Place) (first current : P) (held : ℕ) (later : Chooser P) → Comes picked onward limit shows begin now first current held → Turned picked onward limit shows now new (chooser current held) later → Comes picked onward limit shows begin new first later.policy later.count
 unfolding took
 comes-more {P} picked onward limit shows begin now new first current held later c t =
@@ -93,7 +93,7 @@ comes-more {P} picked onward limit shows begin now new first current held later 
           ∙ paced-stopped stages c.at.count t.takes.move t.takes.event drained;
     }
 
--- what no move asked has stayed as it was, with one pick more
+-- what no move asked has stayed as it was, with one more pick
 pub unasked-comes : {P T : Type 0} (picked : P → List Move → ℕ) (onward : P → List Move → P) (asks : Processor → Move → Type 0) (limit : ℕ) (shows : Show) (begin now new : Place) (first current : P) (held : ℕ) (later : Chooser P) (c : Comes picked onward limit shows begin now first current held) (t : Turned picked onward limit shows now new (chooser current held) later) (before between behind : T)
     → ((SomeAsks asks begin.core.plan begin.core.state c.reached.trace → ⊥) → between ≡ before) → ((ChoiceAsks asks picked limit (chooser current held) now.core → ⊥) → behind ≡ between)
     → (SomeAsks asks begin.core.plan begin.core.state (comes-more picked onward limit shows begin now new first current held later c t).reached.trace → ⊥) → behind ≡ before
@@ -146,7 +146,7 @@ comes-nearer picked onward limit shows begin now new first current held later ac
     less : (most now new : ℕ) → new ≡ now + 1 → new ≤ most → most - new < most - now
     less most now new e h = omega (arith, e, h)
 
--- the run stops where it has come to
+-- the run stops where it has arrived
 stops_same : {P : Type 0} (picked : P → List Move → ℕ) (onward : P → List Move → P) (limit : ℕ) (shows : Show) (begin now new : Place) (first current later : P) (held : ℕ) (answer : Answer) → (c : Comes picked onward limit shows begin now first current held) → StopsPolicy picked onward limit shows (chooser current held) now new later answer → StopsPolicy picked onward limit shows c.at now new later answer
 stops_same {P} picked onward limit shows begin now new first current later held answer c stops = go answer stops
   where
@@ -184,7 +184,7 @@ comes-runs picked onward limit shows begin now new first current later held answ
   made = refl;
 }
 
--- the count that stops is behind the move what the whole count is
+-- after the move the count that stops is what the whole count is
 pub seen-count : (before after : Count) (mv : Move) (e : Event) (seen drained : Bool) (stages : ℕ) → after ≡ saw before mv e seen → seen ≡ drained → before.stages ≡ stages → after.count ≡ stopped stages (paced before.count mv e drained)
 seen-count before after mv e seen drained stages is same beside =
     ap (λ (c : Count). c.count) is ∙ ap (λ (d : Bool). stopped before.stages (paced before.count mv e d)) same ∙ ap (λ (n : ℕ). stopped n (paced before.count mv e drained)) beside

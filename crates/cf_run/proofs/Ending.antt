@@ -51,20 +51,20 @@ use Rattle.cf_run.proofs.Retirements.{ended-kept}
 use Rattle.cf_run.proofs.Runs.{leads-run}
 use Rattle.cf_run.proofs.Untold.{LeadsAnew, leads-anew, goes-anew, left-untold}
 
--- where a run has come to, it is level with the count at the limit, and the program ends below that
+-- where a run has arrived, it is level with the count at the limit, and the program ends below that
 pub record Over (plan : Plan) (limit : ℕ) (s : State) : Type 0 where
   -- no call is ahead of the count there
   pub full : s.retired ≡ limit → served_count plan s ≡ 0
   pub below : (e : End) → s.ending ≡ Some e → s.retired < limit
 
--- so it is behind a move that is made below the limit: the last move retired an instruction, or ended the program and retired none
+-- so it is after a move that is made below the limit: the last move retired an instruction, or ended the program and retired none
 pub over-made : (plan : Plan) (limit : ℕ) (m : Moment) (mv : Move) (e : Event) → bar plan m.state mv ≡ None → IsEvent plan m.state mv e → m.state.retired < limit → Over plan limit (next plan m mv).state
 over-made plan limit m mv e free is low = record {
   full = λ there. retired_unserved plan m mv free (omega (arith, low, there));
   below = λ end ended. let same = ended-kept plan m mv e end free is ended in omega (arith, same, low);
 }
 
--- and behind all moves that are
+-- and after all moves that are
 over-led : (plan : Plan) (limit : ℕ) (told : Option (List ℕ)) (m : Moment) (trace : List Made) (last : Moment) → Over plan limit m.state → Leads plan limit told m trace last → Over plan limit last.state
 unfolding Leads
 over-led plan limit told m [] last over leads = subst (λ (q : Moment). Over plan limit q.state) (sym leads) over
@@ -72,7 +72,7 @@ over-led plan limit told m (made ∷ trace) last over (rest, finds, is, leads) =
     let here : Moment = finding rest m in
     over-led plan limit told (next plan here made.move) trace last (over-made plan limit here made.move made.event is.allowed is.event is.below) leads
 
--- the step of a machine that ends the program so
+-- the step of a machine that ends the program in this way
 step_ends : (isa : Isa) (at : Machine) (e : End) → step_here isa at ≡ Stops e → stepped (step isa at) ≡ Stops e
 unfolding step_at
 step_ends isa at e is = is
@@ -113,7 +113,7 @@ over_ends plan limit x written m ran.ReadFault r count below over = absurd over
 over_ends plan limit x written m ran.WriteFault r count below over = absurd over
 over_ends plan limit x written m ran.ReportFault r count below over = absurd over
 
--- there is one machine after so many steps
+-- there is only one machine after a number of steps
 one_after : (o : Option Machine) (a b : Machine) → o ≡ Some a → o ≡ Some b → a ≡ b
 one_after o a b e f = cc
 
@@ -181,7 +181,7 @@ ends_told bound limit shows begin now hart rest answer accepted wide opens tells
     let l : Level plan limit begin now h.last answer r.at = leveled plan limit x (lines plan (start_on plan x) (moves_of h.trace)) begin now h.last answer r count o.full o.below h.core h.streams (subst (λ (s : State). IsOver limit s answer) state over) in
     (r.at, subst (λ (s : State). after (isa_of plan) x (s.retired - hart.retired) ≡ Some r.at) (sym state) r.count, record { ends = l.ends; retired = l.retired; regs = l.regs; streams = l.streams })
 
--- over one that does not
+-- over an input that does not
 ends_untold : (bound limit : ℕ) (shows : Show) (begin now : Place) (hart : Hart) (answer : Answer) → IsAccepted begin.core.plan → length hart.regs ≡ 32 → begin.core ≡ opened begin.core.plan hart → begin.streams.input ≡ None → Reaches bound shows begin now → Over begin.core.plan limit now.core.state → IsOver limit now.core.state answer
     → (at : Machine) × ((written : List Line) × GoesTo (isa_of begin.core.plan) (machine_on hart []) (now.core.state.retired - hart.retired) at written) × Level begin.core.plan limit begin now (record { state = now.core.state; rest = at.rest; output = at.output }) answer at
 unfolding after
@@ -231,12 +231,12 @@ ends-level bound limit shows begin now hart answer accepted wide opens h level o
           streams = e.2.streams;
         }
 
--- so does one whose moves were all made below the limit
+-- so does a run whose moves were all made below the limit
 pub ends-sequentially : (limit : ℕ) (shows : Show) (begin now : Place) (hart : Hart) (answer : Answer) → IsAccepted begin.core.plan → length hart.regs ≡ 32 → begin.core ≡ opened begin.core.plan hart → Reaches limit shows begin now → IsOver limit now.core.state answer → EndsAsMachine limit hart begin now answer
 ends-sequentially limit shows begin now hart answer accepted wide opens h over =
     ends-level limit limit shows begin now hart answer accepted wide opens h (over-reached limit shows begin now hart accepted wide opens h) over
 
--- a run whose last place it is
+-- the same of a run whose last place is that one
 pub same_place : (limit : ℕ) (hart : Hart) (begin now new : Place) (answer : Answer) → new ≡ now → EndsAsMachine limit hart begin now answer → EndsAsMachine limit hart begin new answer
 same_place limit hart begin now new answer same e = subst (λ (p : Place). EndsAsMachine limit hart begin p answer) (sym same) e
 

@@ -69,7 +69,7 @@ calls_there cells n c p e f h =
     let P : Option Passenger → Type 0 = λ o. Where o ⊥ (λ q. instruction q ≡ Ecall) in
     subst P is h
 
--- what serving a write comes to
+-- the outcome of serving a write
 record Wrote (plan : Plan) (m : Moment) (bytes : List ℕ) : Type 0 where
   output : (next plan m Serve).output ≡ m.output ++ bytes
   count : served_count plan (next plan m Serve).state ≡ 1

@@ -1,4 +1,4 @@
--- A run is one of the sequential machine on which its processor was opened, whatever chose its moves and whatever stops it, and whether or not the input tells what it has left.
+-- A run is a run of the sequential machine on which its processor was opened, whatever chose its moves and whatever stops it, and whether or not the input tells what it has left.
 use Rattle.std.proofs.Common.{◌≡◌, ℕ, ◌+◌, List, Option, Some, None, refl, sym, ap, subst, ◌∙◌, length}
 use Rattle.cf_asked.specs.declared.show.Show.{Show}
 use Rattle.rv_machine.specs.Hart.{Hart}
@@ -61,7 +61,7 @@ pub opened_regs : (core : Processor) (plan : Plan) (hart : Hart) → core ≡ op
 unfolding opened opened_on
 opened_regs core plan hart is = ap (λ (p : Processor). p.state.regs) is
 
--- a run that came to some place is one of that machine
+-- a run that reached some place is a run of that machine
 runs_over : (limit : ℕ) (shows : Show) (hart : Hart) (begin new : Place) (moves : List Move) (answer : Scripted) → IsAccepted begin.core.plan → length hart.regs ≡ 32 → begin.core ≡ opened begin.core.plan hart
     → ComesTo limit shows begin moves new answer → RunsOver begin.streams.input shows hart moves begin new answer
 runs_over limit shows hart begin new moves answer accepted wide opens c = over begin.streams.input refl

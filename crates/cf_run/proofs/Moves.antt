@@ -58,7 +58,7 @@ pub turned-made : (limit : ℕ) (show : Show) (now new : Stand) (line : ℕ) (mv
 unfolding DoesLine
 turned-made limit show now new line mv event goes next left does = record { goes = goes; line = line; move = mv; next = next; script = left; does = (event, does) }
 
--- and one whose move stops the run
+-- and a turn whose move stops the run
 pub turned-stopped : (limit : ℕ) (show : Show) (now new : Stand) (line : ℕ) (mv : Move) (answer : Answer) → GoesOn limit now.place.core.state → next_of now.script ≡ Ok (Some (line, mv)) → new.script ≡ behind_next now.script → Does show mv now.place new.place (Err answer) → Stops limit show now new (Ran answer)
 unfolding Stops DoesLine Does
 turned-stopped limit show now new line mv ran.ReadFault goes next left does = record { goes = goes; line = line; move = mv; next = next; script = left; does = does }

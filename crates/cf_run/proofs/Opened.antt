@@ -16,7 +16,7 @@ pub opened-works : (plan : Plan) (hart : Hart) → (opened plan hart).state.fail
 unfolding opened opened_on
 opened-works plan hart = refl
 
--- so none that was opened has
+-- so no processor that was opened has failed
 pub opened-sound : (core : Processor) → IsOpened core → core.state.failed ≡ false
 opened-sound core o = ap (λ (p : Processor). p.state.failed) o.is ∙ opened-works core.plan o.hart
 

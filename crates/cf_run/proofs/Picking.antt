@@ -1,4 +1,4 @@
--- The picks of a policy are a run under the hold rule: each is allowed, and while the candidates are held none is an Issue unless no other move is allowed.
+-- The picks of a policy are a run under the hold rule: each is allowed, and while the candidates are held no pick is an Issue unless no other move is allowed.
 use Rattle.std.proofs.Common.{◌≡◌, ℕ, List, [], ◌∷◌, ◌++◌, Option, Some, true, refl, sym, subst}
 use Rattle.rv_machine.specs.Machine.{Machine}
 use Rattle.cf_layout.specs.Accepted.{IsAccepted}
@@ -21,7 +21,7 @@ use Rattle.cf_run.specs.Made.{Made, moves_of}
 use Rattle.cf_run.specs.Going.{Leads}
 use Rattle.cf_run.specs.Policies.{Chooser, choice, behind_choice, offered_to, Picks}
 
--- one pick more
+-- one more pick
 pub picks-more : {P : Type 0} (picked : P → List Move → ℕ) (onward : P → List Move → P) (plan : Plan) (limit : ℕ) (told : Option (List ℕ)) (m : Moment) (trace : List Made) (last : Moment) (at now : Chooser P) (made : Made) → Leads plan limit told m trace last → Picks picked onward plan at m.state trace now → choice picked plan now last.state ≡ Some made.move
     → Picks picked onward plan at m.state (trace ++ made ∷ []) (behind_choice onward plan now last.state made)
 unfolding Leads Picks
@@ -37,7 +37,7 @@ picks-more {P} picked onward plan limit told m (first ∷ trace) last at now mad
     let more : Picks picked onward plan on t.state (trace ++ made ∷ []) (behind_choice onward plan now last.state made) = picks-more picked onward plan limit told t trace last on now made leads there next_is in
     (pick, subst (λ (s : State). Picks picked onward plan on s (trace ++ made ∷ []) (behind_choice onward plan now last.state made)) (sym is.state) more)
 
--- a run of picks from a moment at which what every move keeps holds is one under the hold rule
+-- a run of picks from a moment at which what every move keeps holds is a run under the hold rule
 pub picks-paced : {P : Type 0} (picked : P → List Move → ℕ) (onward : P → List Move → P) (plan : Plan) (limit : ℕ) (told : Option (List ℕ)) (x : Machine) (before : List Line) (m : Moment) (trace : List Made) (last : Moment) (at now : Chooser P) → IsAccepted plan → HoldsAnew plan x before m → Leads plan limit told m trace last → Picks picked onward plan at m.state trace now
     → (written : List Line) × PacesTo plan at.count m (moves_of trace) last written
 unfolding Leads Picks PacesTo

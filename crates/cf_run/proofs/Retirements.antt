@@ -26,13 +26,13 @@ use Rattle.cf_run.specs.Made.{Made, moves_of, retirement, shown, all_shown}
 use Rattle.cf_run.specs.Going.{IsMade, Leads}
 use Rattle.cf_run.specs.Headline.{AreTexts}
 
--- no instruction retires with the move, and none is told
+-- no instruction retires with the move, and its event tells of none
 record Keeps (plan : Plan) (m : Moment) (mv : Move) (e : Event) : Type 0 where
   lines : retires plan m.state mv ≡ []
   text : (k : ℕ) → retirement k e ≡ []
   count : (next plan m mv).state.retired ≡ m.state.retired
 
--- one retires with it, and is told
+-- an instruction retires with it, and its event tells which
 record Retires (plan : Plan) (m : Moment) (mv : Move) (e : Event) : Type 0 where
   line : Line
   shown : Retired
@@ -134,7 +134,7 @@ ended-kept plan m mv e end free is ended = of (tells plan m mv e free is)
     of (inl h) = h.count
     of (inr h) = absurd (let none : Some end ≡ None = sym ended ∙ h.ending ∙ going plan m.state mv free in cc)
 
--- the texts of a move's lines and of those behind it
+-- the texts of a move's lines and of those after it
 joined : (plan : Plan) (m : Moment) (mv : Move) (e : Event) (k : ℕ) (more : List Line) (text : List ℕ) → Tells plan m mv e → k ≡ (next plan m mv).state.retired → AreTexts ((next plan m mv).state.retired + 1) more text
     → AreTexts (m.state.retired + 1) (retires plan m.state mv ++ more) (retirement k e ++ text)
 joined plan m mv e k more text (inl h) same texts =
@@ -143,7 +143,7 @@ joined plan m mv e k more text (inr h) same texts =
     let number : k ≡ m.state.retired + 1 = same ∙ h.count in
     rw (h.lines, h.text k, number) (h.shown, text, h.shows, refl, subst (λ (n : ℕ). AreTexts (n + 1) more text) h.count texts)
 
--- so it is of a move that was made
+-- the same of a move that was made
 pub made-texts : (plan : Plan) (limit : ℕ) (m : Moment) (made : Made) (more : List Line) (text : List ℕ) → IsMade plan limit m made → AreTexts ((next plan m made.move).state.retired + 1) more text
     → AreTexts (m.state.retired + 1) (retires plan m.state made.move ++ more) (retirement made.state.retired made.event ++ text)
 made-texts plan limit m made more text is texts =

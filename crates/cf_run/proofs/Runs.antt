@@ -1,4 +1,4 @@
--- A run so far, and one move more.
+-- A run so far, and one more move.
 use Rattle.std.proofs.Common.{◌≡◌, ℕ, zero, suc, ◌+◌, ◌<◌, ◌≤◌, ◌^◌, List, [], ◌∷◌, ◌++◌, length, map, take, drop, Bool, true, false, Option, Some, None, Ok, refl, ap, sym, subst, ◌∙◌, append-nil, append_assoc, add-one, arith}
 use Rattle.std.specs.Prelude.{count_by, unwrap_or}
 use Rattle.std.proofs.lemmas.List.{length-append}
@@ -28,7 +28,7 @@ use Rattle.cf_run.specs.Reaching.{no_tally, Reaches}
 use Rattle.cf_run.specs.Scripts.{Stand, Follows, DoesLine, Tries}
 use Rattle.cf_run.proofs.Behind.{next-behind, next-retired}
 
--- one move more
+-- one more move
 leads-more : (plan : Plan) (limit : ℕ) (told : Option (List ℕ)) (m : Moment) (trace : List Made) (last : Moment) (rest : List ℕ) (made : Made) → Leads plan limit told m trace last → Finds told last.rest rest → IsMade plan limit (record last { rest = rest }) made
     → Leads plan limit told m (trace ++ made ∷ []) (next plan (record last { rest = rest }) made.move)
 unfolding Leads
@@ -87,7 +87,7 @@ finds-rest (Some told) between left rest h k =
     let P : Option (List ℕ) → Type 0 = λ o. IsTold o rest in
     subst P h k
 
--- the moment behind it, where something was written before
+-- the moment after it, where something was written before
 next-moment : (plan : Plan) (last : Moment) (mv : Move) (rest later added : List ℕ) (s : State) → next plan (record { state = last.state; rest = rest; output = [] }) mv ≡ record { state = s; rest = later; output = added }
     → next plan (record last { rest = rest }) mv ≡ record { state = s; rest = later; output = last.output ++ added }
 next-moment plan last mv rest later added s is =
@@ -147,7 +147,7 @@ dropped-more moves zero = refl
 dropped-more [] (suc n) = refl
 dropped-more (first ∷ moves) (suc n) = dropped-more moves n
 
--- the count of one move more
+-- the count of one more move
 raised-by : (b : Bool) (n : ℕ) → n + count_by (λ (c : Bool). c) (b ∷ []) ≡ raised_if b n
 raised-by true n = omega arith
 raised-by false n = omega arith
@@ -160,7 +160,7 @@ unfolding tally_of
 tally-more trace made =
     rw (length-more trace made, count-more (λ made. is_meeting made.move) trace made, count-more (λ made. is_killed made.event) trace made, count-more (λ made. is_died made.event) trace made) refl
 
--- what is shown of one move more
+-- what is shown of one more move
 shown-more : (show : Show) (plan : Plan) (n k : ℕ) (trace : List Made) (made : Made) → k ≡ n + length trace → all_shown show plan n (trace ++ made ∷ []) ≡ all_shown show plan n trace ++ shown show plan k made
 unfolding all_shown
 shown-more show plan n k [] made e = let same : k ≡ n = omega arith in rw same (append-nil (shown show plan n made))
@@ -173,7 +173,7 @@ moves-counted : (trace : List Made) (now new : Tally) (mv : Move) (e : Event) �
 unfolding tally_of
 moves-counted trace now new mv e same counts = rw (counts, same) (omega arith)
 
--- one move more
+-- one more move
 pub reached-more : (limit : ℕ) (show : Show) (start now new : Place) (mv : Move) (e : Event) → Reaches limit show start now → now.core.state.retired < limit → MakesAndShows show mv e now new → Reaches limit show start new
 reached-more limit show start now new mv e h below d =
     let o : MakesOne mv e now new = d.makes in

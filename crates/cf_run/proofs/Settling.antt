@@ -40,7 +40,7 @@ kept-run plan x moves accepted wide allowed = record {
   tidy = tidy_run plan (start plan x) moves allowed (tidy_opened plan x);
 }
 
--- and after one move more
+-- and after one more move
 kept-next : (plan : Plan) (x : Machine) (m : Moment) (mv : Move) → Suits plan → IsKept plan x m → bar plan m.state mv ≡ None → IsKept plan x (next plan m mv)
 kept-next plan x m mv suits k free = record { held = kept plan x m mv suits free k.held; tidy = tidy_next plan m mv free k.tidy }
 
@@ -82,12 +82,12 @@ shaped plan x m k unended =
     let s : Sound plan m.state m.rest m.output k.held.machine = subst (HoldsAt plan m.state m.rest m.output k.held.machine) unended k.held.stage in
     record { cells = s.size; sidings = s.moored.berths }
 
--- a moment that cannot be left but by Issue is its own end
+-- a moment that cannot be left except by Issue is its own end
 here : (plan : Plan) (m : Moment) → IsStuck plan m.state → Drains plan m m
 unfolding IsRun run
 here plan m stuck = record { moves = []; allowed = tt; held = refl; is = refl; stuck = stuck }
 
--- what drains behind a move drains before it
+-- what drains after a move drains before it
 before : (plan : Plan) (m t : Moment) (mv : Move) → is_issue mv ≡ false → bar plan m.state mv ≡ None → Drains plan (next plan m mv) t → Drains plan m t
 unfolding IsRun run
 before plan m t mv other free d = record { moves = mv ∷ d.moves; allowed = (free, d.allowed); held = rw (other, d.held) refl; is = d.is; stuck = d.stuck }
@@ -99,7 +99,7 @@ lighter plan x m mv suits k other free =
     let none : moves_per_issue plan * counts (is_issue mv) 1 ≡ 0 = rw other (omega arith) in
     omega (arith, cost, none)
 
--- a moment drains where each that a move other than Issue leads to does
+-- a moment drains where every moment to which a move other than Issue leads does
 drains_behind : (plan : Plan) (x : Machine) (m : Moment) → IsKept plan x m → ((mv : Move) → is_issue mv ≡ false → bar plan m.state mv ≡ None → (t : Moment) × Drains plan (next plan m mv) t) → (t : Moment) × Drains plan m t
 drains_behind plan x m k deeper = of m.state.ending refl
   where
@@ -114,13 +114,13 @@ drains_behind plan x m k deeper = of m.state.ending refl
     of None e = on_moves (other_moves (candidates plan m.state)) refl (shaped plan x m k e)
     of (Some end) e = (m, here plan m (ended_stuck plan m.state end e))
 
--- of a weight within n
+-- where the weight is at most n
 drains_within : (n : ℕ) (plan : Plan) (x : Machine) (m : Moment) → Suits plan → IsKept plan x m → weight plan m.state ≤ n → (t : Moment) × Drains plan m t
 drains_within zero plan x m suits k light = drains_behind plan x m k (λ mv other free. absurd (omega (arith, light, lighter plan x m mv suits k other free)))
 drains_within (suc n) plan x m suits k light = drains_behind plan x m k (λ mv other free.
     drains_within n plan x (next plan m mv) suits (kept-next plan x m mv suits k free) (omega (arith, light, lighter plan x m mv suits k other free)))
 
--- how a run ends that cannot be extended
+-- how a run that cannot be extended ends
 ends : (plan : Plan) (x : Machine) (m t : Moment) → Suits plan → IsKept plan x m → m.state.ending ≡ None → Drains plan m t → EndsAs plan x m t
 ends plan x m t suits k unended d = ends_as plan x m t suits k.tidy k.held unended d
 

@@ -1,4 +1,4 @@
--- A count that stops where the candidates are held tells the same of them.
+-- A count that stops where the candidates are held says the same of them.
 use Rattle.std.proofs.Common.{◌≡◌, ℕ, ◌+◌, ◌*◌, Bool, true, false, refl, ap, min, nat_le, arith}
 use Rattle.std.proofs.lemmas.Bool.Decides.{nat_tests}
 use Rattle.std.specs.Prelude.{◌||◌, if◌then◌else◌}

@@ -1,4 +1,4 @@
--- How a run stops, at whatever moment it has come to.
+-- How a run stops, at whatever moment it has reached.
 use Rattle.std.proofs.Common.{◌≡◌, ℕ, ◌<◌, List, [], ◌∷◌, ◌++◌, Option, Some, None, Err, true, arith, refl, sym, ap, subst, ◌∙◌, take, append_assoc}
 use Rattle.std.proofs.lemmas.List.{append_cancel_left}
 use Rattle.cf_asked.specs.declared.show.Show.{Show}
@@ -34,19 +34,19 @@ pub record IsStopped (shows : Show) (x : Machine) (m : Moment) (n : ℕ) (writte
   pub stops : StopsAt x m begin new answer
   pub report : ReportsLines shows n written begin new answer
 
--- whatever holds of the place that it had come to, it stopped there
+-- whatever holds of the place that it had reached, it stopped there
 abbrev StopsFrom : Show → (begin now new : Place) → Scripted → Type 0
 StopsFrom shows begin now new answer =
     (x : Machine) (m : Moment) (n : ℕ) (written : List Line) → Arrives shows x m n written begin now → IsStopped shows x m n written begin new answer
 
--- the report of a run that stopped so
+-- the report of a run that stopped in this way
 told_lines : (shows : Show) (begin new : Place) (answer : Scripted) (trace : List Made) (n : ℕ) (written : List Line) → AreTexts n written (all_shown show.Retired begin.core.plan 1 trace)
     → Gets begin.report new.report answer (all_shown shows begin.core.plan 1 trace) → ReportsLines shows n written begin new answer
 told_lines show.Retired begin new answer trace n written texts gets = (all_shown show.Retired begin.core.plan 1 trace, texts, gets)
 told_lines show.Report begin new answer trace n written texts gets = tt
 told_lines show.Moves begin new answer trace n written texts gets = (trace, texts, gets)
 
--- a run that does not go on from where it has come to
+-- a run that does not go on from where it has arrived
 stays : (shows : Show) (begin now new : Place) (answer : Scripted) → new ≡ now → ((x : Machine) (m : Moment) → StandsAt m begin new → StopsAt x m begin new answer)
     → ((text : List ℕ) → Writes begin.report new.report text → Gets begin.report new.report answer text) → StopsFrom shows begin now new answer
 stays shows begin now new answer same stops gets x m n written a =
@@ -151,7 +151,7 @@ front_whole (Some told) b c x y z h front whole =
     let same : x ++ y ≡ z = append_cancel_left told (x ++ y) z (sym (append_assoc told x y) ∙ bytes) in
     subst (WritesFront (Some told) c) same (front-again (Some told) b c x y h front)
 
--- the last move of a run whose report failed, as if that had not
+-- the last move of a run whose report failed, as if it had not failed
 pub shown_too : (shows : Show) (mv : Move) (e : Event) (now new : Place) → MakesOne mv e now new → MakesAndShows shows mv e now (record new { report = filled now.report (shown_of shows mv e now new) })
 shown_too shows mv e now new d =
     let text : List ℕ = shown_of shows mv e now new in
@@ -160,14 +160,14 @@ shown_too shows mv e now new d =
       report = fills now.report text;
     }
 
--- where a run came to at last: it made these moves, and stopped there
+-- where a run arrived in the end: it made these moves, and stopped there
 pub record ComesTo (limit : ℕ) (shows : Show) (begin : Place) (moves : List Move) (new : Place) (answer : Scripted) : Type 0 where
   pub now : Place
   pub reaches : Reaches limit shows begin now
   pub moves_are : moves_of reaches.trace ≡ moves
   pub stops : StopsFrom shows begin now new answer
 
--- a run that has come to a place and does not go on
+-- a run that has reached a place and does not go on
 pub comes_here : (limit : ℕ) (shows : Show) (begin now new : Place) (answer : Scripted) (h : Reaches limit shows begin now) → new ≡ now → ((x : Machine) (m : Moment) → StandsAt m begin new → StopsAt x m begin new answer)
     → ((text : List ℕ) → Writes begin.report new.report text → Gets begin.report new.report answer text) → ComesTo limit shows begin (moves_of h.trace) new answer
 comes_here limit shows begin now new answer h same stops gets = record {
@@ -177,7 +177,7 @@ comes_here limit shows begin now new answer h same stops gets = record {
   stops = stays shows begin now new answer same stops gets;
 }
 
--- one that is over
+-- a run that is over
 pub comes_over : (limit : ℕ) (shows : Show) (begin now new : Place) (answer : Answer) (h : Reaches limit shows begin now) → IsOver limit now.core.state answer → new ≡ now → ComesTo limit shows begin (moves_of h.trace) new (Ran answer)
 unfolding StopsAt Gets
 comes_over limit shows begin now new (ran.Exit status) h is same = comes_here limit shows begin now new (Ran (ran.Exit status)) h same (λ x m h. h) (λ text w. w)
@@ -187,7 +187,7 @@ comes_over limit shows begin now new ran.ReadFault h is same = absurd is
 comes_over limit shows begin now new ran.WriteFault h is same = absurd is
 comes_over limit shows begin now new ran.ReportFault h is same = absurd is
 
--- one whose next move the input failed
+-- a run whose next move the input failed
 pub comes_unread : (limit : ℕ) (shows : Show) (begin now new : Place) (mv : Move) (h : Reaches limit shows begin now) → Does shows mv now new (Err ran.ReadFault) → ComesTo limit shows begin (moves_of h.trace) new (Ran ran.ReadFault)
 unfolding Does
 comes_unread limit shows begin now new mv h does = record { now = now; reaches = h; moves_are = refl; stops = unread_stop shows begin now new mv does.0 does.1 }
@@ -197,7 +197,7 @@ pub comes_unwritten : (limit : ℕ) (shows : Show) (begin now new : Place) (mv :
 unfolding Does
 comes_unwritten limit shows begin now new mv accepted h does = record { now = now; reaches = h; moves_are = refl; stops = unwritten_stop shows begin now new mv accepted does.0 does.1 }
 
--- one whose report failed, behind a move that was made and counted
+-- a run whose report failed, after a move that was made and counted
 pub comes_unshown : (limit : ℕ) (shows : Show) (begin now new : Place) (mv : Move) (h : Reaches limit shows begin now) → now.core.state.retired < limit → Does shows mv now new (Err ran.ReportFault) → ComesTo limit shows begin (moves_of h.trace ++ mv ∷ []) new (Ran ran.ReportFault)
 unfolding Does StopsAt Gets
 comes_unshown limit shows begin now new mv h below (e, d) =

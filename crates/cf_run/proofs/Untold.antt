@@ -1,4 +1,4 @@
--- Where a run has come to over an input that does not tell what it has left: at a machine to which as many steps lead as have retired, each of which finds some input.
+-- Where a run has arrived over an input that does not tell what it has left: at a machine to which as many steps lead as have retired, each of which finds some input.
 use Rattle.std.proofs.Common.{◌≡◌, ℕ, zero, suc, ◌+◌, List, [], ◌∷◌, ◌++◌, Option, Some, None, refl, subst, length, ◌≤◌, arith}
 use Rattle.cf_asked.specs.declared.show.Show.{Show}
 use Rattle.cf_asked.specs.declared.show.Show.TheVariants as show
@@ -36,7 +36,7 @@ pub record LeadsAnew (plan : Plan) (m : Moment) (k : ℕ) (trace : List Made) (l
   pub leads : LeadsTo plan m (moves_of trace) last written
   pub texts : AreTexts (m.state.retired + 1) written (all_shown show.Retired plan k trace)
 
--- moves that lead so over it have such lines
+-- moves that lead to a moment over it have such lines
 pub leads-anew : (plan : Plan) (limit : ℕ) (m : Moment) (k : ℕ) (trace : List Made) (last : Moment) → Leads plan limit None m trace last → LeadsAnew plan m k trace last
 unfolding Leads LeadsTo all_shown shown
 leads-anew plan limit m k [] last h = record { written = []; leads = (h, refl); texts = refl }
@@ -65,7 +65,7 @@ untold-input (Some told) after rest none = absurd (cc)
 pub left-untold : (before after : Streams) (found rest output : List ℕ) → before.input ≡ None → Leaves before after found output → Leaves before after rest output
 left-untold before after found rest output none h = record { input = untold-input before.input after.input rest none; output = h.output }
 
--- where a run has come to over an input that does not tell
+-- where a run has arrived over an input that does not tell
 pub record ArrivesAnew (shows : Show) (hart : Hart) (begin now : Place) : Type 0 where
   pub at : Machine
   pub written : List Line
@@ -76,7 +76,7 @@ pub record ArrivesAnew (shows : Show) (hart : Hart) (begin now : Place) : Type 0
   pub bounded : (moves : List Move) (t : Moment) (more : List Line) → LeadsTo begin.core.plan last moves t more → issues moves ≡ 0 → length moves ≤ weight begin.core.plan last.state
   pub arrives : Arrives shows at last (hart.retired + 1) written begin now
 
--- so it has, by the moves that it made
+-- a run has arrived there by the moves that it made
 pub arrives-anew : (limit : ℕ) (shows : Show) (hart : Hart) (begin now : Place) → IsAccepted begin.core.plan → length hart.regs ≡ 32 → begin.core ≡ opened begin.core.plan hart → begin.streams.input ≡ None → Reaches limit shows begin now
     → ArrivesAnew shows hart begin now
 arrives-anew limit shows hart begin now accepted wide opens none h =

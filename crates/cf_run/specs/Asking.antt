@@ -1,4 +1,4 @@
--- Which moves of a run ask the input or the output: what none of them asks stays as it was ("Counterflow Pipeline Processor Architecture", 1994).
+-- Which moves of a run ask the input or the output: what no move asks stays as it was ("Counterflow Pipeline Processor Architecture", 1994).
 use Rattle.std.specs.Prelude.{◌≡◌, ◌⊎◌, ℕ, List, [], ◌∷◌, Some, Ok}
 use Rattle.cf_asked.specs.declared.show.Show.{Show}
 use Rattle.cf_layout.specs.Layout.{Plan}
@@ -12,7 +12,7 @@ use Rattle.cf_run.specs.Made.{Made}
 use Rattle.cf_run.specs.Reaching.{GoesOn}
 use Rattle.cf_run.specs.Scripts.{Stand, RunsScript}
 
--- one of these moves asks this; the first was made in that state, and each other in the one that the move before it left
+-- one of these moves asks this; the first was made in that state, and each other in the state that the move before it left
 unfoldable pub SomeAsks : (asks : Processor → Move → Type 0) → Plan → State → List Made → Type 0
 SomeAsks asks plan s [] = ⊥
 SomeAsks asks plan s (made ∷ trace) =

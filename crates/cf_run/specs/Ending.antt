@@ -24,7 +24,7 @@ abbrev pub IsAfter : Isa → Option (List ℕ) → Hart → ℕ → Machine → 
 IsAfter isa (Some rest) hart n at = after isa (machine_on hart rest) n ≡ Some at
 IsAfter isa None hart n at = (written : List Line) × GoesTo isa (machine_on hart []) n at written
 
--- the machine ends so under the limit: by its next step, below the limit; or it has come to the limit
+-- the machine ends in this way under the limit: by its next step, below the limit; or it has reached the limit
 abbrev pub Ends : Isa → ℕ → Machine → Answer → Type 0
 Ends isa limit at (ran.Exit status) = (at.hart.retired < limit) × (step isa at ≡ Exit status)
 Ends isa limit at (ran.Trap cause pc detail) = (at.hart.retired < limit) × (step isa at ≡ Trap cause pc detail)
@@ -42,7 +42,7 @@ pub record EndsAsMachine (limit : ℕ) (hart : Hart) (begin new : Place) (answer
   pub regs : new.core.state.regs ≡ at.hart.regs
   pub streams : Leaves begin.streams new.streams at.rest at.output
 
--- so it does where it ends with Exit, Trap or Limit
+-- this holds where the run ends with Exit, Trap or Limit
 abbrev pub EndsAlike : ℕ → Hart → (begin new : Place) → Scripted → Type 0
 EndsAlike limit hart begin new (Ran (ran.Exit status)) = EndsAsMachine limit hart begin new (ran.Exit status)
 EndsAlike limit hart begin new (Ran (ran.Trap cause pc detail)) = EndsAsMachine limit hart begin new (ran.Trap cause pc detail)
@@ -54,7 +54,7 @@ EndsAlike limit hart begin new ScriptEnd = Unit {0}
 EndsAlike limit hart begin new (BadScript refusal) = Unit {0}
 EndsAlike limit hart begin new (BarredAt line bar) = Unit {0}
 
--- on whatever hart the processor was opened, the run ends as the machine does that starts on it
+-- on whatever hart the processor was opened, the run ends as the machine that starts on it does
 unfoldable pub EndsSequentially : ℕ → (begin new : Place) → Scripted → Type 0
 EndsSequentially limit begin new answer =
     (plan : Plan) (hart : Hart) → begin.core ≡ opened plan hart → EndsAlike limit hart begin new answer

@@ -13,12 +13,12 @@ use Rattle.cf_run.specs.Made.{Made, moves_of}
 abbrev pub moment_of : Processor → List ℕ → Moment
 moment_of core rest = record { state = core.state; rest = rest; output = [] }
 
--- the input that a move finds: what the moves before it have left, where the input tells that, and else any
+-- the input that a move finds: what the moves before it have left, where the input tells that, and else any input
 abbrev pub Finds : Option (List ℕ) → (left rest : List ℕ) → Type 0
 Finds None left rest = Unit {0}
 Finds (Some told) left rest = rest ≡ left
 
--- the move was made at this moment: fewer instructions had retired than the limit, nothing barred it, and this was its event and the state behind it
+-- the move was made at this moment: fewer instructions had retired than the limit, nothing barred it, and this was its event and the state after it
 pub record IsMade (plan : Plan) (limit : ℕ) (m : Moment) (made : Made) : Type 0 where
   pub below : m.state.retired < limit
   pub allowed : bar plan m.state made.move ≡ None

@@ -1,4 +1,4 @@
--- The headline: a run leaves what the sequential machine leaves on which the processor was opened, whether or not the input tells what it has left, and comes to rest ("Counterflow Pipeline Processor Architecture", 1994: the order of the local actions is free).
+-- The headline: a run leaves what the sequential machine on which the processor was opened leaves, whether or not the input tells what it has left, and comes to rest ("Counterflow Pipeline Processor Architecture", 1994: the order of the local actions is free).
 use Rattle.std.specs.Prelude.{◌≡◌, ℕ, ◌+◌, ◌≤◌, List, [], ◌∷◌, ◌++◌, length, Option, Some, None}
 use Rattle.cf_asked.specs.declared.show.Show.{Show}
 use Rattle.cf_asked.specs.declared.show.Show.TheVariants as show
@@ -47,11 +47,11 @@ lines_after plan x moves = sequence (isa_of plan) x (gained x (moment_after plan
 pub record Settles (plan : Plan) (x : Machine) (m : Moment) : Type 0 where
   -- every run without Issue has at most as many moves as the weight of the state
   pub bounded : (moves : List Move) → IsRun plan m moves → issues moves ≡ 0 → length moves ≤ weight plan m.state
-  -- there is one that cannot be extended
+  -- there is a run without Issue that cannot be extended
   pub drains : (t : Moment) × Drains plan m t
-  -- where the program goes on, one that cannot be extended retires what stands on the sequential path, and ends drained there or with the program's end
+  -- where the program goes on, each such run retires what stands on the sequential path, and ends drained there or with the program's end
   pub ends : m.state.ending ≡ None → (t : Moment) → Drains plan m t → EndsAs plan x m t
-  -- any two that cannot be extended end alike
+  -- any two such runs end alike
   pub alike : (t u : Moment) → Drains plan m t → Drains plan m u → EndAlike t u
 
 -- The moves are a run of the processor from the machine. At the moment to which they lead, the retired instructions, the registers and the ending are those of the sequential machine after as many instructions, and input, output and memory are those after the instructions that were served or have passed the memory port; and from there the processor drains.
@@ -124,13 +124,13 @@ ReportsLines show.Moves n written begin new answer =
     × Gets begin.report new.report answer (all_shown show.Moves begin.core.plan 1 trace)
 ReportsLines show.Report n written begin new answer = Unit {0}
 
--- The run is one of this machine, by these moves: they are right, it stops at the moment to which they lead, and the instructions that it reports are those that the machine retires, numbered by the machine's count.
+-- The run is a run of this machine, by these moves: they are right, it stops at the moment to which they lead, and the instructions that it reports are those that the machine retires, numbered by the machine's count.
 pub record RunsAs (shows : Show) (x : Machine) (moves : List Move) (begin new : Place) (answer : Scripted) : Type 0 where
   pub right : IsRight begin.core.plan x moves
   pub stops : StopsAt x (moment_after begin.core.plan x moves) begin new answer
   pub report : ReportsLines shows (x.hart.retired + 1) (lines_after begin.core.plan x moves) begin new answer
 
--- The run is one of the machine that starts on this hart, over an input that does not tell what it has left: as many steps as have retired, each of which finds some input, lead to a machine, with these lines; and with some input left, what is seen of the moment where the run stops is what that machine does, and from there the processor drains.
+-- The run is a run of the machine that starts on this hart, over an input that does not tell what it has left: as many steps as have retired, each of which finds some input, lead to a machine, with these lines; and with some input left, what is seen of the moment where the run stops is what that machine does, and from there the processor drains.
 pub record RunsAnew (shows : Show) (hart : Hart) (begin new : Place) (answer : Scripted) : Type 0 where
   pub at : Machine
   pub written : List Line
@@ -144,12 +144,12 @@ pub record RunsAnew (shows : Show) (hart : Hart) (begin new : Place) (answer : S
   pub stops : StopsAt at last begin new answer
   pub report : ReportsLines shows (hart.retired + 1) written begin new answer
 
--- The run is one of the machine that starts on this hart with what the input tells, by these moves; where the input does not tell that, of the machine each of whose calls finds some input.
+-- The run is a run of the machine that starts on this hart with what the input tells, by these moves; where the input does not tell that, of the machine each of whose calls finds some input.
 abbrev pub RunsOver : Option (List ℕ) → Show → Hart → List Move → (begin new : Place) → Scripted → Type 0
 RunsOver (Some rest) shows hart moves begin new answer = RunsAs shows (machine_on hart rest) moves begin new answer
 RunsOver None shows hart moves begin new answer = RunsAnew shows hart begin new answer
 
--- The headline, of a run that made these moves, whatever chose them: on whatever hart the processor was opened, and whatever the input tells or does not tell, the run is one of the machine that starts on that hart.
+-- The headline, of a run that made these moves, whatever chose them: on whatever hart the processor was opened, and whatever the input tells or does not tell, the run is a run of the machine that starts on that hart.
 unfoldable pub RunsSequentially : Show → List Move → (begin new : Place) → Scripted → Type 0
 RunsSequentially shows moves begin new answer =
     (plan : Plan) (hart : Hart) → begin.core ≡ opened plan hart → RunsOver begin.streams.input shows hart moves begin new answer

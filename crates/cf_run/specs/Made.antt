@@ -67,7 +67,7 @@ pub record CanCount (tally : Tally) : Type 0 where
   pub kills : tally.kills + 1 < 2 ^ 64
   pub dead : tally.dead + 1 < 2 ^ 64
 
--- the line of an instruction that retired with a move, where so many have with it; no line of another event
+-- the line of an instruction that retired with a move, the n-th to retire; no line for another event
 abbrev pub retirement : ℕ → Event → List ℕ
 retirement n (event.Retired line) = retired_line n line
 retirement n event.Plain = []
@@ -75,14 +75,14 @@ retirement n event.Killed = []
 retirement n event.Died = []
 retirement n (event.Ended e) = []
 
--- what is shown of a move, the one of this number
+-- what is shown of the move of this number
 unfoldable pub shown : Show → Plan → ℕ → Made → List ℕ
 shown show.Report plan n made = []
 shown show.Retired plan n made = retirement made.state.retired made.event
 shown show.Moves plan n made =
     numbered_move n made.move ++ retirement made.state.retired made.event ++ picture plan made.state
 
--- what is shown of the move of this number, with its event, that left the processor so
+-- what is shown of the move of this number, with its event, that left this processor
 abbrev pub shown_behind : Show → Processor → ℕ → Move → Event → List ℕ
 shown_behind show core n mv event = shown show core.plan n (record { move = mv; event = event; state = core.state })
 

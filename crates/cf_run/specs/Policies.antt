@@ -1,4 +1,4 @@
--- What the run of a policy does: the moves that it picks from what it is offered, why it stops behind them, and what it leaves ("Counterflow Pipeline Processor Architecture", 1994: any schedule of local actions is a run).
+-- What the run of a policy does: the moves that it picks from what it is offered, why it stops after them, and what it leaves ("Counterflow Pipeline Processor Architecture", 1994: any schedule of local actions is a run).
 use Rattle.std.specs.Prelude.{◌≡◌, ◌≤◌, ◌⊎◌, ℕ, ◌+◌, ◌*◌, List, [], ◌∷◌, ◌++◌, slice_get, drop, Option, Some, None, Result, Ok, Err}
 use Rattle.cf_asked.specs.Limits.{most_limit}
 use Rattle.cf_asked.specs.declared.show.Show.{Show}
@@ -27,7 +27,7 @@ pub record IsOpened (core : Processor) : Type 0 where
   pub hart : Hart
   pub is : core ≡ opened core.plan hart
 
--- a run under a policy may begin: its limit may be asked and is not passed, and the processor was opened and has made no move since
+-- a run under a policy may begin: its limit may be asked for and is not passed, and the processor was opened and has made no move since
 pub record CanRun (limit : ℕ) (core : Processor) : Type 0 where
   pub limit_allowed : limit ≤ most_limit
   pub within : core.state.retired ≤ limit
@@ -38,7 +38,7 @@ pub record Chooser (P : Type 0) : Type 0 where
   pub policy : P
   pub count : ℕ
 
--- the policy with so many counted
+-- the policy with this many counted
 abbrev pub chooser : {P : Type 0} → P → ℕ → Chooser P
 chooser policy count = record { policy = policy; count = count }
 
@@ -54,21 +54,21 @@ offered_to plan at s = offered plan at.count s
 abbrev pub choice : {P : Type 0} → (picked : P → List Move → ℕ) → Plan → Chooser P → State → Option Move
 choice picked plan at s = slice_get (offered_to plan at s) (picked at.policy (offered_to plan at s))
 
--- what it is behind that pick, with the move that was made counted
+-- what it is after that pick, with the move that was made counted
 abbrev pub behind_choice : {P : Type 0} → (onward : P → List Move → P) → Plan → Chooser P → State → Made → Chooser P
 behind_choice onward plan at s made = record {
   policy = onward at.policy (offered_to plan at s);
   count = paced at.count made.move made.event (is_drained made.state);
 }
 
--- the moves are, one behind the other, the picks of the policy, the first of them in that state; and lead it on to the last
+-- the moves are, one after the other, the picks of the policy, the first of them in that state; and they lead it on to the last
 unfoldable pub Picks : {P : Type 0} → (picked : P → List Move → ℕ) → (onward : P → List Move → P) → Plan → Chooser P → State → List Made → Chooser P → Type 0
 Picks picked onward plan at s [] last = last ≡ at
 Picks picked onward plan at s (made ∷ trace) last =
     (choice picked plan at s ≡ Some made.move)
     × Picks picked onward plan (behind_choice onward plan at s made) made.state trace last
 
--- a policy may be told by the list of its picks: the first of them, and those behind it
+-- a policy may be given by the list of its picks: the first of them, and those after it
 abbrev pub first_pick : List ℕ → List Move → ℕ
 first_pick [] moves = 0
 first_pick (place ∷ places) moves = place
@@ -92,7 +92,7 @@ pub record Chooses {P : Type 0} (picked : P → List Move → ℕ) (onward : P �
   pub later_is : later ≡ onward at.policy (offered_to now.core.plan at now.core.state)
   pub does : Does show move now new (Err answer)
 
--- the run stops here: it is over, and all stays; or the next move that the policy picks is the last that it comes to
+-- the run stops here: it is over, and all stays; or the next move that the policy picks is the last that it tries
 abbrev pub StopsPolicy : {P : Type 0} → (picked : P → List Move → ℕ) → (onward : P → List Move → P) → ℕ → Show → Chooser P → (now new : Place) → P → Answer → Type 0
 StopsPolicy picked onward limit show at now new later (ran.Exit status) = IsOver limit now.core.state (ran.Exit status) × (new ≡ now) × (later ≡ at.policy)
 StopsPolicy picked onward limit show at now new later (ran.Trap cause pc detail) = IsOver limit now.core.state (ran.Trap cause pc detail) × (new ≡ now) × (later ≡ at.policy)
@@ -112,7 +112,7 @@ abbrev pub PolicyTurns : {P : Type 0} → (picked : P → List Move → ℕ) →
 PolicyTurns picked onward limit show now new at later None = Turned picked onward limit show now new at later
 PolicyTurns picked onward limit show now new at later (Some answer) = StopsPolicy picked onward limit show at now new later.policy answer
 
--- the last move, where the report failed behind it
+-- the last move, where the report failed after it
 abbrev pub made_last : {P : Type 0} → (picked : P → List Move → ℕ) → (onward : P → List Move → P) → (limit : ℕ) → (show : Show) → (at : Chooser P) → (now new : Place) → (later : P) → (answer : Answer) → StopsPolicy picked onward limit show at now new later answer → List Move
 made_last picked onward limit show at now new later (ran.Exit status) stops = []
 made_last picked onward limit show at now new later (ran.Trap cause pc detail) stops = []
@@ -121,7 +121,7 @@ made_last picked onward limit show at now new later ran.ReadFault stops = []
 made_last picked onward limit show at now new later ran.WriteFault stops = []
 made_last picked onward limit show at now new later ran.ReportFault stops = stops.move ∷ []
 
--- the run makes these moves, the picks of the policy, and stops behind them with this answer
+-- the run makes these moves, the picks of the policy, and stops after them with this answer
 pub record RunsPolicy {P : Type 0} (picked : P → List Move → ℕ) (onward : P → List Move → P) (limit : ℕ) (show : Show) (start new : Place) (policy later : P) (moves : List Move) (answer : Answer) : Type 0 where
   pub now : Place
   pub reaches : Reaches limit show start now
@@ -130,7 +130,7 @@ pub record RunsPolicy {P : Type 0} (picked : P → List Move → ℕ) (onward : 
   pub stops : StopsPolicy picked onward limit show at now new later answer
   pub made : moves ≡ moves_of reaches.trace ++ made_last picked onward limit show at now new later answer stops
 
--- and by these moves it is one of the sequential machine
+-- and by these moves it is a run of the sequential machine
 pub record RunsRight {P : Type 0} (picked : P → List Move → ℕ) (onward : P → List Move → P) (limit : ℕ) (show : Show) (start new : Place) (policy later : P) (answer : Answer) : Type 0 where
   pub moves : List Move
   pub runs : RunsPolicy picked onward limit show start new policy later moves answer
@@ -151,7 +151,7 @@ abbrev pub report_stopped : Option Answer → Result (Unit {0}) (Unit {0})
 report_stopped (Some ran.ReportFault) = Err tt
 report_stopped answer = Ok tt
 
--- the most moves of a run under the hold rule in which so many instructions retire: 4 N K (r + 1)
+-- the most moves of a run under the hold rule in which r instructions retire: 4 N K (r + 1)
 abbrev pub most_moves : Plan → ℕ → ℕ
 most_moves plan r = 4 * plan.stages * moves_per_issue plan * (r + 1)
 

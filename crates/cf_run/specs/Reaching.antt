@@ -1,4 +1,4 @@
--- Where a run has come to: the moves that it made were counted and shown, and it goes on or is over.
+-- Where a run has arrived: the moves that it made were counted and shown, and it goes on or is over.
 use Rattle.std.specs.Prelude.{◌≡◌, ℕ, ◌<◌, List, Some, None}
 use Rattle.cf_asked.specs.declared.show.Show.{Show}
 use Rattle.cf_io.specs.Puts.{Writes}
@@ -13,11 +13,11 @@ use Rattle.cf_run.specs.Made.{Made, tally_of, all_shown}
 use Rattle.cf_run.specs.Going.{moment_of, Leads, RunsTo}
 use Rattle.cf_run.specs.Moving.{Place}
 
--- nothing was counted yet
+-- nothing has been counted yet
 abbrev pub no_tally : Tally
 no_tally = record { moves = 0; meets = 0; kills = 0; dead = 0 }
 
--- moves lead from one place to another: they were counted, and shown behind what the report told
+-- moves lead from one place to another: they were counted, and shown after what the report told
 pub record Reaches (limit : ℕ) (show : Show) (start now : Place) : Type 0 where
   -- these moves were made, from a moment whose input agrees with what is told to another
   pub trace : List Made
@@ -26,7 +26,7 @@ pub record Reaches (limit : ℕ) (show : Show) (start now : Place) : Type 0 wher
   pub last : Moment
   pub leads : Leads start.core.plan limit start.streams.input (moment_of start.core rest) trace last
   pub run : RunsTo start.core.plan start.streams.input (moment_of start.core rest) trace last
-  -- the processor is in the state of that one, and this is left of the input and was added to the output
+  -- the processor is in the state of that moment, and this is left of the input and was added to the output
   pub core : now.core ≡ in_state start.core last.state
   pub streams : Leaves start.streams now.streams last.rest last.output
   -- they are counted and shown

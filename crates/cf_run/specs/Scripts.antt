@@ -1,4 +1,4 @@
--- What the run of a script does: the moves that it makes, why it stops behind them, and what it leaves.
+-- What the run of a script does: the moves that it makes, why it stops after them, and what it leaves.
 use Rattle.std.specs.Prelude.{◌≡◌, ℕ, List, map, take, drop, length, Option, Some, None, Result, Ok, Err}
 use Rattle.cf_asked.specs.declared.show.Show.{Show}
 use Rattle.cf_bind.specs.declared.moves.Move.{Move}
@@ -13,7 +13,7 @@ use Rattle.cf_run.specs.Made.{moves_of}
 use Rattle.cf_run.specs.Moving.{Place, Does}
 use Rattle.cf_run.specs.Reaching.{Reaches, GoesOn, IsOver}
 
--- where the run of a script stands: the place that it has come to, and what is left of the script
+-- where the run of a script stands: the place that it has reached, and what is left of the script
 pub record Stand : Type 0 where
   pub place : Place
   pub script : Told
@@ -51,7 +51,7 @@ pub record Tries (limit : ℕ) (show : Show) (now new : Stand) (answer : Option 
   pub script : new.script ≡ behind_next now.script
   pub does : DoesLine show line move now.place new.place answer
 
--- the run stops here: it is over, or the script has no further move or a line that tells none, and all stays; or its next move is the last that it comes to
+-- the run stops here: it is over, or the script has no further move or a line that is no move, and all stays; or its next move is the last that it tries
 unfoldable pub Stops : ℕ → Show → (now new : Stand) → Scripted → Type 0
 Stops limit show now new ScriptEnd =
     GoesOn limit now.place.core.state × (next_of now.script ≡ Ok None) × (new ≡ now)
@@ -63,7 +63,7 @@ Stops limit show now new (Ran ran.WriteFault) = Tries limit show now new (Some (
 Stops limit show now new (Ran ran.ReportFault) = Tries limit show now new (Some (Ran ran.ReportFault))
 Stops limit show now new (Ran answer) = IsOver limit now.place.core.state answer × (new ≡ now)
 
--- the run makes the first moves of the script, and stops behind them with this answer
+-- the run makes the first moves of the script, and stops after them with this answer
 pub record RunsScript (limit : ℕ) (show : Show) (start new : Stand) (answer : Scripted) : Type 0 where
   pub now : Stand
   pub follows : Follows limit show start now

@@ -12,7 +12,7 @@ pub enum Ran {
     /// An instruction trapped.
     Trap { cause: u8, pc: u32, detail: u32 },
 
-    /// So many instructions have retired as the limit allows.
+    /// As many instructions have retired as the limit allows.
     Limit,
 
     /// The input failed in a call of the environment.
@@ -34,7 +34,7 @@ pub enum Scripted {
     /// The script has no further move.
     ScriptEnd,
 
-    /// The line that was reached tells no move.
+    /// The line that was reached is no move.
     BadScript(ScriptErr),
 
     /// The move of this line cannot be made: the bar is the first of its row in the table of moves.

@@ -20,7 +20,7 @@ ghost use Rattle.cf_run.specs.Policies.{IsOpened, Chooser, Picks, RunsPolicy, fi
 ghost use Rattle.cf_run.specs.Reaching.{GoesOn, Reaches};
 ghost use Rattle.cf_run.specs.Scripts.{Stand, RunsScript, first_moves};
 
-/// The run of a script or of a policy on an opened processor is one of the sequential machine: retired instructions,
+/// The run of a script or of a policy on an opened processor is a run of the sequential machine: retired instructions,
 /// registers and ending are those after as many instructions, input, output and memory those after the instructions that
 /// were served or have passed the memory port.
 pub fn t4_2()
@@ -46,7 +46,7 @@ pub fn t4_5()
 {}
 
 /// The run of a policy on an opened processor has at most 4 N K (r + 1) moves, where r instructions retire in it, whatever
-/// the policy picks and whatever the input tells; and until it is over a move is offered, so that it ends.
+/// the policy picks and whatever the input tells; and until it is over a move is offered, so it ends.
 pub fn t5_6()
     ensures bounded { (limit : ℕ) (show : Show) (start new : Place) (picks later : List ℕ) (moves : List Move)
         (answer : Answer) → IsAccepted start.core.plan → length start.core.state.regs ≡ 32 → IsOpened start.core →

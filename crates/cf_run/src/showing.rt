@@ -19,7 +19,7 @@ struct NumberedMove {
     event: Event,
 }
 
-/// Puts the line of an instruction that retired, the one of this number, if one did.
+/// Puts the line of the instruction that retired as the `n`th, if one did.
 fn put_retirement<R: Sink>(n: u64, event: &Event, report: &mut R) -> Result<(), Failed>
     ensures { PutsText (R.written report.old) (R.written report.new)
         (R.faults report.old) (R.faults report.new) (retirement n event.now) result }

@@ -1,4 +1,4 @@
--- The greatest time of a run is the sum of the delays of a chain of it, and no chain has a greater one.
+-- The greatest time of a run is the sum of the delays of a chain of it, and no chain has a greater sum.
 use Rattle.std.proofs.Common.{◌≡◌, ◌∙◌, refl, sym, ap, subst, ℕ, ◌+◌, ◌≤◌, ◌⊎◌, inl, inr, List, [], ◌∷◌, ◌++◌, max, Bool, true, false, cond, arith, append-nil, append_assoc}
 use Rattle.std.specs.Prelude.{filter}
 use Rattle.cf_layout.specs.Layout.{Plan}
@@ -14,7 +14,7 @@ use Rattle.cf_timed.proofs.Greatest.{where_more, where_none}
 pub shares_turned : (plan : Plan) (a b : Move) → shares plan a b ≡ true → shares plan b a ≡ true
 shares_turned plan a b e = let x = shared_place plan a b e in shared_at plan b a x.0 x.2 x.1
 
--- a part of a run, with a move more behind the run, or behind both
+-- a part of a run, with one more move after the run, or after both
 pub part_more : (part moves : List Move) (mv : Move) → ArePart part moves → ArePart part (moves ++ mv ∷ [])
 part_more [] moves mv h = tt
 part_more (p ∷ part) [] mv h = absurd h
@@ -28,7 +28,7 @@ part_last (p ∷ part) [] mv h = absurd h
 part_last (p ∷ part) (first ∷ moves) mv (inl h) = inl (h.0, part_last part moves mv h.1)
 part_last (p ∷ part) (first ∷ moves) mv (inr h) = inr (part_last (p ∷ part) moves mv h)
 
--- a chain that ends with a move, of which the next one uses a place
+-- a chain that ends with a move, and a next one that shares a place with that
 pub linked_last : (plan : Plan) (chain : List Move) (last mv : Move) → AreLinked plan (chain ++ last ∷ []) → shares plan last mv ≡ true → AreLinked plan ((chain ++ last ∷ []) ++ mv ∷ [])
 linked_last plan [] last mv h e = (e, tt)
 linked_last plan (c ∷ []) last mv h e = (h.0, (e, tt))
@@ -55,7 +55,7 @@ record EndsAt (plan : Plan) (delays : List ℕ) (moves : List Move) (mv : Move) 
   linked : AreLinked plan (front ++ mv ∷ [])
   is : sum_of_delays delays (front ++ mv ∷ []) ≡ time
 
--- there is one for each of the moves with their times
+-- there is such a chain for each of the moves with their times
 abbrev AllEnd : Plan → List ℕ → List Move → List Done → Type 0
 AllEnd plan delays moves [] = Unit {0}
 AllEnd plan delays moves (done ∷ earlier) = EndsAt plan delays moves done.move done.time × AllEnd plan delays moves earlier
@@ -65,7 +65,7 @@ all_more plan delays moves mv [] h = tt
 all_more plan delays moves mv (done ∷ earlier) h =
     (record { front = h.0.front; part = part_more (h.0.front ++ done.move ∷ []) moves mv h.0.part; linked = h.0.linked; is = h.0.is }, all_more plan delays moves mv earlier h.1)
 
--- the one that ends latest of those that pass a test, where one does
+-- the one that ends latest of those that pass a test, if any does
 record Latest (plan : Plan) (delays : List ℕ) (moves : List Move) (test : Move → Bool) (time : ℕ) : Type 0 where
   move : Move
   passes : test move ≡ true
@@ -107,7 +107,7 @@ ends_more plan delays moves earlier mv h = by (latest_of plan delays moves (shar
       is = sum_last delays [] mv ∙ ap (λ (n : ℕ). n + delay delays mv) (sum_none delays ∙ sym z);
     }
 
--- so each move of a run ends one
+-- so each move of a run ends a chain
 all_ends : (plan : Plan) (delays : List ℕ) (moves : List Move) (earlier : List Done) (rest : List Move) → AllEnd plan delays moves earlier → AllEnd plan delays (moves ++ rest) (times_behind plan delays earlier rest)
 all_ends plan delays moves earlier [] h = subst (λ (l : List Move). AllEnd plan delays l earlier) (sym (append-nil moves)) h
 all_ends plan delays moves earlier (mv ∷ rest) h =
@@ -119,7 +119,7 @@ pub always : (moves : List Done) → filter (λ done. true) moves ≡ moves
 always [] = refl
 always (done ∷ moves) = ap (λ (l : List Done). done ∷ l) (always moves)
 
--- a move more lets no greatest time fall
+-- one more move lowers no greatest time
 time_grows : (test : Done → Bool) (done : Done) (moves : List Done) → greatest_time (filter test moves) ≤ greatest_time (filter test (done ∷ moves))
 time_grows test done moves = let e = where_more test done moves in omega (arith, e)
 
@@ -134,7 +134,7 @@ own_time done moves = omega arith
 passing_time : (test : Done → Bool) (done : Done) (moves : List Done) → test done ≡ true → done.time ≤ greatest_time (filter test (done ∷ moves))
 passing_time test done moves e = let w = where_more test done moves in let z : cond (test done) done.time 0 ≡ done.time = rw e refl in omega (arith, w, z)
 
--- what a chain has come to is no later than what its next move waits for
+-- the time that a chain has reached is no later than what its next move waits for
 abbrev IsReady : Plan → List Done → ℕ → List Move → Type 0
 IsReady plan earlier s [] = Unit {0}
 IsReady plan earlier s (mv ∷ chain) = s ≤ greatest_time (before plan mv earlier)

@@ -88,7 +88,7 @@ cell_put rows k i m j t within inside = ap (λ (row : List ℕ). number_at row j
     by true e = let q : m ≡ k = grind (arith, nat_tests) in rw q (number_put (row_at rows k) i j t inside)
     by false e = refl
 
--- the time of a place behind one that was put
+-- the time of a place after one was put
 pub time_put : (c : SiteTimes) (t : ℕ) (y x : Site) → HasRoom c → IsKept y → IsKept x → time_at (put_time c t y) x ≡ cond (same_site x y) t (time_at c x)
 time_put c t (Stage i) (Stage j) room ky kx = number_put c.stages i j t (omega (arith, room.stages, ky))
 time_put c t (SidingCell k i) (SidingCell m j) room ky kx = cell_put c.cells k i m j t (omega (arith, room.sidings, ky.0)) (omega (arith, room.cells k ky.0, ky.1))
@@ -187,7 +187,7 @@ reaches f x (y ∷ ys) e = by (same_site x y) refl (reaches f x ys)
     by true s rest = let q = same_site_is x y s in rw q (omega arith)
     by false s rest = let r = rest (rw s at e) in omega (arith, r)
 
--- the time of a place behind a move more
+-- the time of a place after one more move
 place_more : (plan : Plan) (moves : List Done) (c : SiteTimes) (mv : Move) (t : ℕ) (x : Site) → HasRoom c → AreKept plan mv → IsKept x → time_at c x ≡ last_at plan moves x → (uses_place plan mv x ≡ true → last_at plan moves x ≤ t) → time_at (put_times (allowed c t) t (used plan mv)) x ≡ last_at plan (done_at mv t ∷ moves) x
 unfolding uses_place
 place_more plan moves c mv t x room kept here before_is late =
@@ -200,7 +200,7 @@ place_more plan moves c mv t x room kept here before_is late =
     by true e = let g = late e in omega (arith, g)
     by false e = omega arith
 
--- one move more has the latest time, or not
+-- one more move has the latest time, or not
 latest_more : (moves : List Done) (mv : Move) (t : ℕ) → max (greatest_time moves) t ≡ greatest_time (done_at mv t ∷ moves)
 unfolding greatest_time
 latest_more moves mv t = omega arith
@@ -213,7 +213,7 @@ no_later plan delays moves mv x e =
     let a = where_any (λ y done. uses_place plan done.move y) (used plan mv) moves in
     omega (arith, r, a)
 
--- a clock that is told a move more
+-- a clock that is told one more move
 pub follows_more : (plan : Plan) (delays : List ℕ) (moves : List Done) (c : SiteTimes) (mv : Move) → Follows plan delays moves c → AreKept plan mv → Follows plan delays (done_behind plan delays moves mv ∷ moves) (stamped c mv (time_behind plan delays moves mv))
 follows_more plan delays moves c mv h kept =
     let t : ℕ = time_behind plan delays moves mv in

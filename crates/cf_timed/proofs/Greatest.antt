@@ -8,7 +8,7 @@ use Rattle.cf_timed.specs.Times.{Done, greatest, greatest_time}
 abbrev pub greatest_where : (Done → Bool) → List Done → ℕ
 greatest_where test moves = greatest_time (filter test moves)
 
--- one move more
+-- one more move
 pub where_more : (test : Done → Bool) (done : Done) (moves : List Done) → greatest_where test (done ∷ moves) ≡ max (cond (test done) done.time 0) (greatest_where test moves)
 unfolding greatest_time
 where_more test done moves = by (test done)

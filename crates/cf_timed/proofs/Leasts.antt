@@ -8,7 +8,7 @@ use Rattle.std.proofs.lemmas.List.Sums.{list_all-from_AllPass, position_or_len_i
 use Rattle.cf_bind.specs.declared.moves.Move.{Move}
 use Rattle.cf_timed.specs.Earliest.{first_least}
 
--- the move at this place is the first whose time is no greater than a number, and that of none is less
+-- the move at this place is the first whose time is no greater than a number, and no move has a lesser time
 pub record IsLeast (time : Move → ℕ) (moves : List Move) (place least : ℕ) : Type 0 where
   pub within : place < length moves
   pub is : (d : Move) → time (get_or moves place d) ≤ least
@@ -32,7 +32,7 @@ least-of_all time moves place least d h =
     here : list_all (λ other. nat_le (time (get_or moves place d)) (time other)) moves ≡ true
     here = list_all-from_AllPass (λ other. nat_le (time (get_or moves place d)) (time other)) moves (λ k e below. let m = h.most k e below in let i = h.is d in grind (arith, nat_tests, m, i))
 
--- behind a move that is later it is still the least
+-- after a move that is later it is still the least
 behind_one : (time : Move → ℕ) (x : Move) (moves : List Move) (place least : ℕ) → least < time x → IsLeast time moves place least → IsLeast time (x ∷ moves) (suc place) least
 behind_one time x moves place least later h = record {
   within = let w = h.within in omega (arith, w);
@@ -49,7 +49,7 @@ behind_one time x moves place least later h = record {
     first zero d before = later
     first (suc k) d before = h.first k d (omega arith)
 
--- and behind some that are later
+-- and after some that are later
 pub least-behind : (time : Move → ℕ) (front moves : List Move) (place least : ℕ) → ((k : ℕ) (d : Move) → k < length front → least < time (get_or front k d)) → IsLeast time moves place least →
     IsLeast time (front ++ moves) (length front + place) least
 least-behind time [] moves place least later h = let z : 0 + place ≡ place = omega arith in rw z h
@@ -58,7 +58,7 @@ least-behind time (x ∷ front) moves place least later h =
     let e : suc (length front) + place ≡ suc (length front + place) = omega arith in
     rw e (behind_one time x (front ++ moves) (length front + place) least (later 0 x (omega arith)) r)
 
--- the first of some moves of one time, where the moves behind them are no sooner
+-- the first of some moves of one time, where the moves after them are no sooner
 pub least-front : (time : Move → ℕ) (front moves : List Move) (least : ℕ) → 0 < length front → ((k : ℕ) (d : Move) → k < length front → time (get_or front k d) ≡ least) → ((k : ℕ) (d : Move) → k < length moves → least ≤ time (get_or moves k d)) →
     IsLeast time (front ++ moves) 0 least
 least-front time [] moves least some same later = absurd (omega arith)

@@ -1,4 +1,4 @@
--- A run by the clock is one of the policy by times, and the clock was told its moves.
+-- A run by the clock is a run of the policy by times, and the clock was told its moves.
 use Rattle.std.proofs.Common.{◌≡◌, ◌≢◌, ◌∙◌, refl, sym, ap, subst, ℕ, ◌+◌, ◌-◌, ◌*◌, ◌^◌, ◌<◌, ◌≤◌, List, [], ◌∷◌, ◌++◌, length, Option, Some, None, arith, append-nil}
 use Rattle.std.specs.Prelude.{slice_get}
 use Rattle.cf_asked.specs.Limits.{most_limit}
@@ -109,7 +109,7 @@ stopped plan delays limit now new at to later ran.WriteFault e acc few count ahe
     record { picked = behind_earliest plan delays to.policy (offered_to now.core.plan to now.core.state); stops_so = fault-so plan delays limit now new at to later ran.WriteFault e acc few count ahead stops; none = refl; none_so = refl; clock_is = behind-clock at.policy (offered_to now.core.plan at now.core.state) later stops.later_is }
 stopped plan delays limit now new at to later ran.ReportFault e acc few count ahead none stops = absurd (none refl)
 
--- the run is one of the policy by times, the clock was told its moves, and this holds of them
+-- the run is a run of the policy by times, the clock was told its moves, and this holds of them
 pub record IsTimed (Holds : List Move → Type 0) (delays : List ℕ) (limit : ℕ) (begin new : Place) (answer : Answer) (clock : SiteTimes) : Type 0 where
   pub picked : List Done
   pub right : RunsRight (earliest begin.core.plan delays) (behind_earliest begin.core.plan delays) limit show.Report begin new [] picked answer
@@ -148,7 +148,7 @@ is-timed Holds delays limit begin new later answer acc wide o few small within n
       holds = holds;
     }
 
--- so a timed run is what it is to be, and this holds of its moves
+-- so a timed run is what it should be, and this holds of its moves
 pub record RunsTimedSo (Holds : List Move → Type 0) (delays : List ℕ) (limit : ℕ) (begin : Place) (core : Processor) (streams : Streams) (clock : SiteTimes) (moves : ℕ) (answer : Timed) : Type 0 where
   pub timed : RunsTimed delays limit begin core streams clock moves answer
   pub holds : Holds timed.right.moves

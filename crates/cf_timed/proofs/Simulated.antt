@@ -32,7 +32,7 @@ delay_few delays mv h = read delays (kind_place mv) (λ k d within. (h.each k d 
     read (x ∷ xs) zero h = h 0 0 (omega arith)
     read (x ∷ xs) (suc i) h = read xs i (λ k d within. h (suc k) d (omega (arith, within)))
 
--- a move is done at most its delay behind all earlier ones
+-- a move is done at most its delay after all earlier ones
 pub all_time : (done : Done) (moves : List Done) → greatest_time (done ∷ moves) ≡ max done.time (greatest_time moves)
 unfolding greatest_time
 all_time done moves = refl
@@ -54,7 +54,7 @@ pub time_few : (plan : Plan) (delays : List ℕ) (moves : List Done) (mv : Move)
 unfolding time_behind
 time_few plan delays moves mv h = let k = kept_time (λ done. shares plan mv done.move) moves in let d = delay_few delays mv h in omega (arith, k, d)
 
--- the clock was told what the policy by times has picked, and so many more moves are no later than the greatest number of 64 bits
+-- the clock was told what the policy by times has picked, and n more moves are no later than the greatest number of 64 bits
 pub record Ahead (n : ℕ) (plan : Plan) (delays : List ℕ) (p : Pending) (picked : List Done) : Type 0 where
   pub follows : Follows plan delays picked (told p)
   pub early : greatest_time picked + 1000 * n < 2 ^ 64
@@ -76,7 +76,7 @@ pub picks-same : (n : ℕ) (plan : Plan) (delays : List ℕ) (p : Pending) (pick
 unfolding pending_pick
 picks-same n plan delays p picked moves few h kept = least-same (capped (told p)) (time_behind plan delays picked) moves (each_capped n plan delays p picked moves few h kept)
 
--- and behind that the clock is told it
+-- and after that the clock is told of it
 pub ahead-more : (n : ℕ) (plan : Plan) (delays : List ℕ) (p : Pending) (picked : List Done) (moves : List Move) (mv : Move) → AreDelays delays → Ahead (suc n) plan delays p picked → AllByRecursion (AreKept plan) moves → slice_get moves (pending_pick p moves) ≡ Some mv → Ahead n plan delays (behind_pick p moves) (done_behind plan delays picked mv ∷ picked)
 unfolding told behind_pick marked
 ahead-more n plan delays p picked moves mv few h kept e =
@@ -89,7 +89,7 @@ ahead-more n plan delays p picked moves mv few h kept e =
       early = let a = all_time (done_behind plan delays picked mv) picked in omega (arith, a, g, y);
     }
 
--- the policy by times behind the move that it picks
+-- the policy by times after the move that it picks
 pub behind-earliest : (plan : Plan) (delays : List ℕ) (picked : List Done) (moves : List Move) (mv : Move) → slice_get moves (earliest plan delays picked moves) ≡ Some mv → behind_earliest plan delays picked moves ≡ done_behind plan delays picked mv ∷ picked
 behind-earliest plan delays picked moves mv e = rw e refl
 

@@ -23,16 +23,16 @@ row-past (r ∷ rows) (suc k) row past = ap (λ (l : List (List ℕ)). r ∷ l) 
 
 pub ruleset rows = (row-read, row-past)
 
--- the greatest of two lists, one behind the other
+-- the greatest of two lists, one after the other
 pub greatest-append : (xs ys : List ℕ) → greatest (xs ++ ys) ≡ max (greatest xs) (greatest ys)
 greatest-append [] ys = omega arith
 greatest-append (x ∷ xs) ys = let r = greatest-append xs ys in omega (arith, r)
 
--- one number more that passes the test, or not
+-- one more number that passes the test, or not
 pub numbers_more : (test : ℕ → Bool) (k : ℕ) → filter test (counted_from 0 (k + 1)) ≡ filter test (counted_from 0 k) ++ cond (test k) (k ∷ []) []
 numbers_more test k = ap (filter test) (counted_split 0 k 1) ∙ filter-append test (counted_from 0 k) (counted_from (0 + k) 1) ∙ ap (λ (i : ℕ). filter test (counted_from 0 k) ++ filter test (counted_from i 1)) (omega arith)
 
--- the greatest time, with one place more or without
+-- the greatest time, with one more place or without
 pub greatest_more : (c : SiteTimes) (place : ℕ → Site) (test : ℕ → Bool) (k : ℕ) → greatest (map (time_at c) (map place (filter test (counted_from 0 (k + 1))))) ≡ max (greatest (map (time_at c) (map place (filter test (counted_from 0 k))))) (cond (test k) (time_at c (place k)) 0)
 greatest_more c place test k =
     ap (λ (l : List ℕ). greatest (map (time_at c) (map place l))) (numbers_more test k)
@@ -134,7 +134,7 @@ cell_put c k i t h g Memory = h.each Memory
 cell_put c k i t h g Code = h.each Code
 cell_put c k i t h g _ = omega arith
 
--- so what is put, if it is no later than the greatest time, leaves none later
+-- so what is put, if it is no later than the greatest time, leaves no place later
 pub put_stage_within : (c : SiteTimes) (i t : ℕ) → NoneLater c → t ≤ c.latest → NoneLater (put_time c t (Stage i))
 put_stage_within c i t h g = record { each = stage_put c i t h g }
 
@@ -163,7 +163,7 @@ put_memory_within c t h g = record { each = other_put c c.lane c.fetch t c.code 
 pub put_code_within : (c : SiteTimes) (t : ℕ) → NoneLater c → t ≤ c.latest → NoneLater (put_time c t Code)
 put_code_within c t h g = record { each = other_put c c.lane c.fetch c.memory t h (h.each Lane) (h.each Fetching) (h.each Memory) g }
 
--- a later greatest time leaves none later
+-- a later greatest time leaves no place later
 pub same_times : (c : SiteTimes) (t : ℕ) (x : Site) → time_at (allowed c t) x ≡ time_at c x
 same_times c t (Stage j) = refl
 same_times c t (SidingCell k j) = refl

@@ -38,7 +38,7 @@ all_issues c (suc (suc (suc k))) d below = absurd (omega arith)
 each_issue : (c : SiteTimes) (plan : Plan) (s : State) → All (λ mv. capped c mv ≡ capped c (Issue Next)) (allowed_issues plan s)
 each_issue c plan s = All-filter (is_allowed plan s) (λ mv. capped c mv ≡ capped c (Issue Next)) (Issue Next ∷ Issue Taken ∷ Issue Wait ∷ []) (all_issues c)
 
--- none that issues is done by the time
+-- no move that issues is done by the time
 pub none_held : (c : SiteTimes) (plan : Plan) (s : State) (held : Bool) (by : ℕ) → held ≡ true → AreLater c (unheld_issues held plan s) by
 none_held c plan s true by e = λ k d below. absurd (omega arith)
 none_held c plan s false by e = absurd (cc)
@@ -55,7 +55,7 @@ none_there c plan s false by e = none (allowed_issues plan s) e
     none [] e = λ k d below. absurd (omega arith)
     none (x ∷ xs) e = absurd (cc)
 
--- one is
+-- one of them is
 pub issue_there : (c : SiteTimes) (plan : Plan) (s : State) (held : Bool) (by time : ℕ) (mv : Move) → time ≡ capped c (Issue Next) → held ≡ false → time ≤ by → Some mv ≡ slice_get (allowed_issues plan s) 0 → IsIssueBy c (unheld_issues held plan s) by (record { mv = mv; time = time })
 issue_there c plan s true by time mv e free soon at = absurd (cc)
 issue_there c plan s false by time mv e free soon at =

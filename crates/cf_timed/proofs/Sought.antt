@@ -1,4 +1,4 @@
--- What was found behind some moves that were shown: the first that has the least time.
+-- What was found after some moves were shown: the first that has the least time.
 use Rattle.std.proofs.Common.{◌≡◌, refl, sym, ap, ℕ, zero, suc, ◌+◌, ◌-◌, ◌^◌, ◌<◌, ◌≤◌, List, [], ◌∷◌, drop, fold, length, get_or, min, Bool, true, false, cond, Some, nat_eq, nat_lt, arith}
 use Rattle.std.specs.Prelude.{slice_get}
 use Rattle.std.proofs.lemmas.Bool.Decides.{nat_tests}
@@ -18,7 +18,7 @@ record Found (clock : SiteTimes) (moves : List Move) (s : Seeking) : Type 0 wher
   none : 2 ^ 64 - 1 ≤ s.time → s.place ≡ 0
   within : s.time ≤ 2 ^ 64 - 1
 
--- one move more
+-- one more move
 found-next : (clock : SiteTimes) (moves : List Move) (s : Seeking) (mv : Move) → s.shown < 2 ^ 64 - 1 → slice_get moves s.shown ≡ Some mv → Found clock moves s → Found clock moves (shown s mv)
 found-next clock moves s mv few at h = by (nat_lt (capped s.clock mv) s.time) refl
   where
@@ -98,14 +98,14 @@ found-all clock moves s few e =
     let f = found-rest clock moves (nothing clock) moves few (omega arith) refl (found-nothing clock moves) in
     (rw e (f.0), rw e (f.1))
 
--- none has a lesser time
+-- no move has a lesser time
 pub found-bound : (clock : SiteTimes) (moves : List Move) (s : Seeking) → length moves ≤ 2 ^ 64 - 1 → s ≡ fold shown (nothing clock) moves → (k : ℕ) (d : Move) → k < length moves → s.time ≤ capped clock (get_or moves k d)
 found-bound clock moves s few e k d below =
     let f = found-all clock moves s few e in
     let all = f.1 in
     (f.0).least k d (rw all below)
 
--- where one has a time below the greatest number, the first of the least is found
+-- where a move has a time below the greatest number, the first of the least is found
 pub record Reached (clock : SiteTimes) (moves : List Move) (s : Seeking) : Type 0 where
   pub least : IsLeast (capped clock) moves s.place s.time
   pub move : slice_get moves s.place ≡ Some s.move
@@ -134,7 +134,7 @@ found-first clock moves s few e below =
     let r = found-least clock moves s few e below in
     (least-of_all (capped clock) moves s.place s.time s.move r.least, r.least.within, sym r.move)
 
--- and where none has, it is the first of all
+-- and where no move has, it is the first of all
 pub first-found : (clock : SiteTimes) (moves : List Move) (s : Seeking) → length moves ≤ 2 ^ 64 - 1 → 0 < length moves → s ≡ fold shown (nothing clock) moves → 2 ^ 64 - 1 ≤ s.time →
     0 ≡ first_least (capped clock) moves
 first-found clock moves s few some e above =

@@ -9,7 +9,7 @@ use Rattle.cf_timed.specs.Times.{Done, before, done_at, done_behind, greatest_ti
 use Rattle.cf_timed.specs.Exchanges.{KeepsTimes}
 use Rattle.cf_timed.proofs.Greatest.{where_more}
 
--- what moves wait for behind one list and behind another is the same
+-- what moves wait for after one list and after another is the same
 abbrev AreAlike : Plan → List Done → List Done → Type 0
 AreAlike plan xs ys = (mv : Move) → greatest_time (before plan mv xs) ≡ greatest_time (before plan mv ys)
 
@@ -19,12 +19,12 @@ alike_more plan done xs ys h = λ mv.
     ∙ ap (λ (n : ℕ). max (cond (shares plan mv done.move) done.time 0) n) (h mv)
     ∙ sym (where_more (λ d. shares plan mv d.move) done ys)
 
--- so the times behind them are
+-- so the times after them are the same
 time_alike : (plan : Plan) (delays : List ℕ) (xs ys : List Done) (mv : Move) → AreAlike plan xs ys → time_behind plan delays xs mv ≡ time_behind plan delays ys mv
 unfolding time_behind
 time_alike plan delays xs ys mv h = ap (λ (n : ℕ). n + delay delays mv) (h mv)
 
--- and moves behind them keep their times: they stand before both
+-- and moves after them keep their times: they come before both
 rest_alike : (plan : Plan) (delays : List ℕ) (xs ys : List Done) (rest : List Move) → AreAlike plan xs ys → (late : List Done) × (times_behind plan delays xs rest ≡ late ++ xs) × (times_behind plan delays ys rest ≡ late ++ ys)
 rest_alike plan delays xs ys [] h = ([], refl, refl)
 rest_alike plan delays xs ys (mv ∷ rest) h =
@@ -51,7 +51,7 @@ alike_turned plan a b xs = λ mv.
     let s = where_more t b xs in
     omega (arith, p, q, r, s)
 
--- a move keeps its time behind one with which it shares no place
+-- a move keeps its time after one with which it shares no place
 time_apart : (plan : Plan) (delays : List ℕ) (done : Done) (xs : List Done) (mv : Move) → shares plan mv done.move ≡ false → time_behind plan delays (done ∷ xs) mv ≡ time_behind plan delays xs mv
 unfolding time_behind
 time_apart plan delays done xs mv e = ap (λ (n : ℕ). n + delay delays mv) (where_more (λ d. shares plan mv d.move) done xs ∙ (let z : cond (shares plan mv done.move) done.time 0 ≡ 0 = rw e refl in omega (arith, z)))

@@ -1,4 +1,4 @@
--- The delays that a text tells.
+-- The delays that a text gives.
 use Rattle.std.proofs.Common.{◌≡◌, ◌∙◌, sym, ap, ℕ, List, length, map, take, Option, Some, None, Ok, All, arith}
 use Rattle.std.specs.Prelude.{IfSome, Result, unwrap_or}
 use Rattle.std.proofs.lemmas.List.{take_all}
@@ -16,7 +16,7 @@ told_at_end text rest above named none same =
     let e : Ok named ≡ lines_told 0 unnamed (text_lines text) = sym (ap (lines_told above named) (no_lines rest none)) ∙ same in
     ap (λ (o : Result (List (Option ℕ)) DelayErr). and_then o (λ told. Ok (filled told))) e
 
--- a kind that no line tells has a delay too
+-- a kind that no line gives has a delay too
 one_filled : (told : Option ℕ) → IfSome told IsDelay → IsDelay (unwrap_or told 1)
 one_filled None h = (omega arith, omega arith)
 one_filled (Some n) h = h

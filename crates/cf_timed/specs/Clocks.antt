@@ -19,7 +19,7 @@ pub record SiteTimes : Type 0 where
   pub code : ℕ
   pub latest : ℕ
 
--- no move was made yet
+-- no move has been made yet
 unfoldable pub started : Plan → List ℕ → SiteTimes
 started plan delays = record {
   plan = plan;
@@ -33,7 +33,7 @@ started plan delays = record {
   latest = 0;
 }
 
--- the number at a place of a list, and 0 where there is none
+-- the number at a place of a list, and 0 where the list has no such place
 abbrev pub number_at : List ℕ → ℕ → ℕ
 number_at numbers i = unwrap_or (slice_get numbers i) 0
 
@@ -70,7 +70,7 @@ abbrev pub put_times : SiteTimes → ℕ → List Site → SiteTimes
 put_times c t [] = c
 put_times c t (x ∷ xs) = put_times (put_time c t x) t xs
 
--- when a move is done that is made now: the greatest time of the places that it uses, and its delay
+-- when a move that is made now is done: the greatest time of the places that it uses, and its delay
 unfoldable pub finish : SiteTimes → Move → ℕ
 finish c mv = greatest (map (time_at c) (used c.plan mv)) + delay c.delays mv
 
@@ -82,22 +82,22 @@ capped c mv = min (finish c mv) (2 ^ 64 - 1)
 abbrev pub allowed : SiteTimes → ℕ → SiteTimes
 allowed c t = record c { latest = max c.latest t }
 
--- the clock behind a move that is done at this time
+-- the clock after a move that is done at this time
 abbrev pub stamped : SiteTimes → Move → ℕ → SiteTimes
 stamped c mv t = put_times (allowed c t) t (used c.plan mv)
 
--- the clock behind a move
+-- the clock after a move
 unfoldable pub made : SiteTimes → Move → SiteTimes
 made c mv = stamped c mv (finish c mv)
 
--- and behind some moves
+-- and after some moves
 abbrev pub made_all : SiteTimes → List Move → SiteTimes
 made_all c [] = c
 made_all c (mv ∷ moves) = made_all (made c mv) moves
 
 -- the clock was told these moves of a run, each with its time, in any order
 pub record Tells (plan : Plan) (delays : List ℕ) (moves : List Done) (c : SiteTimes) : Type 0 where
-  -- it is one of this layout and of these delays
+  -- it is a clock of this layout and of these delays
   pub plan_is : c.plan ≡ plan
   pub delays_are : c.delays ≡ delays
   -- its greatest time is theirs

@@ -1,4 +1,4 @@
--- What a text of delays tells (a format of this project): a kind of move and its delay a line, comments and lines without words aside.
+-- What a text of delays gives (a format of this project): one kind of move and its delay a line, apart from comments and lines without words.
 use Rattle.std.specs.Prelude.{ℕ, ◌+◌, Bool, Option, Some, None, Result, Ok, Err, List, [], ◌∷◌, length, map, drop, replicate, slice_get, slice_set, unwrap_or, ◌&&◌, nat_le, nat_lt, if◌then◌else◌}
 use Rattle.rv_text.specs.Lines.{text_lines}
 use Rattle.rv_text.specs.Numbers.{numeral}
@@ -25,15 +25,15 @@ needed e None = Err e
 unfoldable pub delay_word : List ℕ → Option ℕ
 delay_word word = on (numeral 10 4 word) None (λ n. if nat_le 1 n && nat_le n 1000 then Some n else None)
 
--- for each kind the delay that a line has told, if one has
+-- for each kind the delay that a line has given, if one has: none so far
 abbrev pub unnamed : List (Option ℕ)
 unnamed = replicate 14 None
 
--- a line has told the delay of this kind
+-- a line has given the delay of this kind
 abbrev pub is_named : List (Option ℕ) → ℕ → Bool
 is_named named place = is_some (unwrap_or (slice_get named place) None)
 
--- what some words tell beside the kinds above them: a kind that was not told yet, its delay, and nothing more
+-- what some words give besides the kinds above them: a kind that was not given yet, its delay, and nothing more
 unfoldable pub words_told : List (Option ℕ) → List (List ℕ) → Result (List (Option ℕ)) DelayKind
 words_told named words =
     and_then (needed UnknownKind (place_named (first_word words))) (λ place.
@@ -41,7 +41,7 @@ words_told named words =
     and_then (needed BadDelay (delay_word (first_word (drop 1 words)))) (λ ticks.
     if nat_lt (length words) 3 then Ok (slice_set named place (Some ticks)) else Err ExtraWords))
 
--- what a line tells
+-- what a line gives
 unfoldable pub line_told : List (Option ℕ) → List ℕ → Result (List (Option ℕ)) DelayKind
 line_told named line = if is_ascii line then words_told named (words_of line) else Err NotAscii
 
@@ -50,17 +50,17 @@ abbrev pub in_line : ℕ → Result (List (Option ℕ)) DelayKind → Result (Li
 in_line line (Ok named) = Ok named
 in_line line (Err kind) = Err (record { line = line; kind = kind })
 
--- what the lines behind so many others tell, beside the kinds that those have told; lines are counted from 1
+-- what the lines after this many others give, besides the kinds that those have given; lines are counted from 1
 abbrev pub lines_told : ℕ → List (Option ℕ) → List (List ℕ) → Result (List (Option ℕ)) DelayErr
 lines_told above named [] = Ok named
 lines_told above named (line ∷ lines) =
     if is_skipped line then lines_told (above + 1) named lines
     else and_then (in_line (above + 1) (line_told named line)) (λ more. lines_told (above + 1) more lines)
 
--- a kind that no line tells has delay 1
+-- a kind that no line gives has delay 1
 abbrev pub filled : List (Option ℕ) → List ℕ
 filled named = map (λ told. unwrap_or told 1) named
 
--- the delays that a text tells, or the first refusal
+-- the delays that a text gives, or the first refusal
 unfoldable pub delays_in : List ℕ → Result (List ℕ) DelayErr
 delays_in text = and_then (lines_told 0 unnamed (text_lines text)) (λ named. Ok (filled named))

@@ -6,7 +6,7 @@ use Rattle.cf_semantics.specs.runs.Runs.{IsRun, run}
 use Rattle.cf_semantics.specs.state.State.{Moment}
 use Rattle.cf_timed.specs.Times.{Done, done_at, times}
 
--- each move has the same time in both orders; of the times the last stands first
+-- each move has the same time in both orders; in each list of times the last comes first
 pub record KeepsTimes (plan : Plan) (delays : List ℕ) (front : List Move) (a b : Move) (rest : List Move) : Type 0 where
   pub late : List Done
   pub early : List Done

@@ -12,7 +12,7 @@ pub record Seeking : Type 0 where
   pub time : ℕ
   pub move : Move
 
--- one move more was counted
+-- one more move was counted
 abbrev pub counted : Seeking → Seeking
 counted s = record s { shown = min (s.shown + 1) (2 ^ 64 - 1) }
 
@@ -20,6 +20,6 @@ counted s = record s { shown = min (s.shown + 1) (2 ^ 64 - 1) }
 abbrev pub shown : Seeking → Move → Seeking
 shown s mv = counted (if nat_lt (capped s.clock mv) s.time then record s { place = s.shown; time = capped s.clock mv; move = mv } else s)
 
--- where none was shown yet
+-- where no move has been shown yet
 abbrev pub nothing : SiteTimes → Seeking
 nothing clock = record { clock = clock; shown = 0; place = 0; time = 2 ^ 64 - 1; move = Exit }

@@ -33,16 +33,16 @@ pub record CanBegin (limit : ℕ) (core : Processor) (clock : SiteTimes) (moves 
   pub clock_is : clock ≡ started core.plan clock.delays
   pub none_made : moves ≡ 0
 
--- the counts of the faults of the input and of the output, before and after: that of the one that failed the run rose
+-- the counts of the faults of the input and of the output, before and after: that of whichever failed the run rose
 pub record HasCauses (input input_after output output_after : ℕ) (answer : Answer) : Type 0 where
   pub of_input : HasCause input input_after (input_stopped (Some answer))
   pub of_output : HasCause output output_after (output_stopped (Some answer))
 
--- where a timed run begins, which reports nothing
+-- where a timed run, which reports nothing, begins
 abbrev pub begins : Processor → Streams → Place
 begins core streams = place_of core streams None no_tally
 
--- from there it is a run of a policy, which reports nothing and whose report does not fail; so many moves were made
+-- from there it is a run of a policy, which reports nothing and whose report does not fail; this many moves were made
 pub record RunsUnreported {P : Type 0} (picked : P → List Move → ℕ) (onward : P → List Move → P) (limit : ℕ) (begin : Place) (core : Processor) (streams : Streams) (policy later : P) (moves : ℕ) (answer : Answer) : Type 0 where
   pub tally : Tally
   pub counted : tally.moves ≡ moves
@@ -50,7 +50,7 @@ pub record RunsUnreported {P : Type 0} (picked : P → List Move → ℕ) (onwar
   pub ends : EndsSequentially limit begin (place_of core streams None tally) (Ran answer)
   pub reports : answer ≢ ran.ReportFault
 
--- from there it is a run of the policy that picks what is done first, right by the sequential machine; so many moves were made, and the clock was told just these
+-- from there it is a run of the policy that picks what is done first, right by the sequential machine; this many moves were made, and the clock was told exactly these
 pub record RunsTimed (delays : List ℕ) (limit : ℕ) (begin : Place) (core : Processor) (streams : Streams) (clock : SiteTimes) (moves : ℕ) (answer : Timed) : Type 0 where
   pub tally : Tally
   pub counted : tally.moves ≡ moves

@@ -1,4 +1,4 @@
--- Times of the moves of a run: a move begins where all earlier moves that use a place which it uses are done.
+-- Times of the moves of a run: a move begins when all earlier moves that use a place which it uses are done.
 use Rattle.std.specs.Prelude.{ℕ, ◌+◌, List, [], ◌∷◌, map, filter, max}
 use Rattle.cf_layout.specs.Layout.{Plan}
 use Rattle.cf_bind.specs.declared.moves.Move.{Move}
@@ -14,7 +14,7 @@ pub record Done : Type 0 where
 abbrev pub done_at : Move → ℕ → Done
 done_at mv time = record { move = mv; time = time }
 
--- the greatest of some numbers, and 0 where there is none
+-- the greatest of some numbers, and 0 where there are no numbers
 abbrev pub greatest : List ℕ → ℕ
 greatest [] = 0
 greatest (t ∷ ts) = max t (greatest ts)
@@ -27,19 +27,19 @@ greatest_time moves = greatest (map (λ done. done.time) moves)
 abbrev pub before : Plan → Move → List Done → List Done
 before plan mv earlier = filter (λ done. shares plan mv done.move) earlier
 
--- the time of a move behind earlier ones: the greatest time of those that use a place which it uses, and its delay
+-- the time of a move after earlier ones: the greatest time of those that use a place which it uses, and its delay
 unfoldable pub time_behind : Plan → List ℕ → List Done → Move → ℕ
 time_behind plan delays earlier mv = greatest_time (before plan mv earlier) + delay delays mv
 
--- the move behind earlier ones, with its time
+-- the move after earlier ones, with its time
 abbrev pub done_behind : Plan → List ℕ → List Done → Move → Done
 done_behind plan delays earlier mv = done_at mv (time_behind plan delays earlier mv)
 
--- the moves of a run behind earlier ones, each with its time; the last stands first
+-- the moves of a run after earlier ones, each with its time; the last comes first
 abbrev pub times_behind : Plan → List ℕ → List Done → List Move → List Done
 times_behind plan delays earlier [] = earlier
 times_behind plan delays earlier (mv ∷ moves) = times_behind plan delays (done_behind plan delays earlier mv ∷ earlier) moves
 
--- the moves of a run, each with its time; the last stands first
+-- the moves of a run, each with its time; the last comes first
 unfoldable pub times : Plan → List ℕ → List Move → List Done
 times plan delays moves = times_behind plan delays [] moves

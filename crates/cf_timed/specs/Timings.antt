@@ -1,4 +1,4 @@
--- The policy of a timed run as it is carried out: by a clock, which is told a move once it was made.
+-- The policy of a timed run as it is carried out: by a clock, which is told of a move once it was made.
 use Rattle.std.specs.Prelude.{ℕ, List, Option, slice_get}
 use Rattle.cf_bind.specs.declared.moves.Move.{Move}
 use Rattle.cf_semantics.specs.state.Options.{on}
@@ -7,12 +7,12 @@ use Rattle.cf_run.specs.declared.answer.Ran.TheVariants as ran
 use Rattle.cf_timed.specs.Clocks.{SiteTimes, capped, stamped}
 use Rattle.cf_timed.specs.Earliest.{first_least}
 
--- the clock, and the last move that was picked, if there was one, of which it was not told yet
+-- the clock, and the last move that was picked, if there was one, of which the clock has not been told yet
 pub record Pending : Type 0 where
   pub clock : SiteTimes
   pub last : Option Move
 
--- the clock behind a move, whose times stop at the greatest number of 64 bits
+-- the clock after a move, whose times stop at the greatest number of 64 bits
 unfoldable pub marked : SiteTimes → Move → SiteTimes
 marked c mv = stamped c mv (capped c mv)
 
@@ -24,11 +24,11 @@ told p = on p.last p.clock (marked p.clock)
 unfoldable pub pending_pick : Pending → List Move → ℕ
 pending_pick p moves = first_least (capped (told p)) moves
 
--- and what it is behind that
+-- and what it is after that
 unfoldable pub behind_pick : Pending → List Move → Pending
 behind_pick p moves = record { clock = told p; last = slice_get moves (pending_pick p moves) }
 
--- the clock behind the moves that were made: a fault comes at a move that was picked and not made
+-- the clock after the moves that were made: a fault occurs at a move that was picked and not made
 unfoldable pub clock_behind : Pending → Answer → SiteTimes
 clock_behind p ran.ReadFault = p.clock
 clock_behind p ran.WriteFault = p.clock

@@ -9,7 +9,7 @@ pub enum Timed {
     /// An instruction trapped.
     Trap { cause: u8, pc: u32, detail: u32 },
 
-    /// So many instructions have retired as the limit allows.
+    /// As many instructions have retired as the limit allows.
     Limit,
 
     /// The input failed in a call of the environment.

@@ -38,7 +38,7 @@ impl Model for Clock {
 }
 
 impl Clock {
-    /// No move was made yet: all times are 0.
+    /// No move has been made yet: all times are 0.
     #[tactic(auto, unfolding(crate::specs::Clocks::started))]
     pub fn new(layout: &Layout, delays: Delays) -> Clock
         ensures { result ≡ started layout.now delays }

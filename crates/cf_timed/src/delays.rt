@@ -53,7 +53,7 @@ pub fn kind_place(mv: Move) -> usize
 }
 
 impl Delays {
-    /// The delays that were told; a kind that was not has delay 1.
+    /// The delays that were given; a kind that was not given has delay 1.
     pub(crate) fn filled(told: &[Option<u32>; 14]) -> Delays
         requires { All (λ ticks. IfSome ticks IsDelay) told.now }
         ensures { result ≡ filled told.now }
@@ -65,7 +65,7 @@ impl Delays {
         Delays { ticks }
     }
 
-    /// What they are: one of each kind, from 1 to 1,000. It does nothing.
+    /// What they are: one for each kind, from 1 to 1,000. It does nothing.
     pub fn known(&self)
         ensures { AreDelays self.now }
     {

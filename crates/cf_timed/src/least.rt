@@ -44,7 +44,7 @@ impl<'a> Visitor for Least<'a> {
 }
 
 impl<'a> Least<'a> {
-    /// No move was shown yet.
+    /// No move has been shown yet.
     #[inline(always)]
     pub(crate) fn new(clock: &'a Clock) -> Least<'a>
         ensures { result ≡ nothing clock.now }
@@ -58,7 +58,7 @@ impl<'a> Least<'a> {
         }
     }
 
-    /// The one that was found, where its time is below the greatest u64.
+    /// The move that was found, where its time is below the greatest u64.
     #[inline(always)]
     pub(crate) fn due(&self) -> Option<Due>
         ensures { result ≡ due_of self.now }

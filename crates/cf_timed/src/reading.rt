@@ -23,7 +23,7 @@ fn delay_word(word: &[u8]) -> Option<u32>
     }
 }
 
-/// Takes note of what the words tell: a kind of move that no line above has told, and its delay.
+/// Takes note of what the words give: a kind of move that no line above has given, and its delay.
 #[tactic(auto, unfolding(crate::specs::DelayLines::words_told))]
 fn read_words(named: &mut [Option<u32>; 14], mut words: Words<'_>) -> Result<(), DelayKind>
     ensures told { MatchResult result (λ _. words_told named.old words.entry ≡ Ok named.new) (λ e. words_told named.old words.entry ≡ Err e) }
@@ -41,7 +41,7 @@ fn read_words(named: &mut [Option<u32>; 14], mut words: Words<'_>) -> Result<(),
     Ok(())
 }
 
-/// Takes note of what the line tells.
+/// Takes note of what the line gives.
 #[tactic(auto, unfolding(crate::specs::DelayLines::line_told))]
 fn read_line(named: &mut [Option<u32>; 14], line: &[u8]) -> Result<(), DelayKind>
     ensures told { MatchResult result (λ _. line_told named.old line.now ≡ Ok named.new) (λ e. line_told named.old line.now ≡ Err e) }
@@ -57,8 +57,8 @@ fn read_line(named: &mut [Option<u32>; 14], line: &[u8]) -> Result<(), DelayKind
 /// The greatest length of a text of delays, in bytes.
 pub const MOST_DELAYS: usize = 65_536;
 
-/// The delays that the text tells, a kind of move and its delay a line; a kind that no line tells has delay 1. Or the first
-/// line that tells no delay: the first refusal of `NotAscii`, `UnknownKind`, `KindTwice`, `BadDelay` and `ExtraWords`. A comment
+/// The delays that the text gives, a kind of move and its delay a line; a kind that no line gives has delay 1. Or the first
+/// line that gives no delay: the first refusal of `NotAscii`, `UnknownKind`, `KindTwice`, `BadDelay` and `ExtraWords`. A comment
 /// and a line without words are skipped.
 #[tactic(auto, unfolding(crate::specs::DelayLines::delays_in))]
 pub fn read_delays(text: &[u8]) -> Result<Delays, DelayErr>

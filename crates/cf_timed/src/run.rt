@@ -60,12 +60,12 @@ pub fn run_unreported<P: Policy, S: Source, K: Sink>(
     ran
 }
 
-/// Runs an opened processor by a clock that was told no move: of the candidates that any policy would be offered, the one that is done
+/// Runs an opened processor by a clock that was told of no move: of the candidates that any policy would be offered, the one that is done
 /// first is made, and the first in the order of all moves where several are. Until the program ends, as many instructions have
-/// retired as the limit allows, or a fault comes; these are looked at in this order before each move. The clock is told the moves
+/// retired as the limit allows, or a fault occurs; these are looked at in this order before each move. The clock is told the moves
 /// that were made, and their number is given. It takes no memory, and always comes to an end.
 ///
-/// `ReadFault` and `WriteFault` come only where the input, the output failed a call of the environment; the count of its faults
+/// `ReadFault` and `WriteFault` come only where the input or the output failed a call of the environment; the count of its faults
 /// rose, and that move is neither counted nor told to the clock.
 pub fn run_timed<S: Source, K: Sink>(
     core: &mut Core,
@@ -91,7 +91,7 @@ pub fn run_timed<S: Source, K: Sink>(
     timed(ran)
 }
 
-/// The clock behind the moves that were made: a fault comes at a move that was picked and not made.
+/// The clock after the moves that were made: a fault occurs at a move that was picked and not made.
 #[tactic(auto, unfolding(crate::specs::Timings::clock_behind))]
 pub fn clock_behind(timing: &Timing, ran: Ran) -> Clock
     ensures { result ≡ clock_behind timing.now ran }

@@ -16,9 +16,9 @@ use cf_index::Candidates;
 use cf_sched::{Pace, Policy};
 use std::marker::Model;
 
-/// Picks the candidate that is done first, and the first in the order of all moves where several are. The clock is told a move once
-/// the next one is to be picked, since a call of the environment may fail. It is seen as the clock and the last pick, beside which
-/// stands when that is done, in ticks.
+/// Picks the candidate that is done first, and the first in the order of all moves where several are. The clock is told of a move once
+/// the next one is to be picked, since a call of the environment may fail. It is seen as the clock and the last pick, beside which it
+/// keeps when that is done, in ticks.
 #[derive(Drop)]
 pub struct Timing {
     clock: Clock,
@@ -48,7 +48,7 @@ impl Clock {
         ensures mv { Some result.1 ≡ slice_get candidates.now result.0 }
     {
         let mut least = Least::new(self);
-        // Their number fits, so that no place is counted wrongly.
+        // Their number fits, so no place is counted wrongly.
         let _count = candidates.len();
         candidates.visit(&mut least);
         // Where no time is below the greatest, all are equal.
@@ -88,7 +88,7 @@ impl Clock {
 }
 
 impl Timing {
-    /// Nothing was picked yet.
+    /// Nothing has been picked yet.
     pub fn new(clock: Clock) -> Timing
         ensures { result ≡ record { clock = clock; last = None } }
     {
@@ -99,7 +99,7 @@ impl Timing {
         }
     }
 
-    /// The last pick, of which the clock was not told yet.
+    /// The last pick, of which the clock has not been told yet.
     #[inline(always)]
     pub fn last(&self) -> Option<Move>
         ensures { result ≡ self.now.last }

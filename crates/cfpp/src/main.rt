@@ -10,7 +10,7 @@ use std::{env, rt};
 /// The status where memory for the words was refused.
 const NO_MEMORY: u8 = 130;
 
-/// The status where the words cannot be had for another cause, as one that is not UTF-8.
+/// The status where the words cannot be had for another reason, as where one is not UTF-8.
 const NO_WORDS: u8 = 133;
 
 /// The words of the command line, without the program's own name.

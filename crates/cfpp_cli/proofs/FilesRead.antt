@@ -1,4 +1,4 @@
--- What a command answers tells which files it read.
+-- The answer of a command says which files it read.
 use Rattle.std.proofs.Common.{◌+◌, ℕ, List, [], ◌∷◌, ◌++◌, true, false, Option, Result, Ok, Err, inl, inr}
 use Rattle.cf_asked.specs.declared.show.Show.TheVariants as shows
 use Rattle.cf_words.specs.Words.{Asked, Layout, machine, run, moves, rounds, debug, time, audit, check, asm, listing, gen, help, version}
@@ -45,7 +45,7 @@ rounds-read asked before after answer report (inl r) =
 rounds-read asked before after answer report (inr r) =
     loaded-lacking asked.layout asked.program before.files after.files answer report r.lacks
 
--- of those that read one file
+-- of the commands that read one file
 check-read : (layout : Layout) (before after : FileSide) (answer : Status) (report : List ℕ) →
     AnswersCheck layout before after answer report → WereRead (layout_files layout) before.files after.files
 check-read layout before after answer report (inl w) =

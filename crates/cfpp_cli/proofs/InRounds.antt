@@ -78,7 +78,7 @@ files-clocked limit clocked.Limit = refl
 files-clocked limit clocked.ReadFault = refl
 files-clocked limit clocked.WriteFault = refl
 
--- so it does of the counts
+-- the same of the counts
 pub rounds-input : (limit : ℕ) (c : Clocked) (end : Answer) (said : Status) (before now : ℕ) → end ≡ ran_of c →
     said ≡ status_of_run limit end → HasCause before now (input_turned (Some c)) → HasCause before now (input_answered said)
 rounds-input limit c end said before now same is h = rw (is, same, input-clocked limit c) h
@@ -117,7 +117,7 @@ pub loaded-rounds : (asked : RoundsAsked) (before after : Outside) (plan : Plan)
 loaded-rounds asked before after plan hart blank full reported loaded (text, comes, puts) =
     (text, inl (record { plan = plan; hart = hart; loaded = loaded; comes = comes }), puts)
 
--- or one of them is not there
+-- or one of them is missing
 pub rounds-refused : (asked : RoundsAsked) (before after : Outside) (blank full : Report) (answer : Status)
     (text : List ℕ) (reported : Reported) → reported.status ≡ answer → RefusesRounds asked before after answer text →
     Puts blank full text reported.put → ReportsAlone (AnswersRounds asked before after) blank full reported

@@ -56,7 +56,7 @@ steps isa before next e = of (step isa before) refl e
     of (Trap cause pc detail) f g = absurd (cc)
     of (Exit status) f g = absurd (cc)
 
--- so over an input that does not tell the steps have lines
+-- so, over an input that does not tell what it has left, the steps have lines
 leads_by : (isa : Isa) (start : Machine) (n : ℕ) (at : Machine) (written : List Line) → GoesTo isa start n at written → (lines : List ℕ) × LeadsBy isa start n at lines
 unfolding GoesTo LeadsBy
 leads_by isa start zero at written (same, none) = ([], (same, refl))
@@ -69,7 +69,7 @@ reaches_by : (isa : Isa) (told : Option (List ℕ)) (hart : Hart) (n : ℕ) (at 
 reaches_by isa (Some rest) hart n at is = (lines_of isa (opening hart (Some rest)) n, (is, refl))
 reaches_by isa None hart n at (written, goes) = leads_by isa (opening hart None) n at written goes
 
--- where the machine comes to, which starts on a hart that has retired nothing
+-- a machine that is reached from a hart that has retired nothing
 record Reached (limit : ℕ) (isa : Isa) (hart : Hart) (before after : Streams) (m : Machine) : Type 0 where
   lines : List ℕ
   reaches : ReachesBy isa before.input (opening hart before.input) m.hart.retired m lines
@@ -87,7 +87,7 @@ reached limit hart begin new answer fresh e =
       streams = e.streams;
     }
 
--- the run of the machine that finishes so, with its lines not shown
+-- the run of the machine that finishes in this way, with its lines not shown
 exit_runs : (limit : ℕ) (plan : Plan) (hart : Hart) (before after : Streams) (m : Machine) (code : ℕ) → Reached limit (isa_of plan) hart before after m → (m.hart.retired < limit) × (step (isa_of plan) m ≡ Exit code) → Runs (chosen_of limit false (has_mul plan)) hart m.hart before after (ran.Exit code) []
 exit_runs limit plan hart before after m code r (below, is) = record {
   count = m.hart.retired;

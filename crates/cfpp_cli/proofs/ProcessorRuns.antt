@@ -45,7 +45,7 @@ same-report : (blank now new : Option (List ℕ)) (lines : List ℕ) → Writes 
 same-report blank now new lines put same =
     subst (λ (told : Option (List ℕ)). Writes blank told lines) (sym same) put
 
--- behind a run whose report did not fail, the report has what was shown of the moves
+-- after a run whose report did not fail, the report has what was shown of the moves
 script-shown : (limit : ℕ) (show : Show) (start new : Stand) (finish : Scripted)
     (r : RunsScript limit show start new finish) → is_report_fault finish ≡ false →
     Writes start.place.report new.place.report (all_shown show start.place.core.plan 1 r.follows.reaches.trace)
@@ -99,7 +99,7 @@ run_of limit show core last by before after blank told tally finish trace moves 
   ends = ends;
 }
 
--- the count of the report's faults stays where it did not fail in the run, and rises where it did
+-- the count of the report's faults stays where the report did not fail in the run, and rises where it did
 pub report-stays : (before now : ℕ) (finish : Scripted) → is_report_fault finish ≡ false →
     HasCause before now (report_scripted (Some finish)) → now ≡ before
 report-stays before now (Ran (ran.Exit code)) sound h = h.still
@@ -239,7 +239,7 @@ output-said limit moves ScriptEnd sound = refl
 output-said limit moves (BadScript refusal) sound = refl
 output-said limit moves (BarredAt line bar) sound = refl
 
--- so beside a run that was closed a count rose just where the answer says so
+-- so where a run was closed a count rose exactly where the answer says so
 pub closed-input : (limit : ℕ) (finish : Scripted) (last : Processor) (tally : Tally) (half full : Report)
     (result : Result Reported Failed) (before now : ℕ) → ClosesCore limit finish last tally half full result →
     HasCause before now (input_scripted (Some finish)) → Tells input_answered before now result

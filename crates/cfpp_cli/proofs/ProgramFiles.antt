@@ -41,7 +41,7 @@ ended c start last before after blank half ran.ReadFault sound runs = record { l
 ended c start last before after blank half ran.WriteFault sound runs = record { lines = runs.0; runs = runs.1; shows = runs.2 }
 ended c start last before after blank half ran.ReportFault sound runs = absurd (cc)
 
--- one whose report failed
+-- a run whose report failed
 broken : (c : Chosen) (start last : Hart) (before after : Streams) (blank half : Option (List ℕ)) (finish : Answer) →
     is_report_fault (Ran finish) ≡ true → RunsTo c start last before after blank half finish →
     BreaksOff c start last before after blank half
@@ -82,7 +82,7 @@ machine-closed c start last before after blank half full finish (Err failed) run
       (report-rose blank.faults half.faults (Ran finish) cut (rw (stopped-report finish) at cause)),
 )
 
--- a count rose just where the answer says so
+-- a count rose exactly where the answer says so
 pub machine-input : (limit : ℕ) (finish : Answer) (last : Hart) (half full : Report) (result : Result Reported Failed)
     (before now : ℕ) → ClosesMachine limit finish last half full result →
     HasCause before now (input_stopped (Some finish)) → Tells input_answered before now result
@@ -105,7 +105,7 @@ machine-files limit finish last half full result closes =
     closed-files (is_report_fault (Ran finish)) limit 0 (Ran finish) (machine_closing limit finish last.retired last.regs)
     half full result closes
 
--- what comes of a program that was run is what `machine` comes to
+-- what comes of a program that was run is the outcome of `machine`
 pub program-comes : (chosen : Chosen) (before after : Outside) (name : List ℕ) (hart : Hart)
     (blank full : Report) (result : Result Reported Failed) →
     IsProgramAt name before.files after.files hart →
@@ -118,7 +118,7 @@ program-comes chosen before after name hart blank full (Ok reported) program (sh
 program-comes chosen before after name hart blank full (Err failed) program (breaks, rose) =
     (record { start = hart; program = program; breaks = breaks }, rose)
 
--- or there was none
+-- or there was no program
 pub program-refused : (chosen : Chosen) (before after : Outside) (name : List ℕ) (blank full : Report) (answer : Status)
     (text : List ℕ) (reported : Reported) → reported.status ≡ answer → RefusesMachine name before after answer text →
     Puts blank full text reported.put → Carries (AnswersMachine name chosen before after) blank full reported

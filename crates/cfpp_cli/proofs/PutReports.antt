@@ -1,4 +1,4 @@
--- What a command comes to whose report was put, or failed.
+-- The outcome of a command whose report was put, or failed.
 use Rattle.std.proofs.Common.{◌≡◌, ℕ, List, [], ◌++◌, Bool, false, Option, Result, Ok, Err, refl, sym, ap, subst}
 use Rattle.cf_io.specs.Causes.{Rose, HasCause}
 use Rattle.cf_io.specs.declared.failed.Failed.{Failed}
@@ -76,7 +76,7 @@ pub tells-answered : (answered : Status → Result (Unit {0}) (Unit {0})) (befor
 tells-answered answered before now answer reported same cause =
     says-of-count answered before now answer reported.status same cause
 
--- of a run that was closed a count rose just where its status says so; where its report had failed, it has not fallen
+-- where a run was closed a count rose exactly where the status says so; where the report had failed, it has not fallen
 pub closed-tells : (answered : Status → Result (Unit {0}) (Unit {0})) (cut : Bool) (said : Status)
     (cause : Result (Unit {0}) (Unit {0})) (lines : List ℕ) (half full : Report) (result : Result Reported Failed)
     (before now : ℕ) → (cut ≡ false → answered said ≡ cause) → Closes cut said lines half full result →
@@ -85,7 +85,7 @@ closed-tells answered cut said cause lines half full (Ok reported) before now sa
     rw (closes.status_is, same sound) h
 closed-tells answered cut said cause lines half full (Err failed) before now same closes h = h.never_falls
 
--- a text was put behind another, or one of them failed
+-- a text was put after another, or one of them failed
 pub adds : (blank half full : Report) (text more : List ℕ) (so_far put : Result (Unit {0}) Failed) →
     Puts blank half text so_far → Adds so_far half full more put → Puts blank full (text ++ more) put
 adds blank half full text more (Ok u) put puts more_puts = puts-again (text ++ more) refl refl puts more_puts

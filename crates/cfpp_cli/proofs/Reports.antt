@@ -1,4 +1,4 @@
--- What a report has that is shown the lines of a run.
+-- What a report has where the lines of a run are shown.
 use Rattle.std.proofs.Common.{◌≡◌, ℕ, List, ◌++◌, Bool, true, false, refl}
 use Rattle.cf_io.proofs.Owing.{writes-nothing}
 use Rattle.cfpp_cli.specs.Options.{shown}

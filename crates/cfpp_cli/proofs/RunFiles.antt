@@ -23,7 +23,7 @@ use Rattle.cfpp_cli.specs.declared.tail.Tail.{Tail}
 use Rattle.cfpp_cli.specs.declared.tail.Tail.TheVariants.{Nothing}
 use Rattle.cfpp_cli.proofs.PutReports.{shows-none}
 
--- what comes of the files is what the command comes to that reads them
+-- what comes of the files is the outcome of the command that reads them
 pub run-comes : (tail : Tail) (asked : RunAsked) (before after : Outside) (plan : Plan) (hart : Hart)
     (schedule : ReadySchedule) (blank full : Report) (result : Result Reported Failed) →
     IsReady asked before.files after.files plan hart schedule →
@@ -36,7 +36,7 @@ run-comes tail asked before after plan hart schedule blank full (Ok reported) re
 run-comes tail asked before after plan hart schedule blank full (Err failed) ready (breaks, rose) =
     (record { plan = plan; hart = hart; schedule = schedule; ready = ready; comes = breaks }, rose)
 
--- or one of them is not there
+-- or one of them is missing
 pub run-refused : (tail : Tail) (asked : RunAsked) (before after : Outside) (told : Option (List ℕ)) (blank full : Report)
     (answer : Status) (text : List ℕ) (reported : Reported) → reported.status ≡ answer →
     RefusesRun asked before after answer text → Puts blank full text reported.put →
@@ -48,7 +48,7 @@ run-refused tail asked before after told blank full answer text reported same re
   shows-none blank full text reported.put puts,
 )
 
--- and of `gen` with `--run`, which reads none
+-- and of `gen` with `--run`, which reads no file
 pub drawn-comes : (number : ℕ) (plan : Plan) (hart : Hart) (before after : Streams) (blank full : Report)
     (result : Result Reported Failed) → plan ≡ plain → StartsDrawn number hart →
     Comes (ComesOf default_limit Closing Nothing plan hart (drawn_from number) before after blank.written)

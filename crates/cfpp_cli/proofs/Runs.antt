@@ -42,7 +42,7 @@ pub record Reached (c : Chosen) (start now : Hart) (t : Told) (n : ℕ) : Type 0
   pub streams : Leaves t.before t.after last.rest last.output
   pub report : Writes t.blank t.full (shown c.shows lines)
 
--- nothing is shown of no lines
+-- where there are no lines nothing is shown
 shows-nothing : (shows : Bool) (told : Option (List ℕ)) → Writes told told (shown shows [])
 shows-nothing true told = writes-nothing told
 shows-nothing false told = writes-nothing told
@@ -65,7 +65,7 @@ reached-none c start s report = record {
   report = shows-nothing c.shows report;
 }
 
--- over an input that does not tell what it has left, the machine may have any
+-- over an input that does not tell what it has left, the machine may have any rest
 leads-rest : (isa : Isa) (start m : Machine) (n : ℕ) (lines rest : List ℕ) →
     LeadsBy isa start n m lines → LeadsBy isa start n (record m { rest = rest }) lines
 unfolding LeadsBy
@@ -140,7 +140,7 @@ reaches-next isa (Some told) start m next n line lines h e = (
   rw (add-one, h.0, e) (ap (λ (z : List ℕ). z ++ retired_line next.hart.retired line) h.1),
 )
 
--- what a step adds that retires an instruction
+-- what a step that retires an instruction adds
 record Adds (c : Chosen) (start now new : Hart) (t : Told) (later : Streams) (n : ℕ)
     (line : Retired) : Type 0 where
   pub last : Machine

@@ -1,4 +1,4 @@
--- What the words came to is what the top call does.
+-- What was decided from the words is what the top call does.
 use Rattle.std.proofs.Common.{◌≡◌, ◌≤◌, ◌⊎◌, ℕ, List, false, Result, Ok, Err, refl, inl, inr}
 use Rattle.cf_io.specs.Causes.{HasCause, Rose}
 use Rattle.cf_io.specs.Puts.{Writes, WritesFront}
@@ -15,7 +15,7 @@ use Rattle.cfpp_cli.proofs.FilesRead.{answers-read, breaks-read}
 use Rattle.cli_files.specs.declared.status.Status.{Status}
 use Rattle.cli_files.specs.declared.status.Status.TheVariants as status
 
--- counts of faults rose just where the status says so
+-- counts of faults rose exactly where the status says so
 pub record HasCauses (before after : Outside) (answer : Status) : Type 0 where
   pub files : HasCause before.file_faults after.file_faults (files_answered answer)
   pub input : HasCause before.input_faults after.input_faults (input_answered answer)
@@ -27,7 +27,7 @@ Ends answer said half full closing =
     ((said ≡ answer) × Writes half.written full.written closing × (full.faults ≡ half.faults))
     ⊎ ((said ≡ status.WriteFault) × WritesFront half.written full.written closing × Rose half.faults full.faults)
 
--- the command was carried out, and its report ends so
+-- the command was carried out, and its report ends in this way
 carried-out : (words : List (List ℕ)) (s : Span) (reported : Reported) (said : Status) →
     (d : Decided words s (Ok reported)) → HasCauses s.before s.after reported.status →
     Ends reported.status said (record s.blank { written = d.comes.3.told }) s.full d.comes.1 →
@@ -58,7 +58,7 @@ top-put words s reported d causes put =
     let closes : Puts (record s.blank { written = d.comes.3.told }) s.full d.comes.1 (Ok tt) = rw put at d.comes.3.closes in
     carried-out words s reported reported.status d causes (inl (refl, closes.all, closes.cause.still))
 
--- it failed at the lines that close it
+-- the report failed at the lines that close it
 pub top-failed : {failed : Failed} (words : List (List ℕ)) (s : Span) (reported : Reported) → Decided words s (Ok reported) →
     HasCauses s.before s.after reported.status → reported.put ≡ Err failed →
     IsTop words s.before s.after s.blank s.full status.WriteFault
@@ -66,7 +66,7 @@ top-failed {failed = failed} words s reported d causes put =
     let closes : Puts (record s.blank { written = d.comes.3.told }) s.full d.comes.1 (Err failed) = rw put at d.comes.3.closes in
     carried-out words s reported status.WriteFault d causes (inr (refl, closes.front, closes.cause.rose))
 
--- it failed before
+-- the report failed before these lines
 pub top-cut : {failed : Failed} (words : List (List ℕ)) (s : Span) → Decided words s (Err failed) →
     s.after.file_faults ≡ s.before.file_faults → s.before.input_faults ≤ s.after.input_faults →
     s.before.output_faults ≤ s.after.output_faults → IsTop words s.before s.after s.blank s.full status.WriteFault
@@ -84,7 +84,7 @@ top-cut words s d files input output = record {
   });
 }
 
--- a status that says of nothing that it failed says it of neither the files nor the streams
+-- a status that says of nothing that it failed says so of neither the files nor the streams
 record SaysNone (answer : Status) : Type 0 where
   files : files_answered answer ≡ Ok tt
   input : input_answered answer ≡ Ok tt
@@ -108,7 +108,7 @@ says-none (status.BadDelays fault) h = record { files = refl; input = refl; outp
 says-none (status.BadTrace fault) h = record { files = refl; input = refl; output = refl }
 says-none status.NoMemory h = record { files = refl; input = refl; output = refl }
 
--- beside no error a count stays
+-- where there is no error a count stays
 stays : (before now : ℕ) (r : Result (Unit {0}) (Unit {0})) → r ≡ Ok tt → HasCause before now r → now ≡ before
 stays before now (Ok u) e h = h.still
 stays before now (Err u) e h = absurd (cc)
@@ -131,7 +131,7 @@ causes-of : (reading : Result Asked ℕ) (before after : Outside) (blank full : 
 causes-of reading before after blank full result c =
     record { files = c.files; input = c.input; output = c.output }
 
--- a status that says that something failed says it
+-- WriteFault says that something failed
 write-says : (result : Status) → result ≡ status.WriteFault → says_fault result ≡ false → ⊥
 write-says result is h = cc (is, h)
 

@@ -1,4 +1,4 @@
--- What the words come to.
+-- What is decided from the words.
 use Rattle.std.specs.Prelude.{ℕ, List, Result}
 use Rattle.cf_io.specs.declared.failed.Failed.{Failed}
 use Rattle.cf_words.specs.Words.{Asked}
@@ -7,7 +7,7 @@ use Rattle.cfpp_cli.specs.Top.{Reading, Answers, Breaks}
 use Rattle.cfpp_cli.specs.Passages.{Span}
 use Rattle.cfpp_cli.specs.declared.reporting.Reported.{Reported}
 
--- what the words ask was carried out, or the report failed at it
+-- what the words ask for was carried out, or the report failed while it was
 pub record Decided (words : List (List ℕ)) (s : Span) (result : Result Reported Failed) : Type 0 where
   pub reading : Result Asked ℕ
   pub reads : Reading words reading

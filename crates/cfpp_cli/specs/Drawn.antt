@@ -15,14 +15,14 @@ use Rattle.cfpp_cli.specs.Sources.{IsAssembly, IsUnassembled}
 use Rattle.cli_files.specs.declared.status.Status.{Status}
 use Rattle.cfpp_cli.specs.declared.tail.Tail.TheVariants.{Nothing}
 
--- the hart on which the program begins, whose text is assembled to a file
+-- the hart on which the program begins: its text is assembled to a file, the file is a program, and the hart is that file opened
 pub record StartsDrawn (number : ℕ) (hart : Hart) : Type 0 where
   pub file : List ℕ
   pub assembly : IsAssembly (program_text number) file
   pub program : IsProgram file
   pub begins : hart ≡ opened file
 
--- there is none: the assembler or the loader refuses the text, or memory for it was refused
+-- there is no such hart: the assembler or the loader refuses the text, or memory for it was refused
 abbrev pub IsUndrawn : ℕ → Status → List ℕ → Type 0
 IsUndrawn number answer report =
     IsUnassembled (program_text number) answer report
@@ -35,19 +35,19 @@ pub record RunsDrawn (number : ℕ) (before after : Streams) (blank : Option (Li
   pub starts : StartsDrawn number hart
   pub comes : ComesOf default_limit Report Nothing plain hart (drawn_from number) before after blank answer shown closing
 
--- it was not, and the streams were left alone
+-- it was not run, and the streams were left alone
 pub record RefusesDrawn (number : ℕ) (before after : Streams) (answer : Status) (report : List ℕ) :
     Type 0 where
   pub lacks : IsUndrawn number answer report
   pub streams : after ≡ before
 
--- the answer of `gen` with `--run` and its report, behind what the report told before
+-- the answer of `gen` with `--run` and its report, after what the report told before
 abbrev pub AnswersDrawn : ℕ → Streams → Streams → Option (List ℕ) → Status → (shown closing : List ℕ) → Type 0
 AnswersDrawn number before after blank answer shown closing =
     RunsDrawn number before after blank answer shown closing
     ⊎ RefusesDrawn number before after answer (shown ++ closing)
 
--- the report failed in the run
+-- the report failed during the run
 pub record BreaksDrawn (number : ℕ) (before after : Streams) (blank full : Option (List ℕ)) : Type 0 where
   pub hart : Hart
   pub starts : StartsDrawn number hart

@@ -1,4 +1,4 @@
--- What a command answers that reads one file and puts a text to the output, and what it leaves of the outside.
+-- The answer of a command that reads one file and puts a text to the output, and what it leaves of the outside.
 use Rattle.std.specs.Prelude.{◌≡◌, ℕ, List, [], codes, Option}
 use Rattle.cf_io.specs.Puts.{Writes, WritesFront}
 use Rattle.cf_io.specs.Reads.{Told}
@@ -25,12 +25,12 @@ pub record PutsText (text : List ℕ) (before after : Option (List ℕ)) (report
   pub put : Writes before after text
   pub reports : report ≡ []
 
--- the output failed behind a front of the text
+-- the output failed after a front of the text
 pub record FailsText (text : List ℕ) (before after : Option (List ℕ)) (report : List ℕ) : Type 0 where
   pub put : WritesFront before after text
   pub reports : report ≡ line (codes "write fault output")
 
--- the text was put to the output, or the output failed at it
+-- the text was put to the output, or the output failed while it was put
 abbrev pub PutsOrFails : List ℕ → Option (List ℕ) → Option (List ℕ) → Status → List ℕ → Type 0
 PutsOrFails text before after status.Done report = PutsText text before after report
 PutsOrFails text before after status.WriteFault report = FailsText text before after report

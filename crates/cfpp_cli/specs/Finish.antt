@@ -20,7 +20,7 @@ use Rattle.cfpp_cli.specs.Lines.{ReachesBy}
 abbrev pub opening : Hart → Option (List ℕ) → Machine
 opening hart left = record { hart = hart; rest = unwrap_or left []; output = [] }
 
--- these lines are those of n instructions: fewer than the limit, and the next one ends the program or traps; or fewer, and a stream fails the next one, as `Closes` says; or n is the limit, and none is looked at further
+-- these lines are those of n instructions: fewer than the limit, and the next one ends the program or traps; or fewer, and a stream fails the next one, as `Closes` says; or n is the limit, and no further instruction is looked at
 abbrev pub Finishes : Chosen → Option (List ℕ) → Machine → Ran → ℕ → Machine → List ℕ → Type 0
 Finishes chosen left start (ran.Exit status) n m lines =
     (n < chosen.limit) × ReachesBy chosen.isa left start n m lines
@@ -36,7 +36,7 @@ Finishes chosen left start ran.WriteFault n m lines =
     (n < chosen.limit) × ReachesBy chosen.isa left start n m lines
 Finishes chosen left start ran.ReportFault n m lines = ⊥
 
--- what the finish leaves of the hart and of what the streams tell: all, or what an environment call leaves that one of the streams failed
+-- what the finish leaves of the hart and of what the streams tell: everything, or what is left by an environment call that one of the streams failed
 abbrev pub Closes : Isa → Ran → Hart → Hart → Streams → Streams → Type 0
 Closes isa (ran.Exit status) last new before after = (new ≡ last) × (after ≡ before)
 Closes isa (ran.Trap cause pc detail) last new before after = (new ≡ last) × (after ≡ before)
@@ -48,7 +48,7 @@ Closes isa ran.WriteFault last new before after =
     CallsHere isa last × FailsWriting last.regs last.mem before after × (new ≡ last)
 Closes isa ran.ReportFault last new before after = ⊥
 
--- a run from one hart to another as it was chosen: the lines that it shows, and what it takes of the input and puts to the output
+-- a run from one hart to another with the options chosen: the lines that it shows, and what it takes from the input and puts to the output
 pub record Runs (chosen : Chosen) (start new : Hart) (before after : Streams) (finish : Ran)
     (text : List ℕ) : Type 0 where
   pub count : ℕ
@@ -61,7 +61,7 @@ pub record Runs (chosen : Chosen) (start new : Hart) (before after : Streams) (f
   pub closes : Closes chosen.isa finish last.hart new between after
   pub shows : text ≡ shown chosen.shows lines
 
--- a run that ended as the report failed at a line: the lines before it were written, and then a front of the line; the instruction of the line has retired
+-- a run that ended because the report failed at a line: the lines before it were written, and then a front of the line; the instruction of the line has retired
 pub record BreaksOff (chosen : Chosen) (start new : Hart) (before after : Streams)
     (blank full : Option (List ℕ)) : Type 0 where
   pub shows : chosen.shows ≡ true
@@ -79,7 +79,7 @@ pub record BreaksOff (chosen : Chosen) (start new : Hart) (before after : Stream
   pub put : Writes blank half lines
   pub breaks : WritesFront half full (retired_line next.hart.retired line)
 
--- the run finished so, and its lines were written; or the report failed
+-- the run finished in this way, and its lines were written; or the report failed
 abbrev pub RunsTo : Chosen → Hart → Hart → Streams → Streams → Option (List ℕ) → Option (List ℕ) → Ran → Type 0
 RunsTo chosen start new before after blank full ran.ReportFault =
     BreaksOff chosen start new before after blank full

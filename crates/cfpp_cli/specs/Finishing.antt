@@ -1,4 +1,4 @@
--- What is put behind a run that finished, and what the command comes to.
+-- What is put after a run that finished, and the outcome of the command.
 use Rattle.std.specs.Prelude.{◌≡◌, ℕ, List, Bool, true, false, Result, Ok, Err}
 use Rattle.cf_io.specs.declared.failed.Failed.{Failed}
 use Rattle.rv_machine.specs.Hart.{Hart}
@@ -14,27 +14,27 @@ use Rattle.cfpp_cli.specs.Reporting.{Puts}
 use Rattle.cfpp_cli.specs.Statuses.{status_of, status_of_run}
 use Rattle.cfpp_cli.specs.declared.reporting.Reported.{Reported}
 
--- these lines were put behind a run of this status, or a front of them
+-- these lines, or a front of them, were put after a run of this status
 pub record ClosesWith (said : Status) (lines : List ℕ) (half full : Report) (reported : Reported) : Type 0 where
   pub status_is : reported.status ≡ said
   pub puts : Puts half full lines reported.put
 
--- they were, where the report had not failed in the run; where it had, nothing more was put
+-- they were put where the report had not failed during the run; where it had, nothing more was put
 abbrev pub Closes : (cut : Bool) → Status → (lines : List ℕ) → (half full : Report) → Result Reported Failed → Type 0
 Closes cut said lines half full (Ok reported) = (cut ≡ false) × ClosesWith said lines half full reported
 Closes cut said lines half full (Err failed) = (cut ≡ true) × (full ≡ half)
 
--- behind a run of the sequential machine
+-- after a run of the sequential machine
 abbrev pub ClosesMachine : (limit : ℕ) → Answer → Hart → (half full : Report) → Result Reported Failed → Type 0
 ClosesMachine limit finish last half full result =
     Closes (is_report_fault (Ran finish)) (status_of_run limit finish) (machine_closing limit finish last.retired last.regs) half full result
 
--- behind one of the processor
+-- after a run of the processor
 abbrev pub ClosesCore : (limit : ℕ) → Scripted → Processor → Tally → (half full : Report) → Result Reported Failed → Type 0
 ClosesCore limit finish last tally half full result =
     Closes (is_report_fault finish) (status_of limit tally.moves finish) (closing limit finish last.plan last.state tally) half full result
 
--- behind one in rounds, whose report cannot have failed before
+-- after a run in rounds, whose report cannot have failed before
 abbrev pub ClosesRounds : (limit : ℕ) → Answer → (rounds : ℕ) → Processor → Tally → (half full : Report) → Reported → Type 0
 ClosesRounds limit finish rounds last tally half full reported =
     ClosesWith (status_of_run limit finish) (closing_in_rounds limit (Ran finish) rounds last.plan last.state tally) half full reported

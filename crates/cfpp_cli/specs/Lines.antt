@@ -8,13 +8,13 @@ use Rattle.rv_machine.specs.Step.{step}
 use Rattle.rv_machine.specs.After.{after, SameButInput}
 use Rattle.cf_report.specs.Lines.{retired_line}
 
--- the line of an outcome: none where nothing retired
+-- the line of an outcome: no line where nothing retired
 abbrev pub text_of : Outcome Machine → List ℕ
 text_of (Next m line) = retired_line m.hart.retired line
 text_of (Trap cause pc detail) = []
 text_of (Exit status) = []
 
--- the line of the next step of a machine that there is
+-- the line of the next step of the machine, if there is one
 abbrev pub text_from : Isa → Option Machine → List ℕ
 text_from isa None = []
 text_from isa (Some m) = text_of (step isa m)
@@ -24,7 +24,7 @@ unfoldable pub lines_of : Isa → Machine → ℕ → List ℕ
 lines_of isa start zero = []
 lines_of isa start (suc n) = lines_of isa start n ++ text_from isa (after isa start n)
 
--- n instructions with these lines lead from one machine to another, over an input that does not tell what it has left: each finds what it finds
+-- n instructions with these lines lead from one machine to another, over an input that does not tell what it has left: each finds whatever it finds
 unfoldable pub LeadsBy : Isa → Machine → ℕ → Machine → List ℕ → Type 0
 LeadsBy isa start zero m lines = SameButInput start m × (lines ≡ [])
 LeadsBy isa start (suc n) m lines =
@@ -32,7 +32,7 @@ LeadsBy isa start (suc n) m lines =
     × LeadsBy isa start n before earlier × (step isa before ≡ Next next line)
     × SameButInput next m × (lines ≡ earlier ++ text_of (Next next line))
 
--- the machine is the one after n instructions, and these are their lines, where the input tells what it has left; else such instructions lead to it
+-- the machine is the one after n instructions, and these are their lines, where the input tells what it has left; else n instructions with these lines lead to it
 abbrev pub ReachesBy : Isa → Option (List ℕ) → Machine → ℕ → Machine → List ℕ → Type 0
 ReachesBy isa (Some left) start n m lines =
     (after isa start n ≡ Some m) × (lines ≡ lines_of isa start n)

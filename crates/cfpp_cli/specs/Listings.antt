@@ -16,7 +16,7 @@ use Rattle.cli_files.specs.declared.status.Status.{Status}
 use Rattle.cli_files.specs.declared.status.Status.TheVariants as status
 use Rattle.cli_files.specs.declared.status.Which.TheVariants as which
 
--- the listing of a program file; one that does not begin as an ELF file is a flat image
+-- the listing of a program file; a file that does not begin as an ELF file is a flat image
 unfoldable pub listing_of : List ℕ → List ℕ
 listing_of image = if starts_with_elf image then elf_listing image else flat_listing image
 
@@ -25,7 +25,7 @@ pub record IsListable (image : List ℕ) : Type 0 where
   pub fits : length image ≤ most_bytes
   pub formed : starts_with_elf image ≡ true → IsElf image
 
--- why it cannot; its parts are not loaded, so that they are no cause
+-- why it cannot be listed; its parts are not loaded, so they are never the cause
 abbrev pub IsUnlistable : List ℕ → ProgramErr → Type 0
 IsUnlistable image program.TooLong = most_bytes < length image
 IsUnlistable image (program.Elf error) =
@@ -33,7 +33,7 @@ IsUnlistable image (program.Elf error) =
     × (elf_refusal image ≡ Some error)
 IsUnlistable image (program.Load error) = ⊥
 
--- what it says of an image and of the output that the listing was not put
+-- what holds of an image and of the output where the listing was not put
 abbrev pub IsNotListed : List ℕ → Option (List ℕ) → Option (List ℕ) → ListErr → Type 0
 IsNotListed image before after (err.Refused error) =
     IsUnlistable image error × (after ≡ before)
@@ -41,7 +41,7 @@ IsNotListed image before after err.NoMemory = IsListable image × (after ≡ bef
 IsNotListed image before after err.Failed =
     IsListable image × WritesFront before after (listing_of image)
 
--- the status and the report that an image comes to
+-- the status and the report for an image
 abbrev pub ListsImage : List ℕ → Option (List ℕ) → Option (List ℕ) → Status → List ℕ → Type 0
 ListsImage image before after status.Done report =
     IsListable image × PutsText (listing_of image) before after report

@@ -11,7 +11,7 @@ use Rattle.cli_files.specs.Programs.{IsProgramAt, LacksProgram}
 use Rattle.cli_files.specs.declared.status.Status.{Status}
 use Rattle.cfpp_cli.specs.Statuses.{status_of_run}
 
--- the hart was run and finished so; the status says how, these lines are shown, and these close the report
+-- the hart was run; the status says how the run finished, these lines are shown, and these close the report
 pub record RunsHart (chosen : Chosen) (start : Hart) (before after : Streams) (answer : Status)
     (lines closing : List ℕ) : Type 0 where
   pub finish : Ran
@@ -39,13 +39,13 @@ AnswersMachine name chosen before after answer shown closing =
     RunsProgram name chosen before after answer shown closing
     ⊎ RefusesMachine name before after answer (shown ++ closing)
 
--- the hart was run, and its run broke off as the report failed
+-- the hart was run, and its run broke off because the report failed
 pub record BreaksHart (chosen : Chosen) (start : Hart) (before after : Streams)
     (blank full : Option (List ℕ)) : Type 0 where
   pub last : Hart
   pub breaks : BreaksOff chosen start last before after blank full
 
--- the file holds a program, and its run broke off as the report failed at the line of an instruction that retired: nothing more was put to the report
+-- the file holds a program, and its run broke off because the report failed at the line of an instruction that retired: nothing more was put to the report
 pub record BreaksProgram (name : List ℕ) (chosen : Chosen) (before after : Outside)
     (blank full : Option (List ℕ)) : Type 0 where
   pub start : Hart

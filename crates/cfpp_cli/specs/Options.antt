@@ -3,7 +3,7 @@ use Rattle.std.specs.Prelude.{ℕ, List, [], Bool, if◌then◌else◌}
 use Rattle.rv_inst.specs.declared.isa.Isa.{Isa}
 use Rattle.rv_inst.specs.declared.isa.Isa.TheVariants.{Rv32i, Rv32im}
 
--- the instruction set, the retired instructions at which the run stops, and whether each of them is shown by a line
+-- the instruction set, the number of retired instructions at which the run stops, and whether each of them is shown by a line
 pub record Chosen : Type 0 where
   pub isa : Isa
   pub limit : ℕ

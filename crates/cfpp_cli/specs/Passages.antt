@@ -1,4 +1,4 @@
--- What the objects tell that a command is lent, as it begins and as it ends.
+-- What the objects lent to a command tell, as it begins and as it ends.
 use Rattle.std.specs.Prelude.{ℕ, List, Option}
 use Rattle.std.specs.Borrow.{MutBor}
 use Rattle.cf_io.specs.Reads.{Told}
@@ -26,7 +26,7 @@ output_left left = left.1.0.now
 abbrev pub report_left : {S K R U : Type 0} → StreamsLeft S K R U → R
 report_left left = left.1.1.0.now
 
--- what they tell, by what a source and two sinks tell, and by the count of faults of the report
+-- what they tell, given what a source and two sinks tell, and the count of faults of the report
 abbrev pub passage : {S K R U : Type 0} → (S → Option (List ℕ)) → (K → Option (List ℕ)) → (R → Option (List ℕ)) → (R → ℕ) →
     Streams S K R → StreamsLeft S K R U → Passage
 passage unread written reported faults lent left = record {
@@ -43,7 +43,7 @@ pub record Span : Type 0 where
   pub blank : Report
   pub full : Report
 
--- what the files and those three tell, by what files, a source and two sinks tell, and by their counts of faults
+-- what the files and those three tell, given what files, a source and two sinks tell, and their counts of faults
 abbrev pub span : {F S K R U : Type 0} → (F → Option Told) → (F → ℕ) → (S → Option (List ℕ)) → (S → ℕ) →
     (K → Option (List ℕ)) → (K → ℕ) → (R → Option (List ℕ)) → (R → ℕ) → F → F → Streams S K R → StreamsLeft S K R U → Span
 span told file_faults unread input_faults written output_faults reported report_faults files files_left lent left = record {

@@ -1,4 +1,4 @@
--- What a command comes to once its report was put.
+-- The outcome of a command once its report was put.
 use Rattle.std.specs.Prelude.{◌≡◌, ◌≤◌, ℕ, List, Option, Result, Ok, Err}
 use Rattle.cf_io.specs.Causes.{Rose, HasCause}
 use Rattle.cf_io.specs.Puts.{Writes}
@@ -12,11 +12,11 @@ use Rattle.cli_files.specs.declared.status.Status.{Status}
 use Rattle.cfpp_cli.specs.Passages.{Span, Passage}
 use Rattle.cfpp_cli.specs.declared.reporting.Reported.{Reported}
 
--- the text was put to the report, or the report failed behind a front of it
+-- the text was put to the report, or the report failed after a front of it
 abbrev pub Puts : (half full : Report) → (text : List ℕ) → Result (Unit {0}) Failed → Type 0
 Puts half full text put = PutsText half.written full.written half.faults full.faults text put
 
--- what was shown was put, and the closing lines behind it, or the report failed behind a front of these
+-- what was shown was put, and the closing lines after it, or the report failed after a front of these
 pub record PutsBehind (blank full : Report) (shown closing : List ℕ) (put : Result (Unit {0}) Failed) : Type 0 where
   pub told : Option (List ℕ)
   pub shows : Writes blank.written told shown
@@ -28,7 +28,7 @@ Carries answers blank full reported =
     (shown : List ℕ) × (closing : List ℕ) × answers reported.status shown closing
     × PutsBehind blank full shown closing reported.put
 
--- one that shows nothing: this is its whole report
+-- a command that shows nothing: this is its whole report
 abbrev pub ReportsAlone : (Status → List ℕ → Type 0) → (blank full : Report) → Reported → Type 0
 ReportsAlone answers blank full reported =
     (report : List ℕ) × answers reported.status report × Puts blank full report reported.put
@@ -41,7 +41,7 @@ ReportsAll answers s reported = ReportsAlone (answers s.before s.after) s.blank 
 abbrev pub ReportsOver : (Streams → Streams → Status → List ℕ → Type 0) → Passage → Reported → Type 0
 ReportsOver answers p reported = ReportsAlone (answers p.before p.after) p.blank p.full reported
 
--- it was carried out, or the report failed while it was
+-- the command was carried out, or the report failed while it was
 abbrev pub Comes : (Status → List ℕ → List ℕ → Type 0) → Type 0 → (blank full : Report) → Result Reported Failed → Type 0
 Comes answers breaks blank full (Ok reported) = Carries answers blank full reported
 Comes answers breaks blank full (Err failed) = breaks × Rose blank.faults full.faults
@@ -63,12 +63,12 @@ abbrev pub files_reported : Result Reported Failed → Result (Unit {0}) (Unit {
 files_reported (Ok reported) = files_answered reported.status
 files_reported (Err failed) = Ok tt
 
--- a count of faults: it rose just where the answer says so; where the report failed while the command was carried out, it has not fallen
+-- a count of faults: it rose exactly where the answer says so; where the report failed while the command was carried out, it has not fallen
 abbrev pub Tells : (Status → Result (Unit {0}) (Unit {0})) → ℕ → ℕ → Result Reported Failed → Type 0
 Tells answered before now (Ok reported) = HasCause before now (answered reported.status)
 Tells answered before now (Err failed) = before ≤ now
 
--- the closing lines of what was decided were put; none, where the report had failed
+-- the closing lines of what was decided were put; where the report had failed, no lines were
 abbrev pub PutsDecided : Result Answer Failed → (half full : Report) → Result Reported Failed → Type 0
 PutsDecided (Ok answer) half full (Ok reported) =
     (reported.status ≡ answer.status) × Puts half full answer.closing reported.put
@@ -76,7 +76,7 @@ PutsDecided (Ok answer) half full (Err failed) = ⊥
 PutsDecided (Err failed) half full (Ok reported) = ⊥
 PutsDecided (Err failed) half full (Err same) = full ≡ half
 
--- a text was put behind a report that was put so far; none, behind one that failed
+-- a text was put after the report so far; where that had failed, nothing was
 abbrev pub Adds : (so_far : Result (Unit {0}) Failed) → (half full : Report) → (text : List ℕ) →
     Result (Unit {0}) Failed → Type 0
 Adds (Ok u) half full text put = Puts half full text put

@@ -21,7 +21,7 @@ use Rattle.cli_files.specs.declared.status.Status.{Status}
 use Rattle.cfpp_cli.specs.Run.{start_of, AgreesWithMachine}
 use Rattle.cfpp_cli.specs.Statuses.{status_of_run}
 
--- what the words ask of `rounds`: where the layout is, the file with the program, and the retired instructions at which the run stops
+-- what the words ask of `rounds`: where the layout is, the file with the program, and the number of retired instructions at which the run stops
 pub record RoundsAsked : Type 0 where
   pub layout : Layout
   pub program : List ℕ
@@ -30,7 +30,7 @@ pub record RoundsAsked : Type 0 where
 abbrev pub rounds_asked : Layout → List ℕ → ℕ → RoundsAsked
 rounds_asked layout program limit = record { layout = layout; program = program; limit = limit }
 
--- a run in rounds from one processor to another: so many rounds, each the round of the candidates that are offered where it is made, and what was counted of their moves. It is a run of the sequential machine on which the processor was opened, ends as that does, and has a bounded number of moves
+-- a run in rounds from one processor to another: this many rounds, each the round of the candidates that are offered where it is made, and what was counted of their moves. It is a run of the sequential machine on which the processor was opened, ends as that machine does, and has a bounded number of moves
 pub record RunInRounds (limit : ℕ) (core last : Processor) (before after : Streams) : Type 0 where
   pub tally : Tally
   pub rounds : ℕ
@@ -49,7 +49,7 @@ abbrev pub lines_of : {core : Processor} {before after : Streams} (limit : ℕ) 
     RunInRounds limit core last before after → List ℕ
 lines_of limit last run = closing_in_rounds limit (finish_of run) run.rounds last.plan last.state run.tally
 
--- the processor was run so; the status says how the run finished, and this is the whole report
+-- the processor was run in rounds; the status says how the run finished, and this is the whole report
 pub record RunsCoreInRounds (limit : ℕ) (core last : Processor) (before after : Streams) (answer : Status)
     (report : List ℕ) : Type 0 where
   pub run : RunInRounds limit core last before after
@@ -75,7 +75,7 @@ pub record RunsLoaded (Comes : Plan → Hart → Type 0) (asked : RoundsAsked) (
   pub loaded : IsLoaded asked.layout asked.program before.files after.files plan hart
   pub comes : Comes plan hart
 
--- one of them is not there, and the streams were left alone
+-- one of them is missing, and the streams were left alone
 pub record RefusesRounds (asked : RoundsAsked) (before after : Outside) (answer : Status) (report : List ℕ) :
     Type 0 where
   pub lacks : LacksLoaded asked.layout asked.program before.files after.files answer report

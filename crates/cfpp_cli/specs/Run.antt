@@ -39,11 +39,11 @@ use Rattle.cli_files.specs.declared.status.Which.TheVariants as which
 abbrev pub start_of : Processor → Streams → Option (List ℕ) → Place
 start_of core streams report = place_of core streams report no_tally
 
--- a run from one place to another, by whatever chose its moves: how it finished, what was shown of, and the moves
+-- a run from one place to another, by whatever chose its moves: how it finished, the moves that were shown, and all its moves
 abbrev pub Chooses : Type 1
 Chooses = (start new : Place) → Scripted → List Made → List Move → Type 0
 
--- by a script of this text, which makes its first moves
+-- by a script of this text: the run makes its first moves
 pub record ByScript (limit : ℕ) (show : Show) (text : List ℕ) (start new : Place) (finish : Scripted)
     (trace : List Made) (moves : List Move) : Type 0 where
   pub left : Told
@@ -68,7 +68,7 @@ chosen_by limit show (in_script text) = ByScript limit show text
 chosen_by limit show (drawn_from seed) = ByPolicy drawn_pick (λ g moves. drawn_on g) limit show (drawn seed)
 chosen_by limit show in_turn = ByPolicy round_pick round_on limit show None
 
--- a run from one processor to another: what was counted, how it finished, and what the report tells before and behind it; by its moves it is one of the sequential machine on which the processor was opened, and ends as that does
+-- a run from one processor to another: what was counted, how it finished, and what the report tells before and after it; by its moves it is a run of the sequential machine on which the processor was opened, and ends as that machine does
 pub record ProcessorRun (limit : ℕ) (show : Show) (core last : Processor) (by : Chooses)
     (before after : Streams) (blank : Option (List ℕ)) : Type 0 where
   pub tally : Tally
@@ -80,7 +80,7 @@ pub record ProcessorRun (limit : ℕ) (show : Show) (core last : Processor) (by 
   pub sequential : RunsSequentially show moves (start_of core before blank) (place_of last after told tally) finish
   pub ends : EndsSequentially limit (start_of core before blank) (place_of last after told tally) finish
 
--- the processor was run so; the status says how the run finished, this was shown of its moves, and these lines close the report
+-- the processor was run in this way; the status says how the run finished, this was shown of its moves, and these lines close the report
 pub record RunsCore (limit : ℕ) (show : Show) (core last : Processor) (by : Chooses)
     (before after : Streams) (blank : Option (List ℕ)) (answer : Status) (shown text : List ℕ) : Type 0 where
   pub run : ProcessorRun limit show core last by before after blank
@@ -89,7 +89,7 @@ pub record RunsCore (limit : ℕ) (show : Show) (core last : Processor) (by : Ch
   pub shows : shown ≡ all_shown show core.plan 1 run.trace
   pub closes : text ≡ closing limit run.finish last.plan last.state run.tally
 
--- the answer is that of `machine` on the hart, under the same limit and with multiplication where the layout has it; it takes the same of the input and writes the same to the output, and this text closes its report
+-- the answer is that of `machine` on the hart, under the same limit and with multiplication where the layout has it; it takes the same from the input and writes the same to the output, and this text closes its report
 pub record IsMachines (limit : ℕ) (plan : Plan) (hart : Hart) (before after : Streams) (answer : Status)
     (text : List ℕ) : Type 0 where
   pub runs : RunsHart (chosen_of limit false (has_mul plan)) hart before after answer [] text
@@ -118,7 +118,7 @@ IsComplete schedule (status.ReadFault which.Input) = Unit {0}
 IsComplete schedule status.WriteFault = Unit {0}
 IsComplete schedule answer = ⊥
 
--- the processor of the layout, opened on the hart, was run to this one, and the tail stands behind the lines that close the report
+-- the processor of the layout, opened on the hart, was run to this one, and the tail follows the lines that close the report
 pub record RunsOpened (limit : ℕ) (show : Show) (tail : Tail) (plan : Plan) (hart : Hart) (last : Processor)
     (schedule : ReadySchedule) (before after : Streams) (blank : Option (List ℕ)) (answer : Status)
     (shown closing : List ℕ) : Type 0 where
@@ -135,7 +135,7 @@ ComesOf limit show tail plan hart schedule before after blank answer shown closi
     ((last : Processor) × RunsOpened limit show tail plan hart last schedule before after blank answer shown closing)
     ⊎ LacksProcessor before after answer (shown ++ closing)
 
--- the processor was run so, and the report failed as the run showed a move: it was put nothing more
+-- the processor was run in this way, and the report failed as the run showed a move: nothing more was put to it
 pub record BreaksCore (limit : ℕ) (show : Show) (core : Processor) (by : Chooses)
     (before after : Streams) (blank full : Option (List ℕ)) : Type 0 where
   pub last : Processor
@@ -143,14 +143,14 @@ pub record BreaksCore (limit : ℕ) (show : Show) (core : Processor) (by : Choos
   pub cut : is_report_fault run.finish ≡ true
   pub told : full ≡ run.told
 
--- the answer of `run`, or of `moves` with its tail, what it shows, and the lines that close its report, behind what the report told before
+-- the answer of `run`, or of `moves` with its tail, what it shows, and the lines that close its report, after what the report told before
 abbrev pub AnswersRun : Tail → RunAsked → Outside → Outside → Option (List ℕ) → Status → (shown closing : List ℕ) → Type 0
 AnswersRun tail asked before after blank answer shown closing =
     AnswersFiles (λ plan hart schedule.
     ComesOf asked.limit asked.show tail plan hart schedule before.streams after.streams blank answer shown closing)
     asked before after answer (shown ++ closing)
 
--- all files are there, and the report failed in the run
+-- all files are there, and the report failed during the run
 abbrev pub BreaksRun : RunAsked → Outside → Outside → Option (List ℕ) → Option (List ℕ) → Type 0
 BreaksRun asked before after blank full =
     ReadsFiles (λ plan hart schedule.

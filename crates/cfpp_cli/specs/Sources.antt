@@ -18,7 +18,7 @@ use Rattle.cli_files.specs.declared.status.Which.TheVariants as which
 abbrev pub most_source : ℕ
 most_source = 1048577
 
--- the file is that of the object that the source stands for, and is seen as it
+-- the file is that of the object that the source stands for, and is seen as that object
 pub record IsAssembly (source file : List ℕ) : Type 0 where
   pub object : Object
   pub stands : Objects object (assembled source)
@@ -38,14 +38,14 @@ Refused error answer report =
     ((error.kind ≢ AsmKind.NoMemory) × (answer ≡ status.BadSource error) × (report ≡ bad_source error))
     ⊎ SaysNoMemory answer report
 
--- the file of the source was put to the output, or the output failed at it
+-- the file of the source was put to the output, or the output failed while it was put
 pub record PutsAssembly (source : List ℕ) (before after : Option (List ℕ)) (answer : Status)
     (report : List ℕ) : Type 0 where
   pub file : List ℕ
   pub assembly : IsAssembly source file
   pub puts : PutsOrFails file before after answer report
 
--- the status and the report that a source comes to
+-- the status and the report for a source
 abbrev pub AssemblesSource : List ℕ → Option (List ℕ) → Option (List ℕ) → Status → List ℕ → Type 0
 AssemblesSource source before after answer report =
     PutsAssembly source before after answer report

@@ -9,7 +9,7 @@ use Rattle.cli_files.specs.declared.status.Status.{Status}
 use Rattle.cli_files.specs.declared.status.Status.TheVariants as status
 use Rattle.cli_files.specs.declared.status.Which.TheVariants as which
 
--- of a run that finished so under this limit, of the sequential machine or of the processor
+-- of a run that finished in this way under this limit, whether of the sequential machine or of the processor
 abbrev pub status_of_run : (limit : ℕ) → Answer → Status
 status_of_run limit (ran.Exit code) = status.Exit code
 status_of_run limit (ran.Trap cause pc detail) = status.Trap cause pc detail
@@ -18,7 +18,7 @@ status_of_run limit ran.ReadFault = status.ReadFault which.Input
 status_of_run limit ran.WriteFault = status.WriteFault
 status_of_run limit ran.ReportFault = status.WriteFault
 
--- of a run of the processor, with so many moves made
+-- of a run of the processor, with this many moves made
 abbrev pub status_of : (limit moves : ℕ) → Scripted → Status
 status_of limit moves (Ran answer) = status_of_run limit answer
 status_of limit moves ScriptEnd = status.ScriptEnd moves

@@ -1,4 +1,4 @@
--- What stands behind the report of a run.
+-- What follows the report of a run.
 use Rattle.std.specs.Prelude.{ℕ, List, []}
 use Rattle.cf_closing.specs.Moves.{moves_text}
 use Rattle.cf_core.specs.Processors.{Processor}

@@ -29,7 +29,7 @@ use Rattle.cfpp_cli.specs.declared.tail.Tail.TheVariants.{Nothing, Moves}
 use Rattle.cli_files.specs.declared.status.Status.{Status}
 use Rattle.cli_files.specs.declared.status.Status.TheVariants as status
 
--- the words ask this of a command, or the first of them that has no place stands at this index
+-- the words ask this of a command, or this is the index of the first word that has no place
 abbrev pub Reading : List (List ℕ) → Result Asked ℕ → Type 0
 Reading words (Ok asked) = Asks words asked
 Reading words (Err index) = IsBadAt words index
@@ -42,13 +42,13 @@ pub record RefusesWords (index : ℕ) (before after : Outside) (answer : Status)
   pub reports : report ≡ counted_line (codes "bad words at ") index
   pub streams : after.streams ≡ before.streams
 
--- a text was put to the output, or the output failed at it, and nothing else was touched
+-- a text was put to the output, or the output failed while it was put, and nothing else was touched
 pub record PutsAlone (text : List ℕ) (before after : Outside) (answer : Status) (report : List ℕ) : Type 0 where
   pub put : PutsOrFails text before.streams.output after.streams.output answer report
   pub files : after.files ≡ before.files
   pub input : after.streams.input ≡ before.streams.input
 
--- the answer, what is shown of a run, and the lines that close the report, behind what it told before, by what the words ask; both together are the whole report
+-- by what the words ask for: the answer, what is shown of a run, and the lines that close the report, after what the report told before; what is shown and these lines together are the whole report
 abbrev pub Answers : Result Asked ℕ → Outside → Outside → Option (List ℕ) → Status → (shown closing : List ℕ) → Type 0
 Answers (Ok (machine program limit retired mul)) before after blank answer shown closing =
     AnswersMachine program (chosen_of limit retired mul) before after answer shown closing
@@ -99,7 +99,7 @@ Breaks (Ok (time delays program layouts limit sites)) before after blank full =
 Breaks (Ok asked) before after blank full = ⊥
 Breaks (Err index) before after blank full = ⊥
 
--- what was shown was put, and behind it the closing lines, and the status is the answer; or the report failed behind a
+-- what was shown was put, and after it the closing lines, and the status is the answer; or the report failed after a
 -- front of these, its count of faults rose, and the status is WriteFault
 pub record Reports (before after : Report) (shown closing : List ℕ) (answer result : Status) : Type 0 where
   pub told : Option (List ℕ)
@@ -107,7 +107,7 @@ pub record Reports (before after : Report) (shown closing : List ℕ) (answer re
   pub closes : ((result ≡ answer) × Writes told after.written closing × (after.faults ≡ before.faults))
       ⊎ ((result ≡ status.WriteFault) × WritesFront told after.written closing × Rose before.faults after.faults)
 
--- the command was carried out, with this answer and this report; a count of faults rose just where the answer says so
+-- the command was carried out, with this answer and this report; a count of faults rose exactly where the answer says so
 pub record Completes (reading : Result Asked ℕ) (before after : Outside) (blank full : Report)
     (result : Status) : Type 0 where
   pub answer : Status
@@ -119,7 +119,7 @@ pub record Completes (reading : Result Asked ℕ) (before after : Outside) (blan
   pub output : HasCause before.output_faults after.output_faults (output_answered answer)
   pub reports : Reports blank full shown closing answer result
 
--- the report failed before that, and no file did; the status is WriteFault
+-- the report failed while the command was carried out, and no file did; the status is WriteFault
 pub record IsCut (reading : Result Asked ℕ) (before after : Outside) (blank full : Report)
     (result : Status) : Type 0 where
   pub status_is : result ≡ status.WriteFault

@@ -28,7 +28,7 @@ fn assemble_source<K: Sink>(alloc: Global, source: &[u8], output: &mut K) -> Ans
     }
 }
 
-/// Carries out `asm`: reads the source, and puts the file that it is assembled into to the output.
+/// Carries out `asm`: reads the source, and puts the file into which it is assembled to the output.
 pub fn assemble_program<F: Files, K: Sink>(
     alloc: Global,
     source: &str,

@@ -31,7 +31,7 @@ fn refusal(error: AsmErr) -> Answer
     }
 }
 
-/// The file of the program that a source stands for, or the answer where it stands for none.
+/// The file of the program that a source stands for, or the answer where it stands for no program.
 pub fn file_of(alloc: Global, source: &[u8]) -> Result<Vec<u8>, Answer>
     ensures ok { IfOk result (λ file. IsAssembly source.now file.items) }
     ensures err { IfErr result (λ answer. IsUnassembled source.now answer.status answer.closing) }

@@ -57,7 +57,7 @@ fn drawn_text(alloc: Global, number: u32) -> Result<MemSink, Answer>
     }
 }
 
-/// The machine that the program starts, or the answer where it starts none.
+/// The machine that the program starts, or the answer where it starts no machine.
 fn drawn_machine(alloc: Global, number: u32) -> Result<Machine, Answer>
     requires some { 1 ≤ number }
     requires limit { number ≤ most_statements }
@@ -80,7 +80,7 @@ fn drawn_machine(alloc: Global, number: u32) -> Result<Machine, Answer>
 }
 
 /// Carries out `gen` with `--run`: assembles the text, runs it on the built-in layout by moves that are drawn from the same
-/// number, and puts what `run` puts. It fails where the report does in the run, which is then put nothing more.
+/// number, and puts what `run` puts. It fails where the report fails during the run; nothing more is then put to the report.
 pub fn run_drawn<S: Source, K: Sink, R: Sink>(
     alloc: Global,
     number: u32,

@@ -16,14 +16,14 @@ use cf_run::{Ran, Scripted};
 use cli_files::{ScriptFault, Status, Which};
 use rv_machine::Machine;
 
-/// Whether the report failed in the run.
+/// Whether the report failed during the run.
 fn is_cut(finish: Scripted) -> bool
     ensures { result ≡ is_report_fault finish }
 {
     matches!(finish, Scripted::Ran(Ran::ReportFault))
 }
 
-/// The status of a run under this limit that finished so.
+/// The status of a run under this limit that finished in this way.
 fn status_of_run(limit: u64, finish: Ran) -> Status
     ensures { result ≡ status_for_run limit finish }
 {
@@ -36,7 +36,7 @@ fn status_of_run(limit: u64, finish: Ran) -> Status
     }
 }
 
-/// The status of a run of the processor under this limit that finished so after that many moves.
+/// The status of a run of the processor under this limit that finished in this way after that many moves.
 fn status_of(limit: u64, moves: u64, finish: Scripted) -> Status
     ensures { result ≡ status_for limit moves finish }
 {
@@ -48,8 +48,8 @@ fn status_of(limit: u64, moves: u64, finish: Scripted) -> Status
     }
 }
 
-/// Puts the closing lines behind a run of the sequential machine. It fails where the report did in the run, which is then put
-/// nothing more.
+/// Puts the closing lines after a run of the sequential machine. It fails where the report failed during the run; nothing more
+/// is then put to the report.
 pub fn close_machine<R: Sink>(
     machine: &Machine,
     limit: u64,
@@ -68,7 +68,7 @@ pub fn close_machine<R: Sink>(
     })
 }
 
-/// Puts those behind a run of the processor, likewise.
+/// Puts those of a run of the processor, likewise.
 pub fn close<R: Sink>(
     core: &Core,
     limit: u64,
@@ -88,7 +88,7 @@ pub fn close<R: Sink>(
     })
 }
 
-/// Puts those behind a run in so many rounds.
+/// Puts those of a run in this many rounds.
 pub fn close_in_rounds<R: Sink>(
     core: &Core,
     limit: u64,
@@ -106,7 +106,7 @@ pub fn close_in_rounds<R: Sink>(
     }
 }
 
-/// No move was counted yet.
+/// No move has been counted yet.
 pub fn no_moves() -> Tally
     ensures { result ≡ no_tally }
 {

@@ -19,7 +19,7 @@ use rv_machine::Machine;
 use std::alloc::Global;
 
 /// Runs a machine that has retired nothing yet, and puts the lines that it shows and those that close its report.
-// The machine is moved into a local of a function of its own: as nothing but the run points to it, the compiler need not
+// The machine is moved into a local of a function of its own: since nothing but the run points to it, the compiler need not
 // read its parts again after each store to memory.
 #[inline(never)]
 fn run_machine<S: Source, K: Sink, R: Sink>(
@@ -47,8 +47,8 @@ fn run_machine<S: Source, K: Sink, R: Sink>(
 }
 
 /// Carries out `machine`: reads the program's file and runs it, and puts the lines that are to be shown, then how the run
-/// finished, how many instructions retired, and the registers. It fails where the report does in the run, which is then put
-/// nothing more.
+/// finished, how many instructions retired, and the registers. It fails where the report fails during the run; nothing
+/// more is then put to the report.
 pub fn run_program<F: Files, S: Source, K: Sink, R: Sink>(
     alloc: Global,
     program: &str,

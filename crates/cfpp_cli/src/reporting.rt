@@ -1,4 +1,4 @@
-//! What a command comes to once its report was put.
+//! The outcome of a command once its report was put.
 
 ghost use Rattle.std.specs.Prelude.{◌≡◌};
 ghost use Rattle.cf_report.specs.Putting.{PutsText};
@@ -8,7 +8,7 @@ ghost use Rattle.cfpp_cli.specs.Reporting.{PutsDecided};
 use cf_io::{Failed, Sink, put_all};
 use cli_files::{Answer, Status};
 
-/// What a command comes to that was carried out.
+/// The outcome of a command that was carried out.
 #[derive(Drop)]
 pub struct Reported {
     /// How it ended.
@@ -31,7 +31,7 @@ pub fn put_answer<R: Sink>(answer: Answer, report: &mut R) -> Reported
     }
 }
 
-/// The same behind a report that may have failed before.
+/// The same, after a report that may have failed before.
 pub fn put_decided<R: Sink>(
     decided: Result<Answer, Failed>,
     report: &mut R,

@@ -23,7 +23,7 @@ use cf_words::LayoutWord;
 use cli_files::{Loaded, load, no_memory};
 use std::alloc::Global;
 
-/// How a run under a policy finishes that finishes so.
+/// The finish of a run in rounds, as that of any run.
 fn ran_of(clocked: Clocked) -> Ran
     ensures { result ≡ ran_for clocked }
 {

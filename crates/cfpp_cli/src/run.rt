@@ -61,7 +61,7 @@ fn run_scheduled<S: Source, K: Sink, R: Sink>(
     }
 }
 
-/// Opens the processor of the layout on the machine, runs it by what was read, and puts what is to stand behind its report.
+/// Opens the processor of the layout on the machine, runs it by what was read, and puts what is to follow its report.
 #[tactic(auto, using(cf_run::proofs::Opened::opened_cores))]
 pub fn run_ready<S: Source, K: Sink, R: Sink>(
     alloc: Global,
@@ -111,7 +111,7 @@ pub fn run_ready<S: Source, K: Sink, R: Sink>(
 /// Carries out `run` and `moves`: reads the layout, the program and the script, where the words name one, in this order, runs
 /// the processor by the script, by moves drawn from the seed, or by the fixed rule, and puts what the words ask to be shown,
 /// then how the run finished, how many instructions retired, the tally of its moves, the registers and the picture, and
-/// behind that the tail. It fails where the report does in the run, which is then put nothing more.
+/// after that the tail. It fails where the report fails during the run; nothing more is then put to the report.
 pub fn run_processor<F: Files, S: Source, K: Sink, R: Sink>(
     alloc: Global,
     layout: LayoutWord<'_>,

@@ -24,7 +24,7 @@ fn instruction_set(mul: bool) -> Isa
     if mul { Isa::Rv32im } else { Isa::Rv32i }
 }
 
-/// Puts the line of an instruction that retired, which makes so many with it.
+/// Puts the line of an instruction that retired; `count` have retired with it.
 // The line's page is large, and would slow the run down if it were a local of its loop; so would the line as one value, which
 // would be put into memory at each step, whether it is shown or not.
 #[inline(never)]
@@ -66,11 +66,11 @@ fn show_line<R: Sink>(shows: bool, count: u64, line: Retired, report: &mut R) ->
     }
 }
 
-/// Runs the machine until the program ends, traps or is failed by one of its streams, or until so many more
+/// Runs the machine until the program ends or traps, one of its streams fails, or as many more
 /// instructions have retired as the options allow. Each retired instruction's line is put to the report as it comes,
-/// where the options ask for that; the run ends with `ReportFault` where the report fails, which is then put nothing more.
-// The machine makes a step at this place alone, so that the compiler makes the whole step a part of the loop: a second
-// call of it, for the other instruction set, took half of the speed.
+/// where the options ask for that; the run ends with `ReportFault` where the report fails; nothing more is then put to it.
+// The machine makes a step in this place alone, so that the compiler makes the whole step a part of the loop: a second
+// call of it, for the other instruction set, cost half the speed.
 pub fn run<S: Source, K: Sink, R: Sink>(
     machine: &mut Machine,
     options: MachineOptions,

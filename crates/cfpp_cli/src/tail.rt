@@ -1,4 +1,4 @@
-//! What stands behind the report of a run.
+//! What follows the report of a run.
 
 ghost use Rattle.std.specs.Prelude.{◌≡◌};
 ghost use Rattle.cf_report.specs.Putting.{PutsText};
@@ -12,7 +12,7 @@ use cf_core::Core;
 use cf_io::{Failed, Sink};
 use cli_files::Status;
 
-/// What is to stand behind the report of a run.
+/// What is to follow the report of a run.
 #[derive(Clone, Copy)]
 pub enum Tail {
     /// Nothing.
@@ -22,7 +22,7 @@ pub enum Tail {
     Moves,
 }
 
-/// Puts the lines of the tail behind a run of this status.
+/// Puts the lines of the tail after a run of this status.
 fn put_tail<R: Sink>(tail: Tail, status: &Status, core: &Core, report: &mut R) -> Result<(), Failed>
     ensures { PutsText (R.written report.old) (R.written report.new)
         (R.faults report.old) (R.faults report.new) (lines_behind tail status.now core.now) result }
@@ -36,7 +36,7 @@ fn put_tail<R: Sink>(tail: Tail, status: &Status, core: &Core, report: &mut R) -
     }
 }
 
-/// Puts them where the report was put so far.
+/// Puts them where the report has been put so far.
 pub fn add_tail<R: Sink>(tail: Tail, core: &Core, reported: Reported, report: &mut R) -> Reported
     ensures status { result.status ≡ reported.status }
     ensures adds { Adds reported.put (report_of (R.written report.old) (R.faults report.old))

@@ -29,7 +29,7 @@ use cli_files::{Answer, Status, bad_words};
 use cli_time::compare_layouts;
 use std::alloc::Global;
 
-/// Carries out what the words ask, and puts its report. It fails where the report does before the lines that close it.
+/// Carries out what the words ask for, and puts its report. It fails where the report fails before the lines that close it.
 fn decide<F: Files, S: Source, K: Sink, R: Sink>(
     alloc: Global,
     words: &[String],
@@ -158,11 +158,11 @@ fn decide<F: Files, S: Source, K: Sink, R: Sink>(
 
 /// Does what the words say: `machine PROGRAM` runs a program's file on the sequential machine, `run LAYOUT PROGRAM` on
 /// the processor of a layout, by the moves of a script with `--script FILE`, by moves drawn from a seed with `--seed
-/// N`, and by a fixed rule without either; `moves LAYOUT PROGRAM --script FILE` does the same and tells behind it which
+/// N`, and by a fixed rule without either; `moves LAYOUT PROGRAM --script FILE` does the same and then says which
 /// moves can be made where the script ends. `rounds LAYOUT PROGRAM` runs the processor in rounds of moves that share no
-/// place, as a clocked one would, `debug LAYOUT PROGRAM` answers commands of the input, which make moves, show the
-/// processor and take moves back, `audit LAYOUT PROGRAM TRACE` tells whether a recorded trace is that of a run, and
-/// `time DELAYS PROGRAM LAYOUT ..` compares how long the program takes on up to eight layouts, and tells with `--show sites` what
+/// place, as a clocked one would, `debug LAYOUT PROGRAM` answers commands from the input, which make moves, show the
+/// processor and take moves back, `audit LAYOUT PROGRAM TRACE` says whether a recorded trace is that of a run, and
+/// `time DELAYS PROGRAM LAYOUT ..` compares how long the program takes on up to eight layouts, and with `--show sites` says what
 /// each of these times is made of.
 /// `check LAYOUT` writes a layout's one text to the output, `asm SOURCE` the ELF file that an assembly source stands
 /// for, `list PROGRAM` a program's listing, and `gen N` the text of a program that is drawn from a number, which `gen N
@@ -170,14 +170,14 @@ fn decide<F: Files, S: Source, K: Sink, R: Sink>(
 ///
 /// The file is an ELF executable for RISC-V, whose segments are loaded, or else a flat image, which stands at
 /// 0x00010000 in one region that may be read, written and executed, and begins there; a zeroed stack of 1 MiB stands at
-/// 0x7f000000. `--limit N` sets the retired instructions at which the run stops, 10,000,000 without it; `--show
-/// retired` puts a line to the report for each instruction as it retires, and `--show report`, which is the default,
-/// none; under `run`, `--show moves` puts each move with the picture behind it; with `--mul` the machine multiplies and
-/// divides. `input` and `output` are the program's own.
+/// 0x7f000000. `--limit N` sets the number of retired instructions at which the run stops, 10,000,000 without it;
+/// `--show retired` puts a line to the report for each instruction as it retires, and `--show report`, which is the
+/// default, no line; under `run`, `--show moves` puts each move with the picture after it; with `--mul` the machine
+/// multiplies and divides. `input` and `output` are the program's own.
 ///
 /// The report closes with how the run finished, how many instructions retired, and what the registers hold; after a run
-/// of the processor the counts of its moves and the picture stand there too, and of one in rounds their number. Where
-/// nothing was run it is one line that says why. After `audit` it tells the number of moves of the trace, after `time`
+/// of the processor the counts of its moves and the picture stand there too, and after a run in rounds the number of rounds.
+/// Where nothing was run it is one line that says why. After `audit` it gives the number of moves of the trace, after `time`
 /// it has the lines of each layout and names the first with the least time, after `debug` it has the answers to the
 /// commands, and after any other command that was carried out it is empty. After a report that failed nothing more is
 /// put to it, and the status is `WriteFault`.

@@ -42,7 +42,7 @@ side files input = record { files = files; input = input }
 abbrev pub side_of : Outside → AuditSide
 side_of outside = side outside.files outside.streams.input
 
--- the status that tells what an audit found
+-- the status that says what an audit found
 abbrev pub status_of : Audit → Status
 status_of (found.Agrees n) = status.Done
 status_of (found.Wrong number kind) = status.BadTrace (fault.Line number kind)
@@ -59,7 +59,7 @@ abbrev pub RetiresAsMachine : Plan → Hart → Option (List ℕ) → List ℕ �
 RetiresAsMachine plan hart None text n = Unit {0}
 RetiresAsMachine plan hart (Some rest) text n = RetiresAs (opened plan hart) hart rest text n
 
--- the text is the trace of a run of n moves of the layout's processor, opened on the hart; the run leaves the input so
+-- the text is the trace of a run of n moves of the layout's processor, opened on the hart; the run leaves this of the input
 pub record IsTraceOf (plan : Plan) (hart : Hart) (text : List ℕ) (before after : Option (List ℕ)) (n : ℕ) :
     Type 0 where
   pub last : Moment
@@ -67,19 +67,19 @@ pub record IsTraceOf (plan : Plan) (hart : Hart) (text : List ℕ) (before after
   pub input : Becomes before after last.rest
   pub retires : RetiresAsMachine plan hart before text n
 
--- the text is the trace of no run, which is seen in this line, for this reason; the moves that were made leave the input so
+-- the text is the trace of no run, which is seen in this line, for this reason; the moves that were made leave this of the input
 pub record IsNoTraceOf (plan : Plan) (hart : Hart) (text : List ℕ) (before after : Option (List ℕ)) (number : ℕ)
     (kind : TraceKind) : Type 0 where
   pub stop : Moment
   pub wrong : GoesWrong (opened plan hart) before text number kind stop
   pub input : Becomes before after stop.rest
 
--- the input failed the call that the text tells behind the trace of a run, and is left so
+-- the input failed the call that the text names after the trace of a run, and this is left of it
 abbrev pub FailsAtCall : Plan → Hart → List ℕ → (before after : Option (List ℕ)) → Type 0
 FailsAtCall plan hart text before after =
     (last : Processor) × StopsAtCall (opened plan hart) last before after text
 
--- what is answered of a text, by the status: it is the trace of a run; or it is none, which is seen in this line; or the input failed the call that it tells; or memory for the processor was refused
+-- what is answered of a text, by the status: it is the trace of a run; or it is not, which is seen in this line; or the input failed the call that it names; or memory for the processor was refused
 abbrev pub AnswersText : Plan → Hart → List ℕ → (before after : Option (List ℕ)) → Status → List ℕ → Type 0
 AnswersText plan hart text before after status.Done report =
     (n : ℕ) × IsTraceOf plan hart text before after n × (report ≡ trace_of n)
@@ -97,7 +97,7 @@ IsAccepted n status.Done report = report ≡ trace_of n
 IsAccepted n (status.BadTrace why) report = ⊥
 IsAccepted n _ report = Unit {0}
 
--- over an input that tells what it has left, each trace of a run is answered so
+-- over an input that tells what it has left, each trace of a run is answered in this way
 abbrev pub AcceptsRuns : Plan → Hart → List ℕ → Option (List ℕ) → Status → List ℕ → Type 0
 AcceptsRuns plan hart text None answer report = Unit {0}
 AcceptsRuns plan hart text (Some rest) answer report =
@@ -125,7 +125,7 @@ pub record AuditsTrace (asked : AuditAsked) (before after : AuditSide) (answer :
   pub reads : ReadsTrace asked before.files after.files plan hart text
   pub comes : ComesOfTrace plan hart text before.input after.input answer report
 
--- there are a layout and a program, and no trace
+-- the layout and the program are there, and the trace is not
 pub record StopsAtTrace (asked : AuditAsked) (before after : Option Told) (answer : Status)
     (report : List ℕ) : Type 0 where
   pub plan : Plan
@@ -134,7 +134,7 @@ pub record StopsAtTrace (asked : AuditAsked) (before after : Option Told) (answe
   pub loaded : IsLoaded asked.layout asked.program before between plan hart
   pub lacks : LacksTrace asked.trace between after answer report
 
--- one of them is not there, and the input was left alone
+-- one of them is missing, and the input was left alone
 pub record RefusesAudit (asked : AuditAsked) (before after : AuditSide) (answer : Status) (report : List ℕ) :
     Type 0 where
   pub lacks : LacksLoaded asked.layout asked.program before.files after.files answer report

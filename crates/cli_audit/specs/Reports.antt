@@ -1,4 +1,4 @@
--- What is told of a trace (a format of this project).
+-- What is reported of a trace (a format of this project).
 use Rattle.std.specs.Prelude.{ℕ, List, ◌++◌, codes, decimal}
 use Rattle.cf_scripts.specs.declared.trace_refusal.TraceKind.{TraceKind}
 use Rattle.cf_scripts.specs.declared.trace_refusal.TraceKind.TheVariants as kind
@@ -7,7 +7,7 @@ use Rattle.cf_texts.specs.Texts.{line}
 use Rattle.cli_files.specs.declared.status.TraceFault.{TraceFault}
 use Rattle.cli_files.specs.declared.status.TraceFault.TheVariants as fault
 
--- why a text is not the trace of a run: the name, and behind a space what bars the move
+-- why a text is not the trace of a run: the name, and after a space what bars the move
 unfoldable pub kind_text : TraceKind → List ℕ
 kind_text kind.NotAMove = codes "NotAMove"
 kind_text (kind.Barred bar) = codes "Barred " ++ bar_text bar
@@ -27,6 +27,6 @@ fault_text (fault.Line number why) = place_text number ++ codes ": " ++ kind_tex
 unfoldable pub bad_trace : TraceFault → List ℕ
 bad_trace why = line (codes "bad trace" ++ fault_text why)
 
--- the report of the trace of a run of so many moves
+-- the report of the trace of a run of this many moves
 unfoldable pub trace_of : ℕ → List ℕ
 trace_of moves = line (codes "trace of " ++ decimal moves ++ codes " moves")

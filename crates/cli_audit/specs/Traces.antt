@@ -1,4 +1,4 @@
--- The trace that a file holds, and why there is none.
+-- The trace that a file holds, and why it holds none.
 use Rattle.std.specs.Prelude.{◌≡◌, ◌<◌, ◌≤◌, ◌+◌, ◌⊎◌, ℕ, List, length, codes, Option}
 use Rattle.cf_io.specs.Reads.{Told}
 use Rattle.cf_audit.specs.Limits.{most_trace}

@@ -17,7 +17,7 @@ use cf_words::LayoutWord;
 use cli_files::{Answer, Loaded, Status, TraceFault, Which, load, no_memory, unread};
 use std::alloc::Global;
 
-/// The answer that tells what an audit found.
+/// The answer that says what an audit found.
 fn answer_of(found: Audit) -> Answer
     ensures status { result.status ≡ status_for found }
     ensures closing { result.closing ≡ text_of found }
@@ -54,10 +54,10 @@ fn audit_loaded<S: Source>(alloc: Global, loaded: Loaded, text: &[u8], input: &m
     }
 }
 
-/// Carries out `audit`: reads the layout, the program and the trace, in this order, makes the moves that the trace tells, and
+/// Carries out `audit`: reads the layout, the program and the trace, in this order, makes the moves that the trace names, and
 /// compares all that `run` shows of them with it, byte by byte. `Done` comes exactly where the trace is the text of a run
-/// from the program's start, of so many moves as the answer says; so the lines of retired instructions in it are those of
-/// the sequential machine, whoever made the trace. `BadTrace` tells the first line in which it is none, and why. What the
+/// from the program's start, of as many moves as the answer says; so the lines of retired instructions in it are those of
+/// the sequential machine, whoever made the trace. `BadTrace` gives the first line in which it is not, and why. What the
 /// program writes goes nowhere.
 pub fn audit_trace<F: Files, S: Source>(
     alloc: Global,

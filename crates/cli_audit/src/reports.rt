@@ -1,4 +1,4 @@
-//! What is told of a trace.
+//! What is reported of a trace.
 #![tactic(auto, unfolding(crate::specs::Reports::kind_text, crate::specs::Reports::place_text, crate::specs::Reports::fault_text, crate::specs::Reports::bad_trace, crate::specs::Reports::trace_of))]
 
 ghost use Rattle.std.specs.Prelude.{◌≡◌, ◌+◌, ◌≤◌, ◌++◌, length};
@@ -63,7 +63,7 @@ pub fn bad_trace(fault: TraceFault) -> Page
     page
 }
 
-/// The report of the trace of a run of so many moves.
+/// The report of the trace of a run of this many moves.
 pub fn trace_of(moves: u64) -> Page
     ensures { result ≡ trace_text moves }
 {

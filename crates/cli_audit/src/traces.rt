@@ -14,7 +14,7 @@ use std::alloc::Global;
 /// The greatest length of a trace, in bytes.
 const MOST_BYTES: u64 = MOST_TRACE as u64;
 
-/// The text of the trace in the file of this name, or the answer where there is none.
+/// The text of the trace in the file of this name, or the answer where it gives none.
 pub fn trace_at<F: Files>(alloc: Global, name: &str, files: &mut F) -> Result<Vec<u8>, Answer>
     ensures ok { IfOk result (λ text. IsTraceAt name.now (F.told files.old) (F.told files.new) (vec_items text)) }
     ensures refused { IfErr result (λ answer. LacksTrace name.now

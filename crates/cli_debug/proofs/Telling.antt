@@ -1,4 +1,4 @@
--- What a session put to its report, as one would tell it that told nothing before.
+-- What a session put to its report, as a report that was empty before would tell it.
 use Rattle.std.proofs.Common.{◌≡◌, ◌≢◌, ℕ, List, [], ◌++◌, Option, Some, None, refl, sym, subst, inl, inr}
 use Rattle.cf_io.specs.Puts.{Writes}
 use Rattle.cf_io.proofs.Owing.{writes-again}
@@ -11,7 +11,7 @@ use Rattle.cf_debug.specs.Sessions.{AnswersWhole, Ends, EndsAtFault, EndsAtLast,
 abbrev pub reporting : Session → List ℕ → Session
 reporting s told = record s { report = Some told }
 
--- this was put to the report, and so the session ends over one that told nothing
+-- this was put to the report, and the session ends in the same way over an empty one
 pub record Tells (before after : Session) (begin new : Desk) (ended : Debugged) : Type 0 where
   pub lines : List ℕ
   pub put : Writes before.report after.report lines
@@ -55,7 +55,7 @@ tells-last before after begin new e = record {
   });
 }
 
--- the whole lines, over a report that told nothing
+-- the whole lines, over an empty report
 whole : (bytes : List ℕ) (begin now : Desk) (written after : Option (List ℕ)) (a : AnswersWhole bytes begin now written after) →
     AnswersWhole bytes begin now (Some []) (Some a.answers.0)
 whole bytes begin now written after a = record {

@@ -18,7 +18,7 @@ use Rattle.cli_files.specs.declared.status.Status.{Status}
 use Rattle.cli_files.specs.declared.status.Status.TheVariants as status
 use Rattle.cli_files.specs.declared.status.Which.TheVariants as which
 
--- the status of a session that ended so
+-- the status of a session that ended in this way
 abbrev pub status_of : Debugged → Status
 status_of Done = status.Done
 status_of Limit = status.Limit None
@@ -44,7 +44,7 @@ pub record HasSession (plan : Plan) (hart : Hart) (before after : Streams) (blan
       (session_of (bench_of last kept after.output) after.input full) ended
   pub on_run : StaysOnRun (opened plan hart) last ended
 
--- a session was had; this is the whole report: the answers to its commands, and behind them how it ended
+-- a session took place; this is the whole report: the answers to its commands, and after them how it ended
 pub record AnswersSession (plan : Plan) (hart : Hart) (before after : Streams) (answer : Status)
     (report : List ℕ) : Type 0 where
   pub ended : Debugged
@@ -59,7 +59,7 @@ abbrev pub ComesOfCommands : Plan → Hart → (before after : Streams) → Stat
 ComesOfCommands plan hart before after answer report =
     AnswersSession plan hart before after answer report ⊎ LacksProcessor before after answer report
 
--- the report failed in the session
+-- the report failed during the session
 abbrev pub BreaksSession : Plan → Hart → (before after : Streams) → (blank full : Option (List ℕ)) → Type 0
 BreaksSession plan hart before after blank full = HasSession plan hart before after blank full ReportFault
 
@@ -71,7 +71,7 @@ pub record DebugsProgram (layout : Layout) (program : List ℕ) (before after : 
   pub loaded : IsLoaded layout program before.files after.files plan hart
   pub comes : ComesOfCommands plan hart before.streams after.streams answer report
 
--- one of them is not there, and the streams were left alone
+-- one of them is missing, and the streams were left alone
 pub record RefusesDebug (layout : Layout) (program : List ℕ) (before after : Outside) (answer : Status)
     (report : List ℕ) : Type 0 where
   pub lacks : LacksLoaded layout program before.files after.files answer report
@@ -82,7 +82,7 @@ abbrev pub AnswersDebug : Layout → List ℕ → Outside → Outside → Status
 AnswersDebug layout program before after answer report =
     DebugsProgram layout program before after answer report ⊎ RefusesDebug layout program before after answer report
 
--- both are there, and the report failed in the session
+-- both are there, and the report failed during the session
 pub record BreaksDebug (layout : Layout) (program : List ℕ) (before after : Outside)
     (blank full : Option (List ℕ)) : Type 0 where
   pub plan : Plan

@@ -19,7 +19,7 @@ use cf_words::LayoutWord;
 use cli_files::{Answer, Loaded, Status, Which, done, line, load, no_memory, unread, write_fault};
 use std::alloc::Global;
 
-/// The answer of a session that ended so; it fails where the report did.
+/// The answer of a session that ended in this way; it fails where the report did.
 fn answer_of(ended: Debugged) -> Result<Answer, Failed>
     ensures told { IfOk result (λ answer. ended ≢ ReportFault) }
     ensures status { IfOk result (λ answer. answer.status ≡ status_for ended) }
@@ -82,7 +82,7 @@ fn debug_loaded<S: Source, K: Sink, R: Sink>(
 /// input, one a line, until one of them is `end` or there are no more. The answers are put to the report, and what the program
 /// writes to the output; the program's own input is empty. A session that ends otherwise has one more line, which says how:
 /// where there are over 16,777,216 bytes of commands, where these failed, and where the output failed. It fails where the report
-/// does, which is then put nothing more.
+/// fails; nothing more is then put to it.
 pub fn debug_program<F: Files, S: Source, K: Sink, R: Sink>(
     alloc: Global,
     layout: LayoutWord<'_>,

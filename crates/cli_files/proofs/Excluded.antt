@@ -1,4 +1,4 @@
--- A file that is a program is refused for nothing.
+-- A file that is a program is never refused.
 use Rattle.std.proofs.Common.{◌≡◌, ℕ, List, [], ◌∷◌, length, false, Bool, if◌then◌else◌, Some, ap, sym, subst, arith}
 use Rattle.elf_view.proofs.Executables.{refused-no_elf}
 use Rattle.mem_regions.specs.declared.Part.{Part}

@@ -16,7 +16,7 @@ pub layout-described : (before after : Option Told) (name file : List ℕ) (r : 
 layout-described before after name file (Ok plan) front h = (file, front, h)
 layout-described before after name file (Err answer) front h = tt
 
--- a file that is refused gives none
+-- a file that is refused gives no layout
 pub layout-refused : (before after : Option Told) (name file : List ℕ) (r : Result Plan Answer) →
     IsFrontOf (most_layout_bytes + 1) before after name file →
     IfErr r (λ answer. IsNoLayout file answer.status answer.closing) →

@@ -11,7 +11,7 @@ use Rattle.cli_files.specs.RunFiles.{RunAsked, LacksFile}
 use Rattle.cli_files.specs.Scripts.{LacksScript}
 use Rattle.cli_files.specs.declared.status.Status.{Status}
 
--- a count that stays, beside no error
+-- a count that stays, where there is no error
 pub no-cause : (n : ℕ) (r : Result (Unit {0}) (Unit {0})) → r ≡ Ok tt → HasCause n n r
 no-cause n (Ok u) h = record { never_falls = omega arith; rose = tt; still = refl }
 no-cause n (Err u) h = absurd (cc)

@@ -20,7 +20,7 @@ program-found before after name image (Ok hart) front program begins = record {
 }
 program-found before after name image (Err answer) front program begins = tt
 
--- one that was read and is none
+-- an image that was read and is no program
 pub program-refused : (before after : Option Told) (name image : List ℕ) (r : Result Hart Answer) →
     IsFrontOf (most_bytes + 1) before after name image →
     IfErr r (λ answer. IsNoProgram image answer.status answer.closing) →

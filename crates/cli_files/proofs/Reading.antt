@@ -23,7 +23,7 @@ use Rattle.cli_files.specs.Scripts.{LacksScript}
 use Rattle.cli_files.specs.declared.status.Status.{Status}
 use Rattle.cli_files.specs.declared.status.Which.{Which}
 
--- files that tell were read by just these names, and memory was found for each
+-- files that tell were read by exactly these names, and memory was found for each
 abbrev pub AllRead : List (List ℕ) → Option Told → Option Told → Type 0
 AllRead names None after = Unit {0}
 AllRead names (Some told) after =
@@ -34,7 +34,7 @@ pub none-read : (a b : Option Told) → b ≡ a → AllRead [] a b
 none-read None b same = tt
 none-read (Some told) b same = (told, same, sym (append-nil told.read), refl)
 
--- one file was
+-- one file was read
 pub one-read : (most : ℕ) (a b : Option Told) (name bytes : List ℕ) → IsFrontOf most a b name bytes → AllRead (name ∷ []) a b
 one-read most None b name bytes front = tt
 one-read most (Some told) b name bytes front = (with_read told name, front.3, refl, refl)
@@ -64,7 +64,7 @@ were-all xs (Some told) b (now, is, read, same) = (
   },
 )
 
--- none of some names was
+-- none of some names was read
 pub were-none : (xs : List (List ℕ)) (a b : Option Told) → b ≡ a → WereRead xs a b
 were-none xs None b same = tt
 were-none xs (Some told) b same =
@@ -91,7 +91,7 @@ pub were-lacking : (which : Which) (reported name : List ℕ) (a b : Option Told
 were-lacking which reported name a b answer report (inl r) = were-failed a b name r.noted
 were-lacking which reported name a b answer report (inr r) = were-unheld a b name r.noted
 
--- a count of reads without memory, behind files for each of which there was some
+-- a count of reads without memory, after files for each of which there was some
 later : (before between after size count all : ℕ) → between ≡ before →
     (after ≡ between) ⊎ ((after ≡ raised between) × (count < size)) →
     (after ≡ before) ⊎ ((after ≡ raised before) × (all + count < all + size))

@@ -19,7 +19,7 @@ abbrev pub files_decided : Result Answer Failed → Result (Unit {0}) (Unit {0})
 files_decided (Ok answer) = files_answered answer.status
 files_decided (Err failed) = Ok tt
 
--- a count of faults beside what was decided: it rose just where the answer says so; where the report failed it has not fallen
+-- a count of faults, given what was decided: it rose exactly where the answer says so; where the report failed it has not fallen
 abbrev pub Counts : (Status → Result (Unit {0}) (Unit {0})) → ℕ → ℕ → Result Answer Failed → Type 0
 Counts answered before now (Ok answer) = HasCause before now (answered answer.status)
 Counts answered before now (Err failed) = before ≤ now

@@ -6,7 +6,7 @@ use Rattle.cli_files.specs.declared.status.Status.{Status}
 use Rattle.cli_files.specs.declared.status.Status.TheVariants as status
 use Rattle.cli_files.specs.declared.status.Which.{Which}
 
--- the file's first bytes, at most so many; files that tell have noted a read by this name, and no other
+-- the file's first bytes, at most this many; files that tell have noted a read by this name, and no other
 abbrev pub IsFrontOf : ℕ → Option Told → Option Told → List ℕ → List ℕ → Type 0
 IsFrontOf most None after name bytes = Unit {0}
 IsFrontOf most (Some told) after name bytes =

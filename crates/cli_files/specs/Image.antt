@@ -55,7 +55,7 @@ parts_of_segments segments = map part_of (filter takes_room segments)
 unfoldable pub elf_parts : List ℕ → List Part
 elf_parts image = parts_of_segments (segments_of image) ++ stack_part ∷ []
 
--- the parts of a program file; one that does not begin as an ELF file is a flat image
+-- the parts of a program file; a file that does not begin as an ELF file is a flat image
 abbrev pub parts_of : List ℕ → List Part
 parts_of image =
     if starts_with_elf image then elf_parts image else flat_part (length image) ∷ stack_part ∷ []

@@ -1,4 +1,4 @@
--- The layout that a word of the command line names, and why there is none.
+-- The layout that a word of the command line names, and why it names none.
 use Rattle.std.specs.Prelude.{◌≡◌, ◌≢◌, ◌⊎◌, ℕ, ◌+◌, List, codes, Option}
 use Rattle.cf_io.specs.Reads.{Told}
 use Rattle.cf_layout.specs.Layout.{Plan}

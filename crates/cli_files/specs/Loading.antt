@@ -1,4 +1,4 @@
--- The layout and the program that a command works on, read one behind the other.
+-- The layout and the program that a command works on, read one after the other.
 use Rattle.std.specs.Prelude.{◌⊎◌, ℕ, List, Option}
 use Rattle.cf_io.specs.Reads.{Told}
 use Rattle.rv_machine.specs.Hart.{Hart}
@@ -8,14 +8,14 @@ use Rattle.cli_files.specs.Layouts.{IsLayoutAt, LacksLayout}
 use Rattle.cli_files.specs.Programs.{IsProgramAt, LacksProgram}
 use Rattle.cli_files.specs.declared.status.Status.{Status}
 
--- the word names this layout, and behind it was read the program that begins on this hart
+-- the word names this layout, and after it the program was read, which begins on this hart
 pub record IsLoaded (layout : Layout) (name : List ℕ) (before after : Option Told) (plan : Plan)
     (hart : Hart) : Type 0 where
   pub between : Option Told
   pub laid : IsLayoutAt layout before between plan
   pub program : IsProgramAt name between after hart
 
--- there is a layout, and no program
+-- the layout is there, and the program is not
 pub record StopsAtProgram (layout : Layout) (name : List ℕ) (before after : Option Told) (answer : Status)
     (report : List ℕ) : Type 0 where
   pub plan : Plan

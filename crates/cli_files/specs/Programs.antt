@@ -1,4 +1,4 @@
--- The program that a file holds, and why there is none.
+-- The program that a file holds, and why it holds none.
 use Rattle.std.specs.Prelude.{◌≡◌, ◌+◌, ◌⊎◌, ℕ, List, codes, Option}
 use Rattle.cf_io.specs.Reads.{Told}
 use Rattle.rv_machine.specs.Hart.{Hart}
@@ -25,7 +25,7 @@ IsNoProgram image answer report =
     × (report ≡ bad_program error))
     ⊎ SaysNoMemory answer report
 
--- the file was read, and gives none
+-- the file was read, and gives no program
 pub record RefusesProgram (name : List ℕ) (before after : Option Told) (answer : Status)
     (report : List ℕ) : Type 0 where
   pub image : List ℕ

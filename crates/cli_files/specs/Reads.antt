@@ -5,7 +5,7 @@ use Rattle.cf_io.specs.Reads.{Told}
 use Rattle.cf_words.specs.Options.{Schedule, by_script, by_seed, by_rule}
 use Rattle.cf_words.specs.Words.{Layout, plain, in_file}
 
--- the file of a layout, which the built-in one has not
+-- the file of a layout; the built-in one has none
 abbrev pub layout_files : Layout → List (List ℕ)
 layout_files plain = []
 layout_files (in_file name) = name ∷ []
@@ -15,20 +15,20 @@ abbrev pub files_of_layouts : List Layout → List (List ℕ)
 files_of_layouts [] = []
 files_of_layouts (word ∷ words) = layout_files word ++ files_of_layouts words
 
--- the file of the script, where the moves stand in one
+-- the file of the script, where a script gives the moves
 abbrev pub script_files : Schedule → List (List ℕ)
 script_files (by_script file) = file ∷ []
 script_files (by_seed seed) = []
 script_files by_rule = []
 
--- the first so many of the names were read, in their order and no others; behind them one read may have found no memory
+-- the first `count` of the names were read, in their order and no others; after them one read may have found no memory
 pub record ReadsFirst (names : List (List ℕ)) (before after : Told) : Type 0 where
   pub count : ℕ
   pub within : count ≤ length names
   pub read : after.read ≡ before.read ++ take count names
   pub unheld : (after.unheld ≡ before.unheld) ⊎ ((after.unheld ≡ raised before.unheld) × (count < length names))
 
--- files that tell were read so
+-- files that tell were read in this way
 abbrev pub WereRead : List (List ℕ) → Option Told → Option Told → Type 0
 WereRead names None after = Unit {0}
 WereRead names (Some told) after = (now : Told) × (after ≡ Some now) × ReadsFirst names told now

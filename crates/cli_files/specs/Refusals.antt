@@ -13,7 +13,7 @@ unfoldable pub spaced : List ℕ → List ℕ
 spaced [] = []
 spaced (n ∷ ns) = codes " " ++ decimal n ++ spaced ns
 
--- a name and the numbers behind it
+-- a name and the numbers after it
 unfoldable pub variant : List ℕ → List ℕ → List ℕ
 variant name kept = name ++ spaced kept
 

@@ -1,4 +1,4 @@
--- The files that `run` reads, one after another: the layout's, the program's and, where its moves stand in one, the script's.
+-- The files that `run` reads, one after another: the layout's, the program's and, where a script gives the moves, the script's.
 use Rattle.std.specs.Prelude.{◌≡◌, ◌⊎◌, ℕ, List, Option}
 use Rattle.cf_asked.specs.declared.show.Show.{Show}
 use Rattle.cf_io.specs.Reads.{Told}
@@ -11,7 +11,7 @@ use Rattle.cli_files.specs.Outside.{Outside}
 use Rattle.cli_files.specs.Schedules.{ReadySchedule, IsScheduled, LacksSchedule}
 use Rattle.cli_files.specs.declared.status.Status.{Status}
 
--- what the words ask of `run`: where the layout is, the file with the program, what chooses the moves, the retired instructions at which the run stops, and what it shows
+-- what the words ask of `run`: where the layout is, the file with the program, what chooses the moves, the number of retired instructions at which the run stops, and what it shows
 pub record RunAsked : Type 0 where
   pub layout : Layout
   pub program : List ℕ
@@ -28,14 +28,14 @@ run_asked layout program schedule limit show = record {
   show = show;
 }
 
--- all are there: behind layout and program this schedule was read
+-- all are there: after layout and program this schedule was read
 pub record IsReady (asked : RunAsked) (before after : Option Told) (plan : Plan) (hart : Hart)
     (schedule : ReadySchedule) : Type 0 where
   pub between : Option Told
   pub loaded : IsLoaded asked.layout asked.program before between plan hart
   pub scheduled : IsScheduled asked.schedule between after schedule
 
--- there are a layout and a program, and in the file of the script none
+-- the layout and the program are there, and the script's file gives no script
 pub record StopsAtScript (asked : RunAsked) (before after : Option Told) (answer : Status)
     (report : List ℕ) : Type 0 where
   pub plan : Plan
@@ -59,7 +59,7 @@ pub record ReadsFiles (Comes : Plan → Hart → ReadySchedule → Type 0) (aske
   pub ready : IsReady asked before.files after.files plan hart schedule
   pub comes : Comes plan hart schedule
 
--- one of them is not, and the streams were left alone
+-- one of them is missing, and the streams were left alone
 pub record RefusesRun (asked : RunAsked) (before after : Outside) (answer : Status)
     (report : List ℕ) : Type 0 where
   pub lacks : LacksFile asked before.files after.files answer report

@@ -14,7 +14,7 @@ pub data ReadySchedule : Type 0 where
   drawn_from : (seed : ℕ) → ReadySchedule
   in_turn : ReadySchedule
 
--- of the schedule that the words ask this becomes: a script's file is read, and where there is none, none
+-- what becomes of the schedule that the words ask for: a script's file is read, and where there is no script, no file is
 abbrev pub IsScheduled : Schedule → Option Told → Option Told → ReadySchedule → Type 0
 IsScheduled (by_script file) before after (in_script text) = IsScriptAt file before after text
 IsScheduled (by_script file) before after (drawn_from seed) = ⊥
@@ -28,7 +28,7 @@ FitsScript (in_script text) = length text ≤ most_script
 FitsScript (drawn_from seed) = Unit {0}
 FitsScript in_turn = Unit {0}
 
--- the words ask for the script in a file, and that gives none: the status that says why, and the report
+-- the words ask for the script in a file, and that file gives none: the status that says why, and the report
 pub record LacksSchedule (schedule : Schedule) (before after : Option Told) (answer : Status)
     (report : List ℕ) : Type 0 where
   pub file : List ℕ

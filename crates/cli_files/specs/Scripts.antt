@@ -1,4 +1,4 @@
--- The script that a file holds, and why there is none.
+-- The script that a file holds, and why it holds none.
 use Rattle.std.specs.Prelude.{◌≡◌, ◌<◌, ◌≤◌, ◌+◌, ◌⊎◌, ℕ, List, length, codes, Option}
 use Rattle.cf_io.specs.Reads.{Told}
 use Rattle.cf_scripts.specs.Limits.{most_script}

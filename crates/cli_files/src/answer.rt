@@ -1,4 +1,4 @@
-//! What a command comes to, and the answers that several commands give.
+//! The outcome of a command, and the answers that several commands give.
 
 ghost use Rattle.std.specs.Prelude.{◌≡◌, [], codes};
 ghost use Rattle.cf_texts.specs.Texts.{line as line_of};

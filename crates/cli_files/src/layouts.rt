@@ -36,7 +36,7 @@ fn read_content(alloc: Global, file: &[u8]) -> Result<Layout, Answer>
     }
 }
 
-/// The layout in the file of this name, or the answer where there is none.
+/// The layout in the file of this name, or the answer where it gives none.
 fn read_file<F: Files>(alloc: Global, name: &str, files: &mut F) -> Result<Layout, Answer>
     ensures ok { IfOk result (IsLayoutAt (in_file name.now) (F.told files.old) (F.told files.new)) }
     ensures refused { IfErr result (λ answer. LacksLayout (in_file name.now) (F.told files.old) (F.told files.new)
@@ -50,7 +50,7 @@ fn read_file<F: Files>(alloc: Global, name: &str, files: &mut F) -> Result<Layou
     }
 }
 
-/// The layout that the word names, or the answer where there is none.
+/// The layout that the word names, or the answer where it names none.
 pub fn layout_at<F: Files>(
     alloc: Global,
     word: LayoutWord<'_>,

@@ -22,7 +22,7 @@ pub struct Loaded {
     pub machine: Machine,
 }
 
-/// Reads the layout and then the program; or the answer of the first that is not there.
+/// Reads the layout and then the program; or gives the answer of the first that is not there.
 pub fn load<F: Files>(
     alloc: Global,
     layout: LayoutWord<'_>,

@@ -100,7 +100,7 @@ fn open_elf(alloc: Global, image: &[u8]) -> Result<Machine, OpenErr>
 
 /// The machine that a program file starts. A file that begins as an ELF file is one: its segments that take room in
 /// memory are loaded, and the machine begins at its entry. Any other file is a flat image, in one region that may be
-/// read, written and executed, and begins there. Behind them stands the stack.
+/// read, written and executed, and begins there. The stack comes after them.
 #[tactic(auto, unfolding(crate::specs::Image::opened))]
 pub fn open(alloc: Global, image: &[u8]) -> Result<Machine, OpenErr>
     ensures program { IfOk result (λ machine. IsProgram image.now) }
@@ -118,7 +118,7 @@ pub fn open(alloc: Global, image: &[u8]) -> Result<Machine, OpenErr>
     }
 }
 
-/// The machine that a file starts which was opened before, and so is a program: nothing but memory can be refused for it.
+/// The machine that a file starts that was opened before, and so is a program: nothing but memory can be refused for it.
 pub fn open_again(alloc: Global, image: &[u8]) -> Result<Machine, AllocError>
     requires { IsProgram image.now }
     ensures machine { IfOk result (λ machine. machine ≡ opened image.now) }

@@ -27,7 +27,7 @@ pub fn open_image(alloc: Global, image: &[u8]) -> Result<Machine, Answer>
     }
 }
 
-/// The machine that the program in the file of this name starts, or the answer where there is none.
+/// The machine that the program in the file of this name starts, or the answer where it gives none.
 pub fn program_at<F: Files>(alloc: Global, name: &str, files: &mut F) -> Result<Machine, Answer>
     ensures ok { IfOk result (IsProgramAt name.now (F.told files.old) (F.told files.new)) }
     ensures count { IfOk result (λ machine. machine.retired ≡ 0) }

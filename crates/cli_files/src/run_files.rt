@@ -24,8 +24,8 @@ pub struct Ready {
     pub schedule: ReadySchedule,
 }
 
-/// Reads the layout, the program and the script, where the words name one, in this order; or the answer of the first that
-/// is not there.
+/// Reads the layout, the program and the script, where the words name one, in this order; or gives the answer of the first
+/// that is not there.
 pub fn read_files<F: Files>(
     alloc: Global,
     layout: LayoutWord<'_>,

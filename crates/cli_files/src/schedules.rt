@@ -23,7 +23,7 @@ pub enum ReadySchedule {
     Rule,
 }
 
-/// Reads the script, where the words ask for one in a file; or the answer where that gives none.
+/// Reads the script, where the words ask for one in a file; or gives the answer where that file holds none.
 pub fn schedule_at<F: Files>(
     alloc: Global,
     schedule: Schedule<'_>,

@@ -15,7 +15,7 @@ use std::alloc::Global;
 /// The greatest length of a script, in bytes.
 const MOST_BYTES: u64 = MOST_SCRIPT as u64;
 
-/// The text of the script in the file of this name, or the answer where there is none.
+/// The text of the script in the file of this name, or the answer where it gives none.
 pub fn script_at<F: Files>(alloc: Global, name: &str, files: &mut F) -> Result<Vec<u8>, Answer>
     ensures ok { IfOk result (λ text. IsScriptAt name.now (F.told files.old) (F.told files.new) (vec_items text)) }
     ensures refused { IfErr result (λ answer. LacksScript name.now

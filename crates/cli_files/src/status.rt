@@ -27,11 +27,11 @@ pub enum ProgramErr {
     /// It is longer than a program may be.
     TooLong,
 
-    /// It begins as an ELF file does, and is none that can be viewed.
+    /// It begins as an ELF file does, and is not one that can be viewed.
     Elf(ElfErr),
 
     /// The parts of memory that it describes cannot be loaded. A part is named by its index among the segments that
-    /// take room in memory, behind which the stack stands.
+    /// take room in memory, after which the stack comes.
     Load(LoadErr),
 }
 
@@ -41,17 +41,17 @@ pub enum ScriptFault {
     /// It is longer than a script may be.
     TooLong,
 
-    /// The line that was reached tells no move.
+    /// The line that was reached is no move.
     Line(ScriptErr),
 }
 
-/// Why a file does not tell how long moves take.
+/// Why a file does not say how long moves take.
 #[derive(Clone, Copy, Debug, PartialEq, Eq)]
 pub enum DelaysFault {
     /// It is longer than a file of delays may be.
     TooLong,
 
-    /// A line tells no delay.
+    /// A line gives no delay.
     Line(DelayErr),
 }
 
@@ -74,10 +74,10 @@ pub enum Status {
     /// An instruction trapped: the cause, its address, and the address or the word at fault.
     Trap { cause: u8, pc: u32, detail: u32 },
 
-    /// So many instructions had retired, and the program had not ended.
+    /// This many instructions had retired, and the program had not ended.
     Limit(Option<u64>),
 
-    /// The script had no further move after so many that were made, and the program had not ended.
+    /// The script had no further move after this many were made, and the program had not ended.
     ScriptEnd(u64),
 
     /// The command was carried out, and its status is not that of a run.
@@ -92,7 +92,7 @@ pub enum Status {
     /// The file is no program.
     BadProgram(ProgramErr),
 
-    /// The file is no script, or a line of it that was reached tells no move.
+    /// The file is no script, or a line of it that was reached is no move.
     BadScript(ScriptFault),
 
     /// The move of this line of the script could not be made: the bar is the first of its row in the table of moves.
@@ -101,7 +101,7 @@ pub enum Status {
     /// The assembly source is refused.
     BadSource(AsmErr),
 
-    /// The file does not tell how long moves take.
+    /// The file does not say how long moves take.
     BadDelays(DelaysFault),
 
     /// The file is not the trace of a run.
@@ -121,7 +121,7 @@ impl Status {
     ghost use Rattle.cli_files.specs.Codes.{code_of};
 
     /// The status that the process ends with: a program's own, 0 at a script's end or after a command that was carried out
-    /// and has no other, or one from 120 on.
+    /// and has no other, or a number from 120 on.
     pub fn code(&self) -> u8
         ensures { result ≡ code_of self.now }
     {

@@ -1,4 +1,4 @@
--- What comes of the lines of all layouts, and of the line behind them.
+-- What comes of the lines of all layouts, and of the line after them.
 use Rattle.std.proofs.Common.{◌≡◌, ◌∙◌, ap, subst, ℕ, List, [], ◌++◌, append-nil, Option, Some, Result, Ok, Err, inl, inr}
 use Rattle.std.specs.Prelude.{codes, slice_get}
 use Rattle.std.specs.Result.{IsErr}
@@ -54,7 +54,7 @@ times-all words options delays plans hart blank told full times place named answ
       }),
     )
 
--- the report failed at that
+-- the report failed at that line
 pub times-break : (words : List Layout) (options : TimeOptions) (delays : List ℕ) (plans : List Plan) (hart : Hart) (blank told full : Option (List ℕ))
     (times : List ℕ) (place : ℕ) (named : Layout) → PutsAll words options delays plans hart blank told times →
     IsFirstLeast times place → slice_get words place ≡ Some named → WritesFront told full (least_line named) →

@@ -1,4 +1,4 @@
--- The kinds of moves with how many there are, one behind another.
+-- The kinds of moves with how many there are, one after another.
 use Rattle.std.proofs.Common.{◌≡◌, ◌∙◌, ℕ, zero, suc, ◌+◌, ◌<◌, ◌≤◌, List, [], ◌∷◌, ◌++◌, length, take, get_or, Some, refl, ap, sym, append_assoc, append-nil, arith}
 use Rattle.std.specs.Prelude.{slice_get, unwrap_or}
 use Rattle.std.specs.List.{filter, flat_map, zip}
@@ -49,7 +49,7 @@ count-at numbers i kinds within =
     zip-at names numbers i (name_at i) (get_or numbers i 0) (there names i [] (omega (arith, kinds, size)))
     (slice_get-get_or numbers i 0 within)
 
--- behind those so far
+-- after those so far
 pub counts-next : (text numbers : List ℕ) (i : ℕ) → i < 14 → i < length numbers →
     (text ++ counts_text (take i (zip names numbers))) ++ counts_text ((name_at i, get_or numbers i 0) ∷ [])
     ≡ text ++ counts_text (take (i + 1) (zip names numbers))

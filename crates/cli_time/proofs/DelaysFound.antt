@@ -1,4 +1,4 @@
--- Delays that a file tells, or that it does not.
+-- Delays that a file gives, or that it does not.
 use Rattle.std.proofs.Common.{◌≡◌, ◌≤◌, ℕ, ◌+◌, List, length, Option, Result, Ok, Err, IfOk, IfErr, inl}
 use Rattle.cf_io.specs.Reads.{Told}
 use Rattle.cf_timed.specs.DelayLines.{delays_in}
@@ -7,7 +7,7 @@ use Rattle.cli_files.specs.declared.answer.Answer.{Answer}
 use Rattle.cf_timed.specs.Limits.{most_delays}
 use Rattle.cli_time.specs.DelayFiles.{IsDelaysAt, LacksDelays, RefusesText}
 
--- a text that was read and tells delays is in its file
+-- a text that was read and gives delays is in its file
 pub delays-found : (before after : Option Told) (name text : List ℕ) (r : Result (List ℕ) Answer) →
     IsFrontOf (most_delays + 1) before after name text →
     IfOk r (λ delays. length text ≤ most_delays) → IfOk r (λ delays. delays_in text ≡ Ok delays) →
@@ -16,7 +16,7 @@ delays-found before after name text (Ok delays) front fits told =
     record { text = text; front = front; fits = fits; told = told }
 delays-found before after name text (Err answer) front fits told = tt
 
--- one that was read and tells none
+-- a text that was read and gives none
 pub delays-refused : (before after : Option Told) (name text : List ℕ) (r : Result (List ℕ) Answer) →
     IsFrontOf (most_delays + 1) before after name text →
     IfErr r (λ answer. RefusesText text answer.status answer.closing) →

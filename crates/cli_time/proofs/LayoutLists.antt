@@ -22,7 +22,7 @@ layouts-next (w ∷ words) [] word plan a b c all h = absurd all
 layouts-next (w ∷ words) (p ∷ plans) word plan a b c (m, first, more) h =
     (m, first, layouts-next words plans word plan m b c more h)
 
--- the first of those behind them that is not there
+-- the first of those after them that is not there
 pub lacks-behind : (words more : List Layout) (plans : List Plan) (a b c : Option Told) (answer : Status) (report : List ℕ) →
     AreLayoutsAt words a b plans → LacksLayouts more b c answer report → LacksLayouts (words ++ more) a c answer report
 lacks-behind [] more [] a b c answer report same h =
@@ -32,7 +32,7 @@ lacks-behind (w ∷ words) more [] a b c answer report all h = absurd all
 lacks-behind (w ∷ words) more (p ∷ plans) a b c answer report (m, first, rest) h =
     inr (inr (m, p, first, lacks-behind words more plans m b c answer report rest h))
 
--- the next one is refused, or memory for it behind its reading
+-- the next one is refused, or memory for it after it was read
 pub refused-next : (words : List Layout) (plans : List Plan) (i : ℕ) (word : Layout) (a b c : Option Told) (answer : Status) (report : List ℕ) →
     slice_get words i ≡ Some word → AreLayoutsAt (take i words) a b plans → LacksLayout word b c answer report →
     LacksLayouts words a c answer report

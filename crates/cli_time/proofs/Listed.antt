@@ -1,4 +1,4 @@
--- The texts of the first of some things, one behind another, and that of the next one.
+-- The texts of the first of some things, one after another, and that of the next one.
 use Rattle.std.proofs.Common.{◌≡◌, ◌∙◌, ℕ, zero, suc, ◌+◌, ◌-◌, ◌<◌, ◌≤◌, List, [], ◌∷◌, ◌++◌, length, take, drop, Some, refl, ap, sym, arith}
 use Rattle.std.specs.Prelude.{reverse, slice_get}
 use Rattle.std.specs.List.{flat_map}
@@ -12,7 +12,7 @@ pub texts-next : {A : Type 0} (f : A → List ℕ) (xs : List A) (i : ℕ) (x : 
     flat_map f (take i xs) ++ f x ≡ flat_map f (take (i + 1) xs)
 texts-next f xs i x e = flat_map_more f [] (take i xs) x ∙ ap (flat_map f) (sym (take-next xs i x e))
 
--- behind it stand those of the others
+-- after it come those of the others
 pub texts-behind : {A : Type 0} (f : A → List ℕ) (xs : List A) (i : ℕ) (x : A) → slice_get xs i ≡ Some x →
     (rest : List ℕ) × ((flat_map f (take i xs) ++ f x) ++ rest ≡ flat_map f xs)
 texts-behind f xs i x e =
@@ -22,7 +22,7 @@ texts-behind f xs i x e =
           ∙ (sym (flat_map-append f (take (i + 1) xs) (drop (i + 1) xs)) ∙ ap (flat_map f) (take-append-drop (i + 1) xs)),
     )
 
--- behind the last one all are there
+-- after the last one all are there
 pub texts-all : {A : Type 0} (f : A → List ℕ) (xs : List A) (i : ℕ) → length xs ≤ i → flat_map f (take i xs) ≡ flat_map f xs
 texts-all f xs i h = ap (flat_map f) (take_all i xs h)
 

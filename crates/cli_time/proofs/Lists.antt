@@ -13,7 +13,7 @@ mapped-at f [] i x e = absurd (cc)
 mapped-at f (y ∷ xs) zero x e = cc
 mapped-at f (y ∷ xs) (suc i) x e = mapped-at f xs i x e
 
--- what was pushed stands behind the others
+-- what was pushed comes after the others
 pub pushed : {A E : Type 0} (r : Result (Unit {0}) E) (failed : Bool) (old new : List A) (x : A) →
     new ≡ (if is_ok r then old ++ x ∷ [] else old) → failed ≡ is_err r → failed ≡ false → new ≡ old ++ x ∷ []
 pushed (Ok u) failed old new x h is none = h
@@ -27,7 +27,7 @@ take-next (y ∷ xs) (suc i) x e =
     let n : suc i + 1 ≡ suc (i + 1) = omega arith in
     rw n (ap (λ (zs : List _). y ∷ zs) (take-next xs i x e))
 
--- behind the first stands the next one
+-- after the first comes the next one
 pub split-at : {A : Type 0} (xs : List A) (i : ℕ) (x : A) → slice_get xs i ≡ Some x → xs ≡ take i xs ++ x ∷ drop (i + 1) xs
 split-at [] i x e = absurd (cc)
 split-at (y ∷ xs) zero x e = cc

@@ -91,7 +91,7 @@ measures used delays options sites core plan hart start measured same shown is b
     (subst (λ (b : Bool). Takes used (record { limit = options.limit; sites = b }) core.plan core measured) (sym shown) taken))))
     causes)
 
--- the clock is one of the processor's layout that was told no move
+-- the clock is a clock of the processor's layout that was told of no move
 clock-started : (core : Processor) (plan : Plan) (hart : Hart) (delays : List ℕ) (clock : SiteTimes) →
     core ≡ opened plan hart → clock ≡ started plan delays → clock ≡ started core.plan clock.delays
 unfolding opened started
@@ -106,12 +106,12 @@ pub can-begin : (limit : ℕ) (core : Processor) (plan : Plan) (hart : Hart) (de
 can-begin limit core plan hart delays clock few none is begun =
     record { can_run = can-run limit core plan hart few none is; clock_is = clock-started core plan hart delays clock is begun; none_made = refl }
 
--- and the clock is one of the delays
+-- and the clock is a clock of the delays
 pub clock-delays : (plan : Plan) (delays : List ℕ) (clock : SiteTimes) → clock ≡ started plan delays → clock.delays ≡ delays
 unfolding started
 clock-delays plan delays clock e = ap (λ (k : SiteTimes). k.delays) e
 
--- the ledger is one of the processor's layout and of the clock's delays
+-- the ledger is a ledger of the processor's layout and of the clock's delays
 pub ledger-opened : (core : Processor) (plan : Plan) (hart : Hart) (used delays : List ℕ) (ledger : Ledger) →
     core ≡ opened plan hart → used ≡ delays → ledger ≡ opened_ledger plan delays → ledger ≡ opened_ledger core.plan used
 ledger-opened core plan hart used delays ledger is same e =

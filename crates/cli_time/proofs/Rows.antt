@@ -17,7 +17,7 @@ use Rattle.cli_time.specs.Times.{BreaksAtLine}
 use Rattle.cli_time.specs.declared.measuring.Measured.{Measured}
 use Rattle.cli_time.proofs.Lists.{map-next}
 
--- one run more
+-- one more run
 pub measures-next : (delays : List ℕ) (options : TimeOptions) (hart : Hart) (plans : List Plan) (earlier : List Measured) (plan : Plan) (next : Measured) →
     MeasuresFirst delays options hart plans earlier → slice_get plans (length earlier) ≡ Some plan → Measures delays options plan hart next →
     MeasuresFirst delays options hart plans (earlier ++ next ∷ [])

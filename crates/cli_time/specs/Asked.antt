@@ -9,7 +9,7 @@ pub record TimeFiles : Type 0 where
   pub program : List ℕ
   pub layouts : List Layout
 
--- what is read, and the options: the retired instructions at which each run stops, and whether it is shown what each time is made of
+-- what is read, and the options: the number of retired instructions at which each run stops, and whether it is shown what each time is made of
 pub record TimeAsked : Type 0 where
   pub files : TimeFiles
   pub options : TimeOptions

@@ -1,4 +1,4 @@
--- The delays that a file tells, and why it tells none.
+-- The delays that a file gives, and why it gives none.
 use Rattle.std.specs.Prelude.{◌≡◌, ◌<◌, ◌≤◌, ◌+◌, ◌⊎◌, ℕ, List, length, codes, Option, Ok, Err}
 use Rattle.cf_io.specs.Reads.{Told}
 use Rattle.cf_timed.specs.DelayLines.{delays_in}
@@ -11,14 +11,14 @@ use Rattle.cli_files.specs.declared.status.Status.TheVariants as status
 use Rattle.cli_files.specs.declared.status.Which.TheVariants as which
 use Rattle.cli_time.specs.Refusals.{bad_delays}
 
--- the file's first bytes, one more than it may have, are not too many, and tell these
+-- the file's first bytes, one more than it may have, are not too many, and give these
 pub record IsDelaysAt (name : List ℕ) (before after : Option Told) (delays : List ℕ) : Type 0 where
   pub text : List ℕ
   pub front : IsFrontOf (most_delays + 1) before after name text
   pub fits : length text ≤ most_delays
   pub told : delays_in text ≡ Ok delays
 
--- why a text tells none: it is too long, or else this line of it is the first that tells no delay
+-- why a text gives none: it is too long, or else this line of it is the first that gives no delay
 abbrev pub IsNoText : List ℕ → DelaysFault → Type 0
 IsNoText text fault.TooLong = most_delays < length text
 IsNoText text (fault.Line error) = (length text ≤ most_delays) × (delays_in text ≡ Err error)
@@ -28,13 +28,13 @@ abbrev pub RefusesText : List ℕ → Status → List ℕ → Type 0
 RefusesText text answer report =
     (reason : DelaysFault) × IsNoText text reason × (answer ≡ status.BadDelays reason) × (report ≡ bad_delays reason)
 
--- the file's first bytes tell none
+-- the file's first bytes give none
 pub record RefusesDelays (name : List ℕ) (before after : Option Told) (answer : Status) (report : List ℕ) : Type 0 where
   pub text : List ℕ
   pub front : IsFrontOf (most_delays + 1) before after name text
   pub refuses : RefusesText text answer report
 
--- why the file of this name tells no delays, the status that says so, and the report
+-- why the file of this name gives no delays, the status that says so, and the report
 abbrev pub LacksDelays : List ℕ → Option Told → Option Told → Status → List ℕ → Type 0
 LacksDelays name before after answer report =
     RefusesDelays name before after answer report

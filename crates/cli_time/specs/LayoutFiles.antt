@@ -15,7 +15,7 @@ AreLayoutsAt (word ∷ words) before after [] = ⊥
 AreLayoutsAt (word ∷ words) before after (plan ∷ plans) =
     (between : Option Told) × IsLayoutAt word before between plan × AreLayoutsAt words between after plans
 
--- the first words name layouts, and the next one none, or memory to keep it was refused: the status that says why, and the report
+-- the first words name layouts, and the next one names none, or memory to keep it was refused: the status that says why, and the report
 abbrev pub LacksLayouts : List Layout → Option Told → Option Told → Status → List ℕ → Type 0
 LacksLayouts [] before after answer report = ⊥
 LacksLayouts (word ∷ words) before after answer report =

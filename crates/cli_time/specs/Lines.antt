@@ -17,11 +17,11 @@ unended text = take (length text - 1) text
 unfoldable pub ending_text : ℕ → Timed → List ℕ
 ending_text limit answer = unended (line_of_run limit (answer_of answer))
 
--- a number behind its name
+-- a number after its name
 unfoldable pub number_text : List ℕ → ℕ → List ℕ
 number_text name number = name ++ decimal number
 
--- what was measured, behind the name of the layout
+-- what was measured, after the name of the layout
 unfoldable pub measured_text : ℕ → Measured → List ℕ
 measured_text limit measured =
     codes ": " ++ ending_text limit measured.answer ++ number_text (codes " time ") measured.time
@@ -31,7 +31,7 @@ measured_text limit measured =
 abbrev pub time_line : ℕ → Layout → Measured → List ℕ
 time_line limit word measured = name_of word ++ measured_text limit measured
 
--- the same, and behind it the lines of what the time is made of, where that is shown
+-- the same, and after it the lines of what the time is made of, where that is shown
 abbrev pub layout_lines : ℕ → Layout → Measured → List ℕ
 layout_lines limit word measured = time_line limit word measured ++ sites_text measured.sites
 

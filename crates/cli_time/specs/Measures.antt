@@ -33,16 +33,16 @@ pub record Takes (delays : List ℕ) (options : TimeOptions) (plan : Plan) (core
   pub retired_is : measured.retired ≡ last.state.retired
   pub sites_are : measured.sites ≡ made_of options.sites plan delays runs.right.moves
 
--- so it is of the processor of the layout that is opened on the hart
+-- the same of the layout's processor, opened on the hart
 pub record Measures (delays : List ℕ) (options : TimeOptions) (plan : Plan) (hart : Hart) (measured : Measured) : Type 0 where
   pub takes : Takes delays options plan (opened plan hart) measured
   -- the time is the sum of the delays of a longest chain of the run
   pub longest : IsLongest plan delays takes.runs.right.moves measured.time
-  -- ending and count are those of the sequential machine over the empty input, so that the run ended by itself or at the limit
+  -- ending and count are those of the sequential machine over the empty input, so the run ended by itself or at the limit
   pub machine : EndsAsMachine options.limit hart (begins (opened plan hart) quiet) (place_of takes.last quiet None takes.runs.tally)
       (answer_of measured.answer)
 
--- so it is of the first layouts
+-- the same of the first layouts
 abbrev pub MeasuresFirst : List ℕ → TimeOptions → Hart → List Plan → List Measured → Type 0
 MeasuresFirst delays options hart plans [] = Unit {0}
 MeasuresFirst delays options hart [] (measured ∷ more) = ⊥

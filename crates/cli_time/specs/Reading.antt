@@ -15,7 +15,7 @@ pub record IsLaid (asked : TimeFiles) (before after : Option Told) (delays : Lis
   pub delays_at : IsDelaysAt asked.delays before between delays
   pub layouts : AreLayoutsAt asked.layouts between after plans
 
--- and behind them the program, which begins on this hart
+-- and after them the program, which begins on this hart
 pub record IsReady (asked : TimeFiles) (before after : Option Told) (delays : List ℕ) (plans : List Plan)
     (hart : Hart) : Type 0 where
   pub between : Option Told

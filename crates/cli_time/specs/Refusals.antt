@@ -1,4 +1,4 @@
--- The report of a file that tells no delays (a format of this project).
+-- The report of a file that gives no delays (a format of this project).
 use Rattle.std.specs.Prelude.{ℕ, List, ◌++◌, codes, decimal}
 use Rattle.cf_texts.specs.Texts.{line}
 use Rattle.cf_scripts.specs.declared.delay_refusal.DelayErr.{DelayErr}
@@ -7,7 +7,7 @@ use Rattle.cf_scripts.specs.declared.delay_refusal.DelayKind.TheVariants.{NotAsc
 use Rattle.cli_files.specs.declared.status.DelaysFault.{DelaysFault}
 use Rattle.cli_files.specs.declared.status.DelaysFault.TheVariants as fault
 
--- why a line tells no delay
+-- why a line gives no delay
 unfoldable pub kind_text : DelayKind → List ℕ
 kind_text NotAscii = codes "NotAscii"
 kind_text UnknownKind = codes "UnknownKind"
@@ -15,7 +15,7 @@ kind_text KindTwice = codes "KindTwice"
 kind_text BadDelay = codes "BadDelay"
 kind_text ExtraWords = codes "ExtraWords"
 
--- the line that tells none, by its number, and why
+-- the line that gives none, by its number, and why
 unfoldable pub error_text : DelayErr → List ℕ
 error_text error = codes " line " ++ decimal error.line ++ codes ": " ++ kind_text error.kind
 

@@ -35,7 +35,7 @@ Count = List ℕ × ℕ
 abbrev pub is_made : Count → Bool
 is_made (name, number) = nat_lt 0 number
 
--- both, behind a space
+-- both, after a space
 abbrev pub count_text : Count → List ℕ
 count_text (name, number) = codes " " ++ name ++ codes "=" ++ decimal number
 

@@ -25,7 +25,7 @@ pub record MeasuresAll (words : List Layout) (options : TimeOptions) (delays : L
   pub least : IsFirstLeast (map (λ m. m.time) measured) place
   pub named_is : slice_get words place ≡ Some named
 
--- it was, and the report has a line for each layout and names that one
+-- it was run on each, and the report has a line for each layout and names that one
 pub record Compares (words : List Layout) (options : TimeOptions) (delays : List ℕ) (plans : List Plan) (hart : Hart)
     (answer : Status) (report : List ℕ) : Type 0 where
   pub measured : List Measured
@@ -34,7 +34,7 @@ pub record Compares (words : List Layout) (options : TimeOptions) (delays : List
   pub status_is : answer ≡ status.Done
   pub reports : report ≡ time_lines options.limit words measured ++ least_line named
 
--- memory was refused before the first move of a run; the lines of the earlier runs stand before the one that says so
+-- memory was refused before the first move of a run; the lines of the earlier runs come before the line that says so
 pub record LacksRun (words : List Layout) (options : TimeOptions) (delays : List ℕ) (plans : List Plan) (hart : Hart)
     (answer : Status) (report : List ℕ) : Type 0 where
   pub measured : List Measured

@@ -106,9 +106,9 @@ fn compare_ready<R: Sink>(
 
 /// Carries out `time`: reads the delays, the one to eight layouts in their order and the program, and runs the program on each
 /// layout, loaded anew, by the moves that are done first. The line of each is put to the report as it comes, with how the run
-/// ended, its time in ticks, and how many moves were made and instructions retired; behind it, where the options say so, what that
+/// ended, its time in ticks, and how many moves were made and instructions retired; after it, where the options say so, what that
 /// time is made of. The last line names the first layout with the least time. The program's input is empty, and its output goes nowhere. Memory may be refused before the first move of each run,
-/// so that lines of the earlier ones stand there then. It fails where the report does, which is then put nothing more.
+/// and then the lines of the earlier ones stand there. It fails where the report fails; nothing more is then put to it.
 pub fn compare_layouts<F: Files, R: Sink>(
     alloc: Global,
     delays: &str,

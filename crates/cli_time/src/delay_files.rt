@@ -1,4 +1,4 @@
-//! The delays that a file tells.
+//! The delays that a file gives.
 
 ghost use Rattle.std.specs.Prelude.{◌≡◌, ◌≤◌, IfOk, IfErr, Ok, length};
 ghost use Rattle.cf_io.specs.Causes.{HasCause};
@@ -28,7 +28,7 @@ fn refusal(fault: DelaysFault) -> Answer
     }
 }
 
-/// The delays that a text tells, or the answer where it tells none.
+/// The delays that a text gives, or the answer where it gives none.
 fn read_text(text: &[u8]) -> Result<Delays, Answer>
     ensures fits { IfOk result (λ delays. length text.now ≤ most_delays) }
     ensures told { IfOk result (λ delays. delays_in text.now ≡ Ok delays) }
@@ -43,7 +43,7 @@ fn read_text(text: &[u8]) -> Result<Delays, Answer>
     }
 }
 
-/// The delays that the file of this name tells, or the answer where it tells none. One byte more than it may have is read of it.
+/// The delays that the file of this name gives, or the answer where it gives none. One byte more than it may have is read of it.
 pub(crate) fn delays_at<F: Files>(
     alloc: Global,
     name: &str,

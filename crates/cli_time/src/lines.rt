@@ -42,7 +42,7 @@ fn push_ending(page: &mut Page, limit: u64, answer: Timed)
     page.push(&line[..line.len().saturating_sub(1)]);
 }
 
-/// A number behind its name.
+/// A number after its name.
 fn push_number(page: &mut Page, name: &[u8], number: u64)
     requires { length page.old + length name.now + 20 ≤ page_room }
     ensures text { page.new ≡ page.old ++ number_text name.now number }
@@ -52,7 +52,7 @@ fn push_number(page: &mut Page, name: &[u8], number: u64)
     page.push_decimal(number);
 }
 
-/// What was measured, as it stands behind the name of the layout.
+/// What was measured, as it stands after the name of the layout.
 fn measured_page(limit: u64, measured: Measured) -> Page
     ensures { result ≡ measured_text limit measured }
 {
@@ -75,7 +75,7 @@ fn name_of(word: LayoutWord<'_>) -> &[u8]
     }
 }
 
-/// Puts one text, and another behind it.
+/// Puts one text, and another after it.
 fn put_both<R: Sink>(first: &[u8], second: &[u8], report: &mut R) -> Result<(), Failed>
     ensures { PutsText (R.written report.old) (R.written report.new)
         (R.faults report.old) (R.faults report.new) (first.now ++ second.now) result }
@@ -84,7 +84,7 @@ fn put_both<R: Sink>(first: &[u8], second: &[u8], report: &mut R) -> Result<(), 
     put_all(report, second)
 }
 
-/// Puts the line of a layout, and behind it those of what its time is made of, where that is shown.
+/// Puts the line of a layout, and after it those of what its time is made of, where that is shown.
 pub(crate) fn put_layout<R: Sink>(
     limit: u64,
     word: LayoutWord<'_>,

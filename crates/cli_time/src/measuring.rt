@@ -32,7 +32,7 @@ pub struct Measured {
     pub sites: Option<Breakdown>,
 }
 
-/// What is measured of a run that ended so.
+/// What is measured of a run that ended in this way.
 fn measurement(
     core: &Core,
     answer: Timed,
@@ -51,7 +51,7 @@ fn measurement(
     }
 }
 
-/// Runs an opened processor by a clock that was told no move, and no ledger is kept.
+/// Runs an opened processor by a clock that was told of no move; no ledger is kept.
 fn take_time(core: &mut Core, candidates: &mut Candidates, clock: Clock, limit: u64) -> Measured
     requires begins { CanBegin limit core.old clock 0 }
     ensures takes { Takes clock.delays (record { limit = limit; sites = false }) core.old.plan core.old result }
@@ -71,7 +71,7 @@ fn take_time(core: &mut Core, candidates: &mut Candidates, clock: Clock, limit: 
     measurement(core, answer, &clock, moves, None)
 }
 
-/// The same with a ledger that was told no move either, by which it is told what the time is made of.
+/// The same with a ledger that was told of no move either, which then says what the time is made of.
 fn take_sites(
     core: &mut Core,
     candidates: &mut Candidates,

@@ -25,7 +25,7 @@ pub(crate) struct Ready {
     pub(crate) image: Vec<u8>,
 }
 
-/// The bytes of the file of this name, which are a program, or the answer where they are none.
+/// The bytes of the file of this name, which are a program, or the answer where they are no program.
 fn image_at<F: Files>(alloc: Global, name: &str, files: &mut F) -> Result<Vec<u8>, Answer>
     ensures ok { IfOk result (λ image. IsProgramAt name.now (F.told files.old) (F.told files.new) (opened (vec_items image))) }
     ensures program { IfOk result (λ image. IsProgram (vec_items image)) }
@@ -43,7 +43,7 @@ fn image_at<F: Files>(alloc: Global, name: &str, files: &mut F) -> Result<Vec<u8
     }
 }
 
-/// Reads the delays, the layouts and the program, in this order; or the answer of the first that is not there.
+/// Reads the delays, the layouts and the program, in this order; or gives the answer of the first that is not there.
 pub(crate) fn read_files<F: Files>(
     alloc: Global,
     delays: &str,

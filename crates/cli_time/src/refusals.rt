@@ -1,4 +1,4 @@
-//! The report of a file that tells no delays.
+//! The report of a file that gives no delays.
 #![tactic(auto, unfolding(crate::specs::Refusals::kind_text, crate::specs::Refusals::error_text, crate::specs::Refusals::bad_delays))]
 
 ghost use Rattle.std.specs.Prelude.{◌≡◌, ◌+◌, ◌≤◌, ◌++◌, length};
@@ -34,7 +34,7 @@ fn push_error(page: &mut Page, error: DelayErr)
     push_kind(page, error.kind);
 }
 
-/// The report of a file that tells no delays: it is too long, or the first line that tells none, and why.
+/// The report of a file that gives no delays: it is too long, or the first line that gives none, and why.
 pub(crate) fn bad_delays(fault: DelaysFault) -> Page
     ensures { result ≡ bad_delays_text fault }
 {

@@ -84,7 +84,7 @@ fn put_sidings<R: Sink>(made: &Breakdown, report: &mut R) -> Result<(), Failed>
     Ok(())
 }
 
-/// A kind of move and how many there are, behind a space; nothing where there are none.
+/// A kind of move and how many there are, after a space; nothing where there are none.
 #[tactic(auto, unfolding(crate::specs::SiteLines::counts_text))]
 fn push_count(page: &mut Page, place: usize, number: u64)
     requires place { place < 14 }
@@ -111,7 +111,7 @@ fn push_counts(page: &mut Page, numbers: &[u64; 14])
     }
 }
 
-/// How many moves of each kind there are, behind a name.
+/// How many moves of each kind there are, after a name.
 fn kinds_page(name: &[u8], numbers: &[u64; 14]) -> Page
     requires { length name.now ≤ 10 }
     ensures { result ≡ kinds_line name.now numbers.now }

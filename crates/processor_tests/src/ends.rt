@@ -1,4 +1,4 @@
-//! What no clause says: that there is memory for the lane, and that requests are answered in their order, also where the
+//! What no clause says: that there is memory for the lane, and that requests are answered in their order, even where the
 //! lane wraps around. The values are worked out by hand.
 
 use cf_bind::Packet;

@@ -38,7 +38,7 @@ fn known(reg: u8, value: u32) -> Option<Binding> {
     })
 }
 
-/// `addi x1, x0, 5`, whose value is kept at the bottom; `addi x2, x1, 1`, which finds it there; and `jal x0, 4`, behind which
+/// `addi x1, x0, 5`, whose value is kept at the bottom; `addi x2, x1, 1`, which finds it there; and `jal x0, 4`, after which
 /// fetch waited.
 #[test]
 fn three_instructions(rt: HostRuntime) -> Result<(), Fail> {
@@ -63,7 +63,7 @@ fn three_instructions(rt: HostRuntime) -> Result<(), Fail> {
     Ok(())
 }
 
-/// ECALL, behind which nothing is fetched before it is answered.
+/// ECALL, after which nothing is fetched before it is answered.
 #[test]
 fn a_call_is_answered(rt: HostRuntime) -> Result<(), Fail> {
     let ends = Ends::new(rt.alloc(), [0; 32], 0x1_0000, 2)?;

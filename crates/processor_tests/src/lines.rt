@@ -1,4 +1,4 @@
-//! Lines that were worked by hand.
+//! Lines that were worked out by hand.
 use cf_texts::retirement_line;
 
 #[test]

@@ -1,4 +1,4 @@
-//! Programs and environment calls that were worked by hand from the manual and the tables of Linux.
+//! Programs and environment calls that were worked out by hand from the manual and the tables of Linux.
 use crate::programs::{BASE, STACK, machine_of};
 use cf_io::{Empty, MemSink, MemSource, Nowhere};
 use mem_regions::Regions;
@@ -39,7 +39,7 @@ fn ends_as_the_manual_says(rt: HostRuntime) -> Result<(), Fail> {
             trap(4, BASE + 4, 0x7f10_0002),
             1,
         ),
-        // lw x6, 0(x5): one byte behind the stack.
+        // lw x6, 0(x5): one byte past the stack.
         (
             [0x7f10_02b7, 0x0002_a303].as_slice(),
             trap(5, BASE + 4, 0x7f10_0000),
@@ -55,7 +55,7 @@ fn ends_as_the_manual_says(rt: HostRuntime) -> Result<(), Fail> {
             trap(2, BASE + 8, 0x0273_0533),
             2,
         ),
-        // A program that writes its last instruction over its fifth: with fence.i it is fetched anew, with fence not.
+        // A program that writes its last instruction over its fifth: with fence.i it is fetched anew, with fence it is not.
         (
             [
                 0x0001_02b7,

@@ -12,7 +12,7 @@ const NOP: u32 = 0x0000_0013;
 
 const EBREAK: u32 = 0x0010_0073;
 
-/// Code at 100, which may be written, and constants at 108, right behind it.
+/// Code at 100, which may be written, and constants at 108, right after it.
 fn memory(rt: &(impl Abort + AllocGlobal)) -> Regions {
     let code = Part {
         base: 100,

@@ -1,4 +1,4 @@
-//! The texts of moves, and the meetings of two instructions `addi x1, x1, 1` that were worked by hand.
+//! The texts of moves, and the meetings of two instructions `addi x1, x1, 1` that were worked out by hand.
 use cf_bind::{Binding, Guess, Move, MoveLine, Packet, Passenger, meet, move_text};
 use rv_inst::decode;
 

@@ -1,4 +1,4 @@
-//! Runs that were worked by hand, under the built-in layout: what no clause says is that there is memory for a processor, and
+//! Runs that were worked out by hand, under the built-in layout: what no clause says is that there is memory for a processor, and
 //! that these moves lead from its start to where a reader of the table of moves expects them to.
 use crate::programs::{BASE, machine_of};
 use cf_bind::{Bar, Guess, Move};
@@ -13,7 +13,7 @@ fn core_of(rt: &(impl Abort + AllocGlobal), words: &[u32]) -> Result<Core, Fail>
     Ok(Core::new(rt.alloc(), plain(), machine_of(rt, words, BASE)?)?)
 }
 
-/// Makes the moves in order, up to the first that is not made, and tells what came of that one.
+/// Makes the moves in order, up to the first that is not made, and says what came of that one.
 fn make(core: &mut Core, moves: &[Move]) -> Option<Step> {
     for m in moves {
         if core.retired() > 1000 {

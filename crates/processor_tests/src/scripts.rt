@@ -4,7 +4,7 @@ use cf_scripts::{Script, ScriptErr, ScriptKind, kind_name, place_named, read_mov
 use rv_text::TextLine;
 use std::process::Abort;
 
-/// The script tells these moves with their lines and then ends so, and goes on to do so.
+/// The script gives these moves with their lines and then ends in this way, again and again.
 fn assert_tells(
     rt: &(impl Abort + AllocGlobal),
     text: &[u8],
@@ -90,7 +90,7 @@ fn refusals(rt: HostRuntime) {
     }
 }
 
-/// A refusal comes behind the moves above it, and nothing behind it is read.
+/// A refusal comes after the moves above it, and nothing after it is read.
 #[test]
 fn moves_above_a_refusal(rt: HostRuntime) {
     let moves = [(1, Move::Emit), (3, Move::Exit)];

@@ -44,7 +44,7 @@ fn value(value: u32) -> Option<Packet> {
     Some(Packet::Value { reg: 1, value })
 }
 
-/// What stands in a stage that there is.
+/// What stands in a stage that exists.
 fn cell(rt: &impl Abort, stages: &Stages, i: u32) -> Cell
     ensures { Some result ≡ cell_at stages.now i }
 {

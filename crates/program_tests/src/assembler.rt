@@ -114,7 +114,7 @@ fn a_program_is_assembled(rt: HostRuntime) {
     assert!(rt; gives(&rt, b"", &[], &[]));
 }
 
-/// Addresses of which the one of the instruction is 4 GiB away, counted in 32 bits, or half as far.
+/// Addresses that are almost 4 GiB away from the instruction's, counted in 32 bits, or half as far.
 const FAR: &str = "la a0, 0xfffff800\nla a1, 0x7ffffffc\ncall 0xfffff800\n.text\nnop\n";
 
 #[test]

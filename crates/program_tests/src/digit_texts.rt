@@ -1,4 +1,4 @@
-//! Digits that were worked by hand.
+//! Digits that were worked out by hand.
 use digits::hex8;
 
 #[test]

@@ -1,5 +1,5 @@
 //! What no clause says: the first lines of programs, letter by letter, and an output that fails in mid-stream. The
-//! first draws were worked by hand: of 1 they are 1015568748 / 65536 = 15496 and 1586005467 / 65536 = 24200, and of 3
+//! first draws were worked out by hand: of 1 they are 1015568748 / 65536 = 15496 and 1586005467 / 65536 = 24200, and of 3
 //! the first is 1018897798 / 65536 = 15547. The other lines come from a script in another language that was written
 //! from the description of the text alone.
 
@@ -19,7 +19,7 @@ fn sink_failing_at(rt: &(impl Abort + AllocGlobal), put: u64) -> MemSink {
         .expect(rt, "memory")
 }
 
-/// The program of so many statements begins with this text.
+/// The program of this many statements begins with this text.
 fn assert_begins(rt: &(impl Abort + AllocGlobal), number: u32, text: &[u8]) -> Result<(), Fail>
     requires some { 1 ≤ number }
     requires limit { number ≤ most_statements }

@@ -1,6 +1,6 @@
 //! What no clause says: that files are accepted, and that the definitions mean what is wanted. The offsets and numbers are
 //! those of the Tool Interface Standard, Executable and Linking Format Specification, with the machine and the flags of
-//! the RISC-V ELF psABI Specification. `readelf -h -l -S -s` of GNU binutils reads both files as they are told here.
+//! the RISC-V ELF psABI Specification. `readelf -h -l -S -s` of GNU binutils reads both files as they are described here.
 
 ghost use Rattle.std.specs.Prelude.{◌+◌, ◌≤◌};
 

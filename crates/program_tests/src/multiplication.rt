@@ -2,7 +2,7 @@
 use rv_inst::MulOp;
 use rv_mul::product;
 
-/// The greatest word and the least signed one, worked by hand from the manual's definitions.
+/// The greatest word and the least signed one, worked out by hand from the manual's definitions.
 #[test]
 fn upper_words_of_products(rt: HostRuntime) {
     let rows = [

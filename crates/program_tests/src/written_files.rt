@@ -1,6 +1,6 @@
 //! What no clause says: that files are written, and that the definitions mean what is wanted. The offsets and numbers are
 //! those of the Tool Interface Standard, Executable and Linking Format Specification; `readelf -a` of GNU binutils reads the
-//! file as it is told here.
+//! file as it is described here.
 
 use elf_make::write_elf;
 use elf_view::Elf;

@@ -1,4 +1,4 @@
-//! What the simulator is called with, and what that comes to.
+//! What the simulator is called with, and what the outcome is.
 
 use std::alloc::{AllocError, Global};
 
@@ -38,7 +38,7 @@ pub struct Fails {
     pub report: Vec<u64>,
 }
 
-/// What a call comes to.
+/// The outcome of a call.
 #[derive(Drop)]
 pub struct Outcome {
     /// The status that the process ends with.
@@ -59,7 +59,7 @@ pub(crate) fn find<'a>(list: &'a [Named], name: &str) -> Option<&'a [u8]> {
     None
 }
 
-/// Puts the bytes under the name, in the place of those that stood there.
+/// Puts the bytes under the name, in place of those that stood there.
 pub(crate) fn keep(
     alloc: Global,
     list: &mut Vec<Named>,

@@ -1,4 +1,4 @@
-//! The lines that tell bytes.
+//! The lines that give bytes.
 
 use crate::call::{Named, find};
 use crate::line_err::LineErr;
@@ -33,7 +33,7 @@ fn hexadecimal(word: &str) -> Result<u32, LineErr> {
     }
 }
 
-/// Puts the bytes in the place of others.
+/// Puts the bytes in place of others.
 fn overwrite(content: &mut Vec<u8>, at: usize, bytes: &[u8]) -> Result<(), LineErr> {
     if content.len().saturating_sub(at) < bytes.len() {
         return Err(LineErr::Unknown);
@@ -62,7 +62,7 @@ fn add_code(content: &mut Vec<u8>, words: &str) -> Result<(), LineErr> {
     Ok(())
 }
 
-/// Adds one byte so many times.
+/// Adds one byte a number of times.
 fn repeat(content: &mut Vec<u8>, words: &str) -> Result<(), LineErr> {
     let Some((count, byte)) = words.split_once(' ') else {
         return Err(LineErr::Unknown);
@@ -124,7 +124,7 @@ fn unescaped(alloc: Global, text: &str) -> Result<String, AllocError> {
     Ok(made)
 }
 
-/// Puts a text in the place of another where that stands first.
+/// Puts a text in place of another, where the other comes first.
 fn replace(content: &mut Vec<u8>, old: &str, new: &str) -> Result<(), LineErr> {
     let alloc = *content.allocator();
     let old = unescaped(alloc, old)?;

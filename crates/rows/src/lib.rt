@@ -1,4 +1,4 @@
-//! Rows of worked calls, line by line: what the simulator is called with, and what that is to come to.
+//! Rows of worked calls, line by line: what the simulator is called with, and what the outcome is to be.
 #![tactic(auto)]
 
 mod call;

@@ -7,7 +7,7 @@ use std::alloc::{AllocError, AllocFailed};
 pub enum LineErr {
     /// Memory was refused.
     NoMemory,
-    /// The line is none of a row.
+    /// The line is not one of a row.
     Unknown,
 }
 

@@ -15,12 +15,12 @@ pub enum Matching {
     Begins,
     /// What the call left is a front of the row's, and shorter.
     Front,
-    /// What the call left has so many bytes.
+    /// What the call left has this many bytes.
     Size(usize),
 }
 
 impl Matching {
-    /// By the words behind `output` or `report`.
+    /// By the words after `output` or `report`.
     pub(crate) fn from_words(words: &str) -> Result<Matching, LineErr> {
         match words {
             "" => Ok(Matching::Whole),

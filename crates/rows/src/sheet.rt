@@ -7,7 +7,7 @@ use crate::matching::Matching;
 use std::alloc::{AllocError, Global};
 use std::mem;
 
-/// What the bytes are for that the next lines tell.
+/// What the bytes that the next lines give are for.
 #[derive(Drop)]
 enum Part {
     Nothing,
@@ -51,7 +51,7 @@ fn nothing_wanted(alloc: Global) -> Wanted {
     }
 }
 
-/// The first word of a line, and what stands behind the space that follows it.
+/// The first word of a line, and what comes after the space that follows it.
 fn split(line: &str) -> (&str, &str) {
     match line.split_once(' ') {
         Some((word, rest)) => (word, rest),
@@ -91,7 +91,7 @@ impl Sheet {
         &self.wanted
     }
 
-    /// Hands the bytes that were told to the part that they are for.
+    /// Hands the bytes that were given to the part that they are for.
     fn close(&mut self) -> Result<(), AllocError> {
         let alloc = self.alloc;
         let content = mem::replace(&mut self.content, Vec::new(alloc));
@@ -121,7 +121,7 @@ impl Sheet {
         keep(alloc, &mut self.kept, "report", report)
     }
 
-    /// Begins a row with the call of the one before.
+    /// Begins a row with the call of the row before.
     fn begin_again(&mut self, name: &str) -> Result<(), LineErr> {
         self.name = Some(String::from_str(self.alloc, name)?);
         self.wanted = nothing_wanted(self.alloc);
@@ -164,7 +164,7 @@ impl Sheet {
         Ok(())
     }
 
-    /// Begins a part whose bytes the next lines tell; whether the word names one.
+    /// Begins a part whose bytes the next lines give; whether the word names one.
     fn begin_part(&mut self, word: &str, rest: &str) -> Result<bool, LineErr> {
         let part = match word {
             "file" => Part::File(String::from_str(self.alloc, rest)?),
@@ -192,7 +192,7 @@ impl Sheet {
         }
     }
 
-    /// Does what the line says. A line that is none of a row is refused.
+    /// Does what the line says. A line that is not one of a row is refused.
     pub fn heed(&mut self, line: &str) -> Result<(), LineErr> {
         let (word, rest) = split(line);
         if word.is_empty() || word.starts_with("#") || self.begin_part(word, rest)? {

@@ -1,4 +1,4 @@
-//! Candidates that were worked by hand from the table of moves, under the built-in layout: what no clause says is that these
+//! Candidates that were worked out by hand from the table of moves, under the built-in layout: what no clause says is that these
 //! moves are allowed where a reader of the table expects them to be.
 use crate::processors::{BRANCH_BEHIND, core_of};
 use cf_bind::{Guess, Move};

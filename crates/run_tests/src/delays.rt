@@ -3,7 +3,7 @@ use cf_bind::Move;
 use cf_timed::{DelayErr, DelayKind, Delays, read_delays};
 use std::process::Abort;
 
-/// The text tells delays.
+/// The text gives delays.
 fn delays(rt: &impl Abort, text: &[u8]) -> Delays {
     assert!(rt; text.len() <= 65_536);
     read_delays(text).expect(rt, "delays")

@@ -1,4 +1,4 @@
-//! The weight of what stands in a processor, and drains of one state, worked by hand from the table of moves.
+//! The weight of what stands in a processor, and drains of one state, worked out by hand from the table of moves.
 
 use crate::processors::{SEVEN, TINY, core_of, layout_of};
 use cf_bind::{Fetch, Guess, Move};
@@ -14,7 +14,7 @@ const SHIFT_SIDING: &[u8] =
         launch = 4\nrecover = 6\ncells = 2\n[[siding]]\nclasses = [\"shift\"]\nlaunch = 1\n\
         recover = 3\ncells = 2\n";
 
-/// `beq x0, x0, 16` and `slli x1, x2, 1`: what stands behind the branch is fetched by a wrong guess.
+/// `beq x0, x0, 16` and `slli x1, x2, 1`: what follows the branch is fetched on a wrong guess.
 const WRONG_GUESS: &[u32] = &[0x0000_0863, 0x0011_1093];
 
 /// A part of an order of moves.
@@ -22,9 +22,9 @@ const WRONG_GUESS: &[u32] = &[0x0000_0863, 0x0011_1093];
 enum Leg {
     /// One move.
     One(Move),
-    /// A packet falls from this stage on, so often.
+    /// A packet falls, from this stage on, this many times.
     Falls(u32, u32),
-    /// An instruction climbs from this stage on, so often.
+    /// An instruction climbs, from this stage on, this many times.
     Climbs(u32, u32),
 }
 
@@ -59,7 +59,7 @@ fn make_all(rt: &(impl Abort + AllocGlobal), core: &mut Core, legs: &[Leg]) {
     }
 }
 
-/// What stands nowhere weighs nothing. The first instruction weighs 3 in stage 1 of 2, 4 as it is not done, and 4 as it is
+/// An empty processor weighs nothing. The first instruction weighs 3 in stage 1 of 2, 4 as it is not done, and 4 as it is
 /// not launched where the longest siding has one cell; it requests no register.
 #[test]
 fn bounds(rt: HostRuntime) -> Result<(), Fail> {
@@ -146,7 +146,7 @@ const LEAVE: &[Leg] = &[
     Leg::One(Move::Leave),
 ];
 
-/// The state after the moves, and others behind them, in which nothing stands any more: the branch has retired, and fetch goes
+/// The state after the moves, and others after them, in which nothing stands any more: the branch has retired, and fetch goes
 /// on at its target.
 fn drained(rt: &(impl Abort + AllocGlobal), moves: &[Leg], behind: &[Leg]) -> Result<Core, Fail> {
     let mut core = guessed(rt)?;

@@ -1,4 +1,4 @@
-//! How a run finished, what bars a move and why a line tells none, as the tables of reports have it.
+//! How a run finished, what bars a move and why a line is no move, as the tables of reports have it.
 use cf_bind::Bar;
 use cf_closing::{push_bar, push_script, run_line};
 use cf_run::Ran;
@@ -22,7 +22,7 @@ const ENDS: [Ran; 7] = [
     Ran::ReportFault,
 ];
 
-/// Why a line of a script tells no move.
+/// Why a line of a script is no move.
 const KINDS: [ScriptKind; 4] = [
     ScriptKind::UnknownMove,
     ScriptKind::BadNumber,
@@ -74,7 +74,7 @@ fn add_bar(texts: &mut Vec<u8>, bar: Bar) -> Result<(), AllocError> {
     texts.extend_from_slice(page.bytes())
 }
 
-/// Adds why a line of a script tells no move, and a space.
+/// Adds why a line of a script is no move, and a space.
 fn add_kind(texts: &mut Vec<u8>, kind: ScriptKind) -> Result<(), AllocError> {
     let mut page = Page::new();
     push_script(&mut page, kind);

@@ -1,4 +1,4 @@
-//! Lines of reports that were worked by hand, and the forms that these do not have.
+//! Lines of reports that were worked out by hand, and the forms that these do not have.
 use cf_bind::{Binding, Cell, End, Fetch, Guess, Move, Op, Packet, Passenger};
 use cf_io::MemSink;
 use cf_report::{Tally, put_fetch, put_move, put_retired, put_siding, put_stage, put_tally};
@@ -160,7 +160,7 @@ fn operation(answer: Option<u32>) -> Option<Op> {
     })
 }
 
-/// The lines of stages, from runs that were worked by hand, and one for each form besides; an empty stage has none. Then
+/// The lines of stages, from runs that were worked out by hand, and one for each form besides; an empty stage has none. Then
 /// what stands beside the stages, and the other lines.
 const LINES: &str = "stage 1 complete | 00010000 next done - - x10=00000007 - | x10=00000007
 stage 2 instruction | 00010000 next done x01=00000000 - x01=00000001 x01=00000001

@@ -1,4 +1,4 @@
-//! Picks that were worked by hand, and words of the generator. The words are those of PCG XSH RR 64/32 (O'Neill, "PCG: a family
+//! Picks that were worked out by hand, and words of the generator. The words are those of PCG XSH RR 64/32 (O'Neill, "PCG: a family
 //! of simple fast space-efficient statistically good algorithms for random number generation", 2014), worked out with whole
 //! numbers in Python by a program that gives the words of the paper's C demo, 0xa15c02b7 and so on, for state 42 and stream 54.
 use crate::processors::{BRANCH_BEHIND, core_of};
@@ -55,7 +55,7 @@ fn picks<P: Policy>(rt: &impl Abort, policy: &mut P, candidates: &Candidates) ->
     places
 }
 
-/// Round begins again behind the last; Drawn picks its words modulo 5.
+/// Round begins again after the last; Drawn picks its words modulo 5.
 #[test]
 fn picks_from_five(rt: HostRuntime) -> Result<(), Fail> {
     let core = core(&rt)?;

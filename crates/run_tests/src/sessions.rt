@@ -10,7 +10,7 @@ use cf_io::{MemSink, MemSource};
 use std::process::Abort;
 use std::test::Fail;
 
-/// A processor, what the debugger works with beside it, and where output and answers go.
+/// A processor, what the debugger works with besides it, and where output and answers go.
 #[derive(Drop)]
 struct Bench {
     core: Core,
@@ -21,7 +21,7 @@ struct Bench {
 }
 
 impl Bench {
-    /// The puts of these numbers fail the output, and the report has room for so many bytes.
+    /// The puts of these numbers to the output fail, and the report has room for this many bytes.
     fn new(
         rt: &(impl Abort + AllocGlobal),
         words: &[u32],
@@ -42,7 +42,7 @@ impl Bench {
         })
     }
 
-    /// How the session of these commands ends, given in pieces of this size, of which these takes fail.
+    /// How the session of these commands ends, given in pieces of this size, where these takes fail.
     fn answer(
         &mut self,
         rt: &(impl Abort + AllocGlobal),
@@ -71,7 +71,7 @@ impl Bench {
     }
 }
 
-/// The session of these commands, given in pieces of this size, of which these takes fail, ends so with these answers.
+/// The session of these commands, given in pieces of this size, where these takes fail, ends in this way with these answers.
 fn assert_session(
     rt: &(impl Abort + AllocGlobal),
     words: &[u32],
@@ -131,7 +131,7 @@ fn failing_takes(rt: HostRuntime) -> Result<(), Fail> {
     )
 }
 
-/// Each refusal, and each command in another spelling: blanks, tabs, carriage returns and digits of either case. What stands behind
+/// Each refusal, and each command in another spelling: blanks, tabs, carriage returns and digits of either case. What comes after
 /// `end` is not answered.
 #[test]
 fn refusals(rt: HostRuntime) -> Result<(), Fail> {
@@ -157,7 +157,7 @@ fn last_lines(rt: HostRuntime) -> Result<(), Fail> {
     assert_answers(&rt, b"bound\nend", 4096, b"bound 0\n")
 }
 
-/// A line of 256 bytes is read, also with a carriage return behind it, and one of 257 is too long, also where it is the last.
+/// A line of 256 bytes is read, even with a carriage return after it, and one of 257 is too long, even where it is the last.
 #[test]
 fn long_lines(rt: HostRuntime) -> Result<(), Fail> {
     let mut line = Vec::new(rt.alloc());
@@ -175,8 +175,8 @@ fn long_lines(rt: HostRuntime) -> Result<(), Fail> {
     assert_answers(&rt, line.as_slice(), 300, b"bound 0\n? TooLong\n")
 }
 
-/// The program runs to its end in 19 moves, worked by hand from the table of moves and the order of Round: Serve is the 17th, so that two
-/// are taken back behind it, and no more. Nothing is made behind the end.
+/// The program runs to its end in 19 moves, worked out by hand from the table of moves and the order of Round: Serve is the 17th, so two
+/// are taken back after it, and no more. Nothing is made after the end.
 #[test]
 fn to_the_end(rt: HostRuntime) -> Result<(), Fail> {
     let commands = b"auto 1000000\nauto 5\nmove emit\nmove serve\nback\nback\nback\nmove emit\n";
@@ -186,7 +186,7 @@ fn to_the_end(rt: HostRuntime) -> Result<(), Fail> {
     assert_answers(&rt, commands, 4096, answers)
 }
 
-/// `auto` stops behind the Issue at the break address, also where that is its first move. The first instruction is issued, climbs, is
+/// `auto` stops after the Issue at the break address, even where that is its first move. The first instruction is issued, climbs, is
 /// executed, sends its result and leaves before the second is issued.
 #[test]
 fn break_address(rt: HostRuntime) -> Result<(), Fail> {
@@ -238,7 +238,7 @@ fn failing_report(rt: HostRuntime) -> Result<(), Fail> {
     Ok(())
 }
 
-/// `auto` makes 2,000 moves of a jump to itself, and then moves are taken back so often.
+/// `auto` makes 2,000 moves of a jump to itself, and then moves are taken back this many times.
 fn taken_back(rt: &(impl Abort + AllocGlobal), times: u32) -> Result<Vec<u8>, Fail> {
     let mut commands = Vec::new(rt.alloc());
     commands.extend_from_slice(b"auto 2000\n")?;

@@ -12,7 +12,7 @@ fn print_difference(rt: &impl Print, what: &str, wanted: &[u8], came: &[u8]) -> 
     println!(rt; "  {what} wanted:\n{wanted}\n  {what} that came:\n{came}")
 }
 
-/// Whether the call came to what was wanted; what differs is printed.
+/// Whether the outcome of the call is what was wanted; what differs is printed.
 fn agrees(rt: &impl Print, wanted: &Wanted, outcome: &Outcome) -> io::Result<bool> {
     let output = wanted
         .output

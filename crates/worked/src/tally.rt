@@ -1,6 +1,6 @@
-//! How many rows came to what they want.
+//! How many rows got what they want.
 
-/// How many rows agree with what their calls came to, and how many differ.
+/// How many rows agree with the outcomes of their calls, and how many differ.
 #[derive(Drop)]
 pub(crate) struct Tally {
     agreeing: u64,
@@ -21,7 +21,7 @@ impl Tally {
         self.agreeing = self.agreeing.saturating_add(1);
     }
 
-    /// Counts a row that differs, or a line that is none.
+    /// Counts a row that differs, or a line that is not one of a row.
     pub(crate) fn differ(&mut self) {
         self.differing = self.differing.saturating_add(1);
     }

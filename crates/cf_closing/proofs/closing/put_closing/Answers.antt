@@ -1,4 +1,4 @@
--- The rest stands behind the head.
+-- The rest follows the head.
 use Rattle.cf_report.proofs.Puttings.{put-nothing, has-more, has-last, has-failed, failed-more}
 use Rattle.cf_closing.specs.Closing.{closing}
 use Rattle.cf_closing.proofs.closing.put_closing.Goals as goal

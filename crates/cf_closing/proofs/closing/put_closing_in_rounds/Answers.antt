@@ -1,4 +1,4 @@
--- The number of rounds stands behind the head, and the rest behind that.
+-- The number of rounds follows the head, and the rest follows that.
 use Rattle.cf_report.proofs.Puttings.{put-nothing, has-more, has-last, has-failed, failed-more}
 use Rattle.cf_closing.specs.Closing.{closing_in_rounds}
 use Rattle.cf_closing.proofs.closing.put_closing_in_rounds.Goals as goal

@@ -1,4 +1,4 @@
--- The counts, the registers and the picture stand behind one another.
+-- The counts, the registers and the picture follow one another.
 use Rattle.cf_report.proofs.Puttings.{put-nothing, has-more, has-last, has-failed, failed-more}
 use Rattle.cf_closing.specs.Closing.{rest_text}
 use Rattle.cf_closing.proofs.closing.put_rest.Goals as goal

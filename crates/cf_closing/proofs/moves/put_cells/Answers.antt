@@ -1,4 +1,4 @@
--- The line of the next cell stands behind those so far.
+-- The line of the next cell follows those so far.
 use Rattle.std.proofs.Common.{refl, arith}
 use Rattle.cf_bind.specs.declared.moves.Move.TheVariants.{Slide}
 use Rattle.cf_report.proofs.Puttings.{has-front, has-more, has-same}

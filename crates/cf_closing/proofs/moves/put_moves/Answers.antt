@@ -1,4 +1,4 @@
--- The lines of the next part stand behind those so far.
+-- The lines of the next part follow those so far.
 use Rattle.std.proofs.Common.{refl}
 use Rattle.cf_report.proofs.Puttings.{has-front, has-more, has-same, put-all}
 use Rattle.cf_closing.proofs.Listed.{parts-next, parts-behind, parts-done}

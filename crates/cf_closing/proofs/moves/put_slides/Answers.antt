@@ -1,4 +1,4 @@
--- The lines of the next siding stand behind those so far.
+-- The lines of the next siding follow those so far.
 use Rattle.std.proofs.Common.{◌≡◌, length, arith}
 use Rattle.cf_report.proofs.Puttings.{has-front, has-more, has-same}
 use Rattle.cf_closing.proofs.Listed.{sidings-next, sidings-behind}

@@ -8,7 +8,7 @@ use Rattle.cf_io.proofs.Owing.{Owes, owes-next, owes-front, err-owes}
 use Rattle.cf_gen.proofs.program.generate.Goals as goal
 use Rattle.cf_gen.proofs.program.generate.Goals.{else-loop-i-test, then-loop-i-test+in_ok-put_all-2+else-i-number}
 
--- behind the last statement just the closing lines are owed
+-- after the last statement only the closing lines are owed
 all-put : (a b : Option (List ℕ)) (f : ℕ → List ℕ) (i end : ℕ) (closing whole : List ℕ) → end ≤ i
     → Owes a b (flat_map f (range_with_len i (end - i)) ++ closing) whole → Owes a b closing whole
 all-put a b f i end closing whole h o =

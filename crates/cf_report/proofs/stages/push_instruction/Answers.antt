@@ -1,4 +1,4 @@
--- The instruction stands behind its word.
+-- The instruction follows its word.
 use Rattle.std.proofs.Common.{append_assoc}
 use Rattle.cf_report.proofs.stages.push_instruction.Goals as goal
 

@@ -1,4 +1,4 @@
--- The move's line, the retirement's and the picture stand behind one another.
+-- The move's line, the retirement's and the picture follow one another.
 use Rattle.cf_report.proofs.Puttings.{put-nothing, has-more, has-last, has-failed, failed-more}
 use Rattle.cf_run.specs.Made.{shown}
 use Rattle.cf_run.proofs.showing.put_lines.Goals as goal

@@ -1,4 +1,4 @@
--- The lines of the stages, of the sidings, of the moves and of the chain stand behind one another.
+-- The lines of the stages, of the sidings, of the moves and of the chain follow one another.
 use Rattle.cli_time.specs.SiteLines.{breakdown_text}
 use Rattle.cf_report.proofs.Puttings.{put-nothing, has-more, has-last, has-failed, failed-more}
 use Rattle.cli_time.proofs.site_lines.put_breakdown.Goals as goal

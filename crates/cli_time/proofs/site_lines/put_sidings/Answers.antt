@@ -1,4 +1,4 @@
--- The line of the next siding stands behind those so far.
+-- The line of the next siding follows those so far.
 use Rattle.std.proofs.Common.{length, refl, arith}
 use Rattle.cf_report.proofs.Puttings.{has-front, has-more, has-same, put-all}
 use Rattle.cli_time.specs.SiteLines.{siding_line, siding_numbers}

@@ -1,4 +1,4 @@
--- The line of the next stage stands behind those so far.
+-- The line of the next stage follows those so far.
 use Rattle.std.proofs.Common.{◌-◌, refl, arith}
 use Rattle.cf_report.proofs.Puttings.{has-front, has-more, has-same, put-all}
 use Rattle.cli_time.specs.SiteLines.{falling_stages, stage_line}
