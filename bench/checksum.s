@@ -10,7 +10,7 @@ _start:
 
     li t0, 1                # n
     mv t1, s2
-    add s3, s2, s0          # behind the last byte
+    add s3, s2, s0          # after the last byte
 fill:
     slli t2, t0, 2          # 69069 is 65536 + 4096 - 512 - 64 + 8 + 4 + 1
     add t3, t0, t2

@@ -7,7 +7,7 @@ _start:
     li s1, 30               # passes that are left
     sub s2, sp, s0          # the byte of 0
     andi s2, s2, -16
-    add s3, s2, s0          # behind the last byte
+    add s3, s2, s0          # after the last byte
 pass:
     mv t0, s2
 clear:

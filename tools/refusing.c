@@ -1,7 +1,7 @@
 /* Stands before the C library of a program that tools/refusals starts: refuses its N-th request for memory (REFUSE=memory N),
    fails its N-th open, read or write (REFUSE=calls N), or has its N-th read or write of several bytes move one (REFUSE=short N).
-   For tools/checking/process it cuts a file off behind what was read of it, at the N-th read (REFUSE=lost N). Where it came to
-   that, a byte is written to the descriptor REFUSE_TOLD. */
+   For tools/checking/process it cuts a file off after what was read of it, at the N-th read (REFUSE=lost N). Where any of
+   this happened, a byte is written to the descriptor REFUSE_TOLD. */
 #include <errno.h>
 #include <fcntl.h>
 #include <stdarg.h>

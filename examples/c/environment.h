@@ -1,5 +1,5 @@
 /* The calls of the environment, as docs/FORMATS.md has them. A negative answer is an error, with Linux's number.
-   A program with these alone runs under `cfpp` and under Linux, as qemu-riscv32 does it. */
+   A program with these alone runs under `cfpp` and under Linux, and so under qemu-riscv32. */
 #ifndef ENVIRONMENT_H
 #define ENVIRONMENT_H
 

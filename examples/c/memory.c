@@ -1,4 +1,4 @@
-/* The four functions that a compiler may call by itself, for want of a C library. */
+/* The four functions that a compiler may call by itself, since there is no C library. */
 
 typedef unsigned int size;
 

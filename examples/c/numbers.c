@@ -1,5 +1,5 @@
-/* Reads whole numbers, one a line, and writes how many there are, their sum, the least, the greatest and the mean, rounded
-   toward zero. It reads byte by byte, so that it may be typed at: a longer read would wait until its buffer is full. */
+/* Reads whole numbers, one per line, and writes how many there are, their sum, the least, the greatest and the mean, rounded
+   toward zero. It reads byte by byte, so that its input may be typed: a longer read would wait until its buffer is full. */
 #include "environment.h"
 
 struct summary { int count, sum, least, greatest; };

@@ -1,5 +1,5 @@
 /* Where the parts of a program stand: code and constants from 00010000 on, without the ELF header in front of them, and
-   the variables behind them on a page of their own. */
+   after them the variables, on a page of their own. */
 ENTRY(_start)
 
 PHDRS

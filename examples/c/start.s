@@ -1,4 +1,4 @@
-# Where a C program begins: calls main, and ends the program with its value. The stack stands ready.
+# Where a C program begins: calls main, and ends the program with its value. The stack is ready.
     .file   "start.s"
     .section .init, "ax"
     .globl _start

@@ -32,12 +32,12 @@ def once(method):
 
 
 def over_kept(keeps):
-    """The answer to whether the build of the library in this folder takes and keeps work, where `keeps` tells whether the kit's can."""
+    """The answer to whether the build of the library in this folder takes and keeps work, where `keeps` says whether the kit's can."""
     return lambda: os.path.isdir("out/incremental") and keeps()
 
 
 def module_of(program):
-    """The program, which is one of Python, as a module."""
+    """The program, which is a Python program, as a module."""
     loader = importlib.machinery.SourceFileLoader("rt_of_the_kit", program)
     module = importlib.util.module_from_spec(importlib.util.spec_from_loader(loader.name, loader))
     loader.exec_module(module)

@@ -48,7 +48,7 @@ ANSWERS = [RETIREMENT, PICTURE, REGISTERS, r"moved\n", rf"back {MOVE}\n", r"auto
 ANSWERS += [rf"break (?:{ADDRESS}|none)\n", rf"{ADDRESS}(?: [0-9a-f]{{2}}){{1,16}}\n", r"\? [A-Z][A-Za-z]+(?: x[0-9]{2})?\n"]
 SESSION = f"(?:{'|'.join(ANSWERS)})*"
 
-# What stands behind the first closing line, and before it, where the guest's run has begun.
+# What stands before the first closing line, and after it, where the guest's run has begun.
 CLOSED = {
     "machine": (SHOWN, MACHINE),
     "run": (f"(?:{SHOWN}|{SHOWN_MOVES})", RUN),
@@ -57,7 +57,7 @@ CLOSED = {
     "gen": ("", RUN),
 }
 
-# What `time` tells of a layout, and of what its time is made of.
+# What `time` says of a layout, and of what its time is made of.
 MEASURED = r"[^\n]+: [^\n]+ time [0-9]+ moves [0-9]+ retired [0-9]+\n"
 KINDS = r"(?: [a-z]+=[1-9][0-9]*){0,14}\n"
 SITES = rf"(?:stage [0-9]+ busy [0-9]+\n){{2,32}}(?:siding [0-7] busy [0-9]+\n)*moves{KINDS}chain{KINDS}"

@@ -16,7 +16,7 @@ class Instruction:
 
 @dataclasses.dataclass
 class Step:
-    """A move, the pictures before and behind it, and what it did.
+    """A move, the pictures before and after it, and what it did.
 
     `instruction` is the one that moved, or that the move acted on. `event` is empty, `killed`, `died`, `retired`, `ended`
     or `gone`, where a dead instruction left. `supplies` are those whose values the instruction took by the move, with the
@@ -34,7 +34,7 @@ class Step:
 
 
 def fault(step):
-    return TraceFault(step.group.line, f"the picture behind `{step.group.move.text}` does not show it")
+    return TraceFault(step.group.line, f"the picture after `{step.group.move.text}` does not show it")
 
 
 class Follower:
@@ -56,7 +56,7 @@ class Follower:
         return 1 if move.kind in ("issue", "exit") else move.stage
 
     def follow(self, group, before):
-        """The step of this group, behind the picture `before`."""
+        """The step of this group, which comes after the picture `before`."""
         step = Step(group, before)
         stage = self.stage_of(group.move)
         getattr(self, group.move.kind)(step, stage)

@@ -1,4 +1,4 @@
-"""What a trace does not tell of the processor that it ran on: its layout."""
+"""What a trace does not say of the processor that it ran on: its layout."""
 
 import dataclasses
 import tomllib

@@ -6,7 +6,7 @@ import re
 STAGE_MOVES = ("climb", "fall", "meet", "execute", "send", "launch", "recover")
 BARE_MOVES = ("emit", "access", "leave", "exit", "serve")
 
-# With any of these words the closing report begins, behind the last picture.
+# With any of these words the closing report begins, after the last picture.
 CLOSING = ("exit", "trap", "limit", "script", "bad", "barred", "read", "write")
 
 ADDRESS = "[0-9a-f]{8}"
@@ -100,7 +100,7 @@ class Picture:
 
 @dataclasses.dataclass(frozen=True)
 class Retirement:
-    """What a retired instruction's line tells: which one it is, its address, its word, and what it wrote."""
+    """What a retired instruction's line says: which one it is, its address, its word, and what it wrote."""
 
     number: int
     pc: int
@@ -110,7 +110,7 @@ class Retirement:
 
 @dataclasses.dataclass(frozen=True)
 class Group:
-    """One move of a trace: its number, the line where it begins, what retired by it, and the picture behind it."""
+    """One move of a trace: its number, the line where it begins, what retired by it, and the picture after it."""
 
     number: int
     line: int
@@ -180,7 +180,7 @@ class Reader:
         return self.lines[self.at] if self.at < len(self.lines) else None
 
     def take(self, form):
-        """The next line's parts where it has the form, and then it is behind us."""
+        """The next line's parts where it has the form; the reader then goes past it."""
         line = self.peek()
         found = form.fullmatch(line) if line is not None else None
         self.at += found is not None
@@ -223,7 +223,7 @@ class Reader:
 
 
 def read_trace(text):
-    """The groups of a report, and how many lines they take. What the closing report tells is passed over."""
+    """The groups of a report, and how many lines they take. What the closing report says is passed over."""
     reader = Reader(text)
     groups = []
     while (line := reader.peek()) is not None and line.split(" ")[0] not in CLOSING:

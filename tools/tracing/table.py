@@ -1,4 +1,4 @@
-"""A trace as a table, in CSV: a row a move."""
+"""A trace as a table, in CSV: a row for each move."""
 
 import csv
 import io
