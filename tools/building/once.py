@@ -1,11 +1,15 @@
 #!/usr/bin/env python3
-"""Runs rt with the words that it is given, has it compute the checksum of each crate once, and keep no work of a library that has none.
+"""Runs rt with the words that it is given, has it compute the checksum of each crate once, keep no work of a library that has none,
+and build a library without what no other crate can cite.
 
 Some kits' rt computes a crate's checksum, and the list of the crates below it, anew for each path that leads down to it. Where many
 crates stand on one another that takes longer than the proofs. The sources do not change while a crate is proved here, so once is enough.
 
 What a check keeps, a few functions at a time, helps the next check of the crate, and makes a first one longer by a fifth to a half. So a
 library is proved over what earlier checks kept where there is such, and else in one go.
+
+A crate loads what the libraries below it hold. Of a function other crates can cite that it meets its contract, and not how that was
+proved. So a library holds its statements alone, as under `rt ci`.
 
 Where the kit's rt is made in another way, it is run as it is.
 """
@@ -36,6 +40,12 @@ def over_kept(keeps):
     return lambda: os.path.isdir("out/incremental") and keeps()
 
 
+def with_statements(words, rtlib):
+    """The words, by which a library holds what other crates can cite of it, where the kit's compiler has that."""
+    has_it = words[:1] == ["lib"] and "--statements" in rtlib.help_of("build")
+    return [*words, "--statements"] if has_it else words
+
+
 def module_of(program):
     """The program, which is a Python program, as a module."""
     loader = importlib.machinery.SourceFileLoader("rt_of_the_kit", program)
@@ -53,6 +63,7 @@ def main():
         crate = kit.rtlib.Crate
         crate.stamp, crate.below = once(crate.stamp), once(crate.below)
         kit.rtlib.libraries_keep = over_kept(kit.rtlib.libraries_keep)
+        words = with_statements(words, kit.rtlib)
     except (AttributeError, SyntaxError, ValueError):
         os.execv(program, [program, *words])
     sys.exit(kit.main(words))

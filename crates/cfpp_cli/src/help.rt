@@ -26,7 +26,7 @@ an ELF file or a flat image, DELAYS a text with the delays of moves. What a
 program writes, and what a command makes, goes to standard output; the report
 goes to standard error.
 
-Options stand behind the names in any order, each once:
+Options come after the names, in any order, each once:
 
   --limit N       stops at N retired instructions, at most 1000000000 (run,
                   moves, rounds, machine, time); without it at 10000000
@@ -34,7 +34,7 @@ Options stand behind the names in any order, each once:
   --seed N        draws the moves from a seed, at most 4294967295 (run)
   --show report   shows the closing report alone, as without it (run, machine)
   --show retired  shows each instruction as it retires (run, machine)
-  --show moves    shows each move with the picture behind it (run)
+  --show moves    shows each move and the picture after it (run)
   --show sites    shows what each time is made of (time)
   --mul           multiplies and divides (machine)
   --run           runs the drawn program, by moves drawn from N (gen)
