@@ -5,7 +5,6 @@ use cf_ends::Ends;
 use cf_passengers::{answered, finish, fresh, goto, kind, requests};
 use rv_inst::{Class, decode};
 use std::process::Abort;
-use std::test::Fail;
 
 /// The passenger of a word.
 fn issued(ends: &Ends, word: u32, pc: u32, guess: Guess) -> Passenger {
@@ -38,39 +37,47 @@ fn known(reg: u8, value: u32) -> Option<Binding> {
     })
 }
 
-/// `addi x1, x0, 5`, whose value is kept at the bottom; `addi x2, x1, 1`, which finds it there; and `jal x0, 4`, after which
-/// fetch waited.
-#[test]
-fn three_instructions(rt: HostRuntime) -> Result<(), Fail> {
-    let mut ends = Ends::new(rt.alloc(), [0; 32], 0x1_0000, 2)?;
+/// Registers that are 0, with nothing kept at the bottom.
+fn zeros(rt: &(impl Abort + AllocGlobal)) -> Ends {
+    Ends::new(rt.alloc(), [0; 32], 0x1_0000, 2).expect(rt, "memory for the lane")
+}
 
-    let five = executed(issued(&ends, 0x0050_0093, 0x1_0000, Guess::Next));
+/// `addi x1, x0, 5` has its value at once.
+#[test]
+fn a_constant_is_added(rt: HostRuntime) {
+    let five = executed(issued(&zeros(&rt), 0x0050_0093, 0x1_0000, Guess::Next));
     assert!(rt; five.src1.is_none() && five.dst == known(1, 5));
     assert!(rt; five.owes == Some(Packet::Value { reg: 1, value: 5 }));
+}
 
+/// `addi x2, x1, 1` asks for x1, and finds it where it is kept at the bottom.
+#[test]
+fn a_value_is_kept(rt: HostRuntime) {
+    let mut ends = zeros(&rt);
     let waiting = issued(&ends, 0x0010_8113, 0x1_0004, Guess::Next);
     assert!(rt; requests(&waiting).first == Some(1));
     ends.keep(1, 5);
     let six = issued(&ends, 0x0010_8113, 0x1_0004, Guess::Next);
     assert!(rt; requests(&six).count() == 0 && six.src1 == known(1, 5));
     assert!(rt; executed(six).dst == known(2, 6));
+}
 
-    let jump = issued(&ends, 0x0040_006f, 0x1_0004, Guess::Wait);
+/// `jal x0, 4`, after which fetch waited.
+#[test]
+fn a_jump_is_waited_for(rt: HostRuntime) {
+    let jump = issued(&zeros(&rt), 0x0040_006f, 0x1_0004, Guess::Wait);
     assert!(rt; goto(&jump).is_none());
     let jump = executed(jump);
     assert!(rt; jump.owes == Some(Packet::Turn(0x1_0008)));
     assert!(rt; goto(&jump) == Some(0x1_0008));
-    Ok(())
 }
 
 /// ECALL, after which nothing is fetched before it is answered.
 #[test]
-fn a_call_is_answered(rt: HostRuntime) -> Result<(), Fail> {
-    let ends = Ends::new(rt.alloc(), [0; 32], 0x1_0000, 2)?;
-    let call = issued(&ends, 0x0000_0073, 0x1_0000, Guess::Next);
+fn a_call_is_answered(rt: HostRuntime) {
+    let call = issued(&zeros(&rt), 0x0000_0073, 0x1_0000, Guess::Next);
     assert!(rt; call.src1.is_none() && goto(&call).is_none());
     let call = answered(call, 9);
     assert!(rt; call.dst == known(10, 9));
     assert!(rt; call.owes == Some(Packet::Turn(0x1_0004)));
-    Ok(())
 }

@@ -12,55 +12,76 @@ const NOP: u32 = 0x0000_0013;
 
 const EBREAK: u32 = 0x0010_0073;
 
-/// Code at 100, which may be written, and constants at 108, right after it.
+/// Code, which may be written.
+const CODE: Part = Part {
+    base: 100,
+    start: 0,
+    len: 4,
+    size: 8,
+    write: true,
+    exec: true,
+};
+
+/// Constants right after the code.
+const CONSTANTS: Part = Part {
+    base: 108,
+    start: 4,
+    len: 3,
+    size: 4,
+    write: false,
+    exec: false,
+};
+
+/// Code at 100, and constants at 108.
 fn memory(rt: &(impl Abort + AllocGlobal)) -> Regions {
-    let code = Part {
-        base: 100,
-        start: 0,
-        len: 4,
-        size: 8,
-        write: true,
-        exec: true,
-    };
-    let constants = Part {
-        base: 108,
-        start: 4,
-        len: 3,
-        size: 4,
-        write: false,
-        exec: false,
-    };
     let file = [0x13, 0, 0, 0, 7, 8, 9];
-    Regions::load(rt.alloc(), &file, &[code, constants]).expect(rt, "memory for two regions")
+    let memory = Regions::load(rt.alloc(), &file, &[CODE, CONSTANTS]);
+    memory.expect(rt, "memory for two regions")
+}
+
+/// Compares a range of memory with its bytes.
+fn assert_part(rt: &impl Abort, memory: &Regions, addr: u32, bytes: &[u8]) {
+    assert!(rt; bytes.len() < 100);
+    assert!(rt; memory.part(addr, bytes.len() as u32) == Some(bytes));
 }
 
 #[test]
 fn loads_the_bytes_and_then_zeros(rt: HostRuntime) {
     let memory = memory(&rt);
-    let code = memory.part(100, 8).expect(&rt, "the code");
-    assert_eq!(rt; code, [0x13, 0, 0, 0, 0, 0, 0, 0].as_slice());
-    let constants = memory.part(108, 4).expect(&rt, "the constants");
-    assert_eq!(rt; constants, [7, 8, 9, 0].as_slice());
-    assert_eq!(rt; memory.brk(), 0x7f00_0000);
+    assert_part(&rt, &memory, 100, &[0x13, 0, 0, 0, 0, 0, 0, 0]);
+    assert_part(&rt, &memory, 108, &[7, 8, 9, 0]);
+    assert!(rt; memory.brk() == 0x7f00_0000);
+}
+
+/// Compares what a fetch gives.
+fn assert_fetches(rt: &impl Abort, memory: &Regions, pc: u32, word: Result<u32, MemErr>) {
+    assert!(rt; memory.fetch(pc) == word);
+}
+
+/// Compares the number that a load gives.
+fn assert_loads(rt: &impl Abort, memory: &Regions, addr: u32, width: u32, number: u32) {
+    assert!(rt; width == 2 || width == 4);
+    assert!(rt; memory.load_number(addr, width) == Ok(number));
 }
 
 #[test]
 fn fetches_what_was_synchronized(rt: HostRuntime) {
     let mut memory = memory(&rt);
-    assert_eq!(rt; memory.store(100, 4, EBREAK), Ok(()));
-    assert_eq!(rt; memory.load_number(100, 4), Ok(EBREAK));
-    assert_eq!(rt; memory.load_number(102, 2), Ok(0x0010));
-    assert_eq!(rt; memory.fetch(100), Ok(NOP));
+    assert!(rt; memory.store(100, 4, EBREAK).is_ok());
+    assert_loads(&rt, &memory, 100, 4, EBREAK);
+    assert_loads(&rt, &memory, 102, 2, 0x0010);
+    assert_fetches(&rt, &memory, 100, Ok(NOP));
     memory.sync_code();
-    assert_eq!(rt; memory.fetch(100), Ok(EBREAK));
-    assert_eq!(rt; memory.fetch(102), Err(MemErr::Misaligned));
-    assert_eq!(rt; memory.fetch(108), Err(MemErr::NoAccess), "not executable");
+    assert_fetches(&rt, &memory, 100, Ok(EBREAK));
+    assert_fetches(&rt, &memory, 102, Err(MemErr::Misaligned));
+    // not executable
+    assert_fetches(&rt, &memory, 108, Err(MemErr::NoAccess));
 }
 
 #[test]
 fn a_range_lies_in_one_region(rt: HostRuntime) {
     let memory = memory(&rt);
-    assert_eq!(rt; memory.permits(108, 4, false), Ok(()));
+    assert!(rt; memory.permits(108, 4, false).is_ok());
     assert!(rt;
         memory.part(106, 4).is_none(),
         "over two regions that touch"
@@ -77,14 +98,14 @@ fn writes_through_a_loan(rt: HostRuntime) {
     if memory.is_writable(104, 2) {
         memory.writable(104, 2).copy_from_slice(&[5, 6]);
     }
-    assert_eq!(rt; memory.load_number(104, 4), Ok(0x0605));
+    assert_loads(&rt, &memory, 104, 4, 0x0605);
 }
 
 #[test]
 fn moves_the_break(rt: HostRuntime) {
     let mut memory = memory(&rt);
     memory.set_brk(0x7f00_0010);
-    assert_eq!(rt; memory.brk(), 0x7f00_0010);
+    assert!(rt; memory.brk() == 0x7f00_0010);
     assert!(rt; memory.same(&memory), "as itself");
 }
 
@@ -102,38 +123,29 @@ fn zeros(base: u32, size: u32) -> Part
     }
 }
 
-fn refusal_of(rt: &(impl Abort + AllocGlobal), parts: &[Part]) -> Option<LoadErr>
+/// Compares why parts with no bytes in a file are refused.
+fn assert_refused(rt: &(impl Abort + AllocGlobal), parts: &[Part], refusal: Option<LoadErr>)
     requires { All (LiesIn []) parts.now }
 {
-    Regions::load(rt.alloc(), &[], parts).err()
+    assert!(rt; Regions::load(rt.alloc(), &[], parts).err() == refusal);
 }
 
 #[test]
 fn refuses_the_first_fault(rt: HostRuntime) {
-    let many = [zeros(0, 0); 17];
-    assert_eq!(rt; refusal_of(&rt, &many), Some(LoadErr::TooMany(17)));
+    assert_refused(&rt, &[zeros(0, 0); 17], Some(LoadErr::TooMany(17)));
+    // and all together are too large
     let wraps = [
         zeros(0xffff_fff0, 16),
         zeros(0xffff_fff1, 16),
         zeros(0, u32::MAX),
     ];
-    assert_eq!(rt;
-        refusal_of(&rt, &wraps),
-        Some(LoadErr::WrapsAround(1)),
-        "and all together are too large"
-    );
+    assert_refused(&rt, &wraps, Some(LoadErr::WrapsAround(1)));
+    // and they overlap
     let large = [zeros(0, 0x0400_0000), zeros(0, 1)];
-    assert_eq!(rt;
-        refusal_of(&rt, &large),
-        Some(LoadErr::TooLarge(67_108_865)),
-        "and they overlap"
-    );
+    assert_refused(&rt, &large, Some(LoadErr::TooLarge(67_108_865)));
     let overlap = [zeros(0, 10), zeros(20, 10), zeros(5, 20), zeros(0, 30)];
-    assert_eq!(rt; refusal_of(&rt, &overlap), Some(LoadErr::Overlap(0, 2)));
+    assert_refused(&rt, &overlap, Some(LoadErr::Overlap(0, 2)));
+    // an empty part overlaps none
     let touching = [zeros(0, 10), zeros(10, 10), zeros(5, 0)];
-    assert_eq!(rt;
-        refusal_of(&rt, &touching),
-        None,
-        "an empty part overlaps none"
-    );
+    assert_refused(&rt, &touching, None);
 }

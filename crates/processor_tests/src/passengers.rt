@@ -2,30 +2,32 @@
 use cf_bind::{Binding, Guess, Move, MoveLine, Packet, Passenger, meet, move_text};
 use rv_inst::decode;
 
+static TEXTS: [(Move, &'static [u8]); 17] = [
+    (Move::Issue(Guess::Next), b"issue next"),
+    (Move::Issue(Guess::Taken), b"issue taken"),
+    (Move::Issue(Guess::Wait), b"issue wait"),
+    (Move::Issue(Guess::To(0x0001_00ac)), b"issue to 000100ac"),
+    (Move::Emit, b"emit"),
+    (Move::Climb(1), b"climb 1"),
+    (Move::Fall(20), b"fall 20"),
+    (Move::Meet(3), b"meet 3"),
+    (Move::Execute(999_999_999), b"execute 999999999"),
+    (Move::Send(5), b"send 5"),
+    (Move::Launch(6), b"launch 6"),
+    (Move::Slide(0, 12), b"slide 0 12"),
+    (Move::Access, b"access"),
+    (Move::Recover(7), b"recover 7"),
+    (Move::Leave, b"leave"),
+    (Move::Exit, b"exit"),
+    (Move::Serve, b"serve"),
+];
+
 /// One row for each kind of move and each guess, by the grammar of scripts.
 #[test]
 fn texts_of_moves(rt: HostRuntime) {
-    let rows = [
-        (Move::Issue(Guess::Next), b"issue next".as_slice()),
-        (Move::Issue(Guess::Taken), b"issue taken"),
-        (Move::Issue(Guess::Wait), b"issue wait"),
-        (Move::Issue(Guess::To(0x0001_00ac)), b"issue to 000100ac"),
-        (Move::Emit, b"emit"),
-        (Move::Climb(1), b"climb 1"),
-        (Move::Fall(20), b"fall 20"),
-        (Move::Meet(3), b"meet 3"),
-        (Move::Execute(999_999_999), b"execute 999999999"),
-        (Move::Send(5), b"send 5"),
-        (Move::Launch(6), b"launch 6"),
-        (Move::Slide(0, 12), b"slide 0 12"),
-        (Move::Access, b"access"),
-        (Move::Recover(7), b"recover 7"),
-        (Move::Leave, b"leave"),
-        (Move::Exit, b"exit"),
-        (Move::Serve, b"serve"),
-    ];
     let mut line = MoveLine::new();
-    for (mv, expected) in rows {
+    for row in TEXTS.iter() {
+        let (mv, expected) = *row;
         move_text(mv, &mut line);
         assert!(rt; line.bytes() == expected, "a text differs");
     }

@@ -6,11 +6,10 @@ use cf_core::{Core, Step};
 use cf_io::{Empty, Nowhere};
 use cf_layout::plain;
 use std::process::Abort;
-use std::test::Fail;
 
 /// A processor that is about to fetch the first of these words.
-fn core_of(rt: &(impl Abort + AllocGlobal), words: &[u32]) -> Result<Core, Fail> {
-    Ok(Core::new(rt.alloc(), plain(), machine_of(rt, words, BASE)?)?)
+fn core_of(rt: &(impl Abort + AllocGlobal), words: &[u32]) -> Core {
+    Core::new(rt.alloc(), plain(), machine_of(rt, words, BASE)).expect(rt, "memory for a processor")
 }
 
 /// Makes the moves in order, up to the first that is not made, and says what came of that one.
@@ -27,10 +26,15 @@ fn make(core: &mut Core, moves: &[Move]) -> Option<Step> {
     None
 }
 
+/// How many instructions have retired, what x10 has, and whether nothing stands in the processor any more.
+fn seen_of(core: &Core) -> (u64, u32, bool) {
+    (core.retired(), core.reg(10), core.drained())
+}
+
 /// `addi x10, x0, 7` goes up the pipe; a unit of stage 2 executes it, and its result leaves at the bottom.
 #[test]
-fn an_instruction_retires(rt: HostRuntime) -> Result<(), Fail> {
-    let mut core = core_of(&rt, &[0x0070_0513])?;
+fn an_instruction_retires(rt: HostRuntime) {
+    let mut core = core_of(&rt, &[0x0070_0513]);
     let moves = [
         Move::Issue(Guess::Next),
         Move::Climb(1),
@@ -47,16 +51,13 @@ fn an_instruction_retires(rt: HostRuntime) -> Result<(), Fail> {
         Move::Leave,
     ];
     assert!(rt; make(&mut core, &moves).is_none());
-    assert_eq!(rt; core.retired(), 1);
-    assert_eq!(rt; core.reg(10), 7);
-    assert!(rt; core.drained());
-    Ok(())
+    assert!(rt; seen_of(&core) == (1, 7, true));
 }
 
 /// `addi x5, x10, 1` has not met the value of x10, which stands beside it.
 #[test]
-fn a_source_is_missing(rt: HostRuntime) -> Result<(), Fail> {
-    let mut core = core_of(&rt, &[0x0015_0293])?;
+fn a_source_is_missing(rt: HostRuntime) {
+    let mut core = core_of(&rt, &[0x0015_0293]);
     let moves = [
         Move::Issue(Guess::Next),
         Move::Climb(1),
@@ -65,24 +66,31 @@ fn a_source_is_missing(rt: HostRuntime) -> Result<(), Fail> {
     ];
     assert!(rt; make(&mut core, &moves) == Some(Step::Barred(Bar::SourceMissing(10))));
     assert!(rt; !core.drained());
-    Ok(())
+}
+
+/// The words of instructions, of results, of those that have met, of what is owed, and of Execute.
+fn words_of(core: &Core) -> [u32; 5] {
+    let masks = core.masks();
+    [
+        masks.passengers,
+        masks.packets,
+        masks.met,
+        masks.owes,
+        masks.execute,
+    ]
 }
 
 /// The words of `addi x10, x0, 7` on its way: a unit for it stands in stage 2, and it has no source.
 #[test]
-fn the_words_keep_up_with_the_moves(rt: HostRuntime) -> Result<(), Fail> {
-    let mut core = core_of(&rt, &[0x0070_0513])?;
-    assert!(rt; make(&mut core, &[Move::Issue(Guess::Next)]).is_none());
-    assert_eq!(rt; core.masks().passengers, 0b1);
-    assert_eq!(rt; core.masks().execute, 0);
-    assert!(rt; make(&mut core, &[Move::Climb(1)]).is_none());
-    assert_eq!(rt; core.masks().passengers, 0b10);
-    assert_eq!(rt; core.masks().execute, 0b10);
-    assert!(rt; make(&mut core, &[Move::Execute(2)]).is_none());
-    assert_eq!(rt; core.masks().execute, 0);
-    assert_eq!(rt; core.masks().owes, 0b10);
-    assert!(rt; make(&mut core, &[Move::Send(2)]).is_none());
-    assert_eq!(rt; core.masks().packets, 0b10);
-    assert_eq!(rt; core.masks().met, 0b10);
-    Ok(())
+fn the_words_keep_up_with_the_moves(rt: HostRuntime) {
+    let mut core = core_of(&rt, &[0x0070_0513]);
+    for (m, words) in [
+        (Move::Issue(Guess::Next), [0b1, 0, 0, 0, 0]),
+        (Move::Climb(1), [0b10, 0, 0, 0, 0b10]),
+        (Move::Execute(2), [0b10, 0, 0, 0b10, 0]),
+        (Move::Send(2), [0b10, 0b10, 0b10, 0, 0]),
+    ] {
+        assert!(rt; make(&mut core, &[m]).is_none());
+        assert!(rt; words_of(&core) == words);
+    }
 }

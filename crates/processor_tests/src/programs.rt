@@ -2,7 +2,6 @@
 use mem_regions::{Part, Regions};
 use rv_machine::Machine;
 use std::process::Abort;
-use std::test::Fail;
 
 /// Where the words of a program stand.
 pub(crate) const BASE: u32 = 0x1_0000;
@@ -17,18 +16,21 @@ pub(crate) const STACK: Part = Part {
     exec: false,
 };
 
-/// A machine whose words stand at `BASE` in a region that may be read, written and executed, with a stack.
-pub(crate) fn machine_of(
-    rt: &(impl Abort + AllocGlobal),
-    words: &[u32],
-    entry: u32,
-) -> Result<Machine, Fail> {
-    assert!(rt; words.len() <= 16);
-    let mut file = Vec::new(rt.alloc());
+/// The words as the bytes of a program, the low byte first.
+fn bytes_of(rt: &(impl Abort + AllocGlobal), words: &[u32]) -> Vec<u8> {
+    let mut bytes = Vec::new(rt.alloc());
     for word in words {
-        file.extend_from_slice(&word.to_le_bytes())?;
+        bytes
+            .extend_from_slice(&word.to_le_bytes())
+            .expect(rt, "memory for a program");
     }
-    assert!(rt; file.len() == 4 * words.len());
+    bytes
+}
+
+/// A machine whose words stand at `BASE` in a region that may be read, written and executed, with a stack.
+pub(crate) fn machine_of(rt: &(impl Abort + AllocGlobal), words: &[u32], entry: u32) -> Machine {
+    let file = bytes_of(rt, words);
+    assert!(rt; words.len() <= 16 && file.len() == 4 * words.len());
     let size = file.len() as u32;
     let image = Part {
         base: BASE,
@@ -38,6 +40,6 @@ pub(crate) fn machine_of(
         write: true,
         exec: true,
     };
-    let memory = Regions::load(rt.alloc(), file.as_slice(), &[image, STACK])?;
-    Ok(Machine::new(memory, entry))
+    let memory = Regions::load(rt.alloc(), file.as_slice(), &[image, STACK]);
+    Machine::new(memory.expect(rt, "memory for a machine"), entry)
 }

@@ -20,30 +20,32 @@ fn assert_tells(
     assert!(rt; script.next() == end, "the end does not stay");
 }
 
+static MOVES: [(&'static [u8], Move); 17] = [
+    (b"issue next", Move::Issue(Guess::Next)),
+    (b"issue taken", Move::Issue(Guess::Taken)),
+    (b"issue wait", Move::Issue(Guess::Wait)),
+    (b"issue to 000100ac", Move::Issue(Guess::To(0x0001_00ac))),
+    (b"emit", Move::Emit),
+    (b"climb 1", Move::Climb(1)),
+    (b"fall 20", Move::Fall(20)),
+    (b"meet 3", Move::Meet(3)),
+    (b"execute 999999999", Move::Execute(999_999_999)),
+    (b"send 5", Move::Send(5)),
+    (b"launch 6", Move::Launch(6)),
+    (b"slide 0 12", Move::Slide(0, 12)),
+    (b"access", Move::Access),
+    (b"recover 7", Move::Recover(7)),
+    (b"leave", Move::Leave),
+    (b"exit", Move::Exit),
+    (b"serve", Move::Serve),
+];
+
 /// Each kind of move and each guess once, by the grammar of scripts.
 #[test]
 fn each_move(rt: HostRuntime) {
-    let rows = [
-        (b"issue next".as_slice(), Move::Issue(Guess::Next)),
-        (b"issue taken", Move::Issue(Guess::Taken)),
-        (b"issue wait", Move::Issue(Guess::Wait)),
-        (b"issue to 000100ac", Move::Issue(Guess::To(0x0001_00ac))),
-        (b"emit", Move::Emit),
-        (b"climb 1", Move::Climb(1)),
-        (b"fall 20", Move::Fall(20)),
-        (b"meet 3", Move::Meet(3)),
-        (b"execute 999999999", Move::Execute(999_999_999)),
-        (b"send 5", Move::Send(5)),
-        (b"launch 6", Move::Launch(6)),
-        (b"slide 0 12", Move::Slide(0, 12)),
-        (b"access", Move::Access),
-        (b"recover 7", Move::Recover(7)),
-        (b"leave", Move::Leave),
-        (b"exit", Move::Exit),
-        (b"serve", Move::Serve),
-    ];
     let mut line = TextLine::new();
-    for (text, mv) in rows {
+    for row in MOVES.iter() {
+        let (text, mv) = *row;
         assert!(rt; read_move(text) == Ok(mv), "another move is read");
         write_move(mv, &mut line);
         assert!(rt; line.bytes() == text, "another line is written");
@@ -62,30 +64,32 @@ fn other_spellings(rt: HostRuntime) {
     assert_tells(&rt, text, &moves, Ok(None));
 }
 
+static REFUSED: [(&'static [u8], u32, ScriptKind); 18] = [
+    (b"climb", 1, ScriptKind::BadNumber),
+    (b"# note\njump 2", 2, ScriptKind::UnknownMove),
+    (b"emit 1", 1, ScriptKind::ExtraWords),
+    (b"issue", 1, ScriptKind::UnknownMove),
+    (b"issue foo", 1, ScriptKind::UnknownMove),
+    (b"issue to", 1, ScriptKind::BadNumber),
+    (b"issue to 1234567", 1, ScriptKind::BadNumber),
+    (b"issue to 012345678", 1, ScriptKind::BadNumber),
+    (b"issue to 0001000g", 1, ScriptKind::BadNumber),
+    (b"issue next 1", 1, ScriptKind::ExtraWords),
+    (b"slide 1000000000 0", 1, ScriptKind::BadNumber),
+    (b"slide 1 x 2", 1, ScriptKind::BadNumber),
+    (b"climb +1", 1, ScriptKind::BadNumber),
+    (b"emit\x80", 1, ScriptKind::NotAscii),
+    (b"\n\njump \xff", 3, ScriptKind::NotAscii),
+    (b"emit\r", 1, ScriptKind::UnknownMove),
+    (b" # note", 1, ScriptKind::UnknownMove),
+    (b"Emit", 1, ScriptKind::UnknownMove),
+];
+
 /// What is refused first in a script, and in which line.
 #[test]
 fn refusals(rt: HostRuntime) {
-    let rows = [
-        (b"climb".as_slice(), 1, ScriptKind::BadNumber),
-        (b"# note\njump 2", 2, ScriptKind::UnknownMove),
-        (b"emit 1", 1, ScriptKind::ExtraWords),
-        (b"issue", 1, ScriptKind::UnknownMove),
-        (b"issue foo", 1, ScriptKind::UnknownMove),
-        (b"issue to", 1, ScriptKind::BadNumber),
-        (b"issue to 1234567", 1, ScriptKind::BadNumber),
-        (b"issue to 012345678", 1, ScriptKind::BadNumber),
-        (b"issue to 0001000g", 1, ScriptKind::BadNumber),
-        (b"issue next 1", 1, ScriptKind::ExtraWords),
-        (b"slide 1000000000 0", 1, ScriptKind::BadNumber),
-        (b"slide 1 x 2", 1, ScriptKind::BadNumber),
-        (b"climb +1", 1, ScriptKind::BadNumber),
-        (b"emit\x80", 1, ScriptKind::NotAscii),
-        (b"\n\njump \xff", 3, ScriptKind::NotAscii),
-        (b"emit\r", 1, ScriptKind::UnknownMove),
-        (b" # note", 1, ScriptKind::UnknownMove),
-        (b"Emit", 1, ScriptKind::UnknownMove),
-    ];
-    for (text, line, kind) in rows {
+    for row in REFUSED.iter() {
+        let (text, line, kind) = *row;
         assert_tells(&rt, text, &[], Err(ScriptErr { line, kind }));
     }
 }

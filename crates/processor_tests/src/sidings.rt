@@ -4,7 +4,6 @@ use cf_layout::plain;
 use cf_sidings::{Op, Sidings};
 use rv_inst::{Instr, LoadKind};
 use std::process::Abort;
-use std::test::Fail;
 
 /// LB x1, 1(x0).
 fn load() -> Op {
@@ -25,12 +24,11 @@ fn load() -> Op {
 
 #[test]
 #[tactic(auto, unfolding(cf_sidings::specs::Sidings::empty_sidings, cf_sidings::specs::Sidings::moved_on))]
-fn an_operation_passes_through(rt: HostRuntime) -> Result<(), Fail> {
-    let mut sidings = Sidings::new(rt.alloc(), &plain())?;
+fn an_operation_passes_through(rt: HostRuntime) {
+    let mut sidings = Sidings::new(rt.alloc(), &plain()).expect(&rt, "memory for sidings");
     sidings.launch(0, load());
     sidings.slide(0, 0);
     assert!(rt; sidings.cell(0, 0).is_none());
     assert!(rt; sidings.recover(0) == load());
     assert!(rt; sidings.cell(0, 1).is_none());
-    Ok(())
 }

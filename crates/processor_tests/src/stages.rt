@@ -8,7 +8,6 @@ use cf_bind::{Binding, Cell, Guess, Packet, Passenger};
 use cf_stages::Stages;
 use rv_inst::{ImmOp, Instr};
 use std::process::Abort;
-use std::test::Fail;
 
 /// The binding of x1 to a value.
 fn x1(value: Option<u32>) -> Option<Binding> {
@@ -92,8 +91,8 @@ fn execute(rt: &impl Abort, stages: &mut Stages, i: u32) {
 }
 
 #[test]
-fn values_are_garnered_killed_and_updated(rt: HostRuntime) -> Result<(), Fail> {
-    let mut stages = Stages::new(rt.alloc(), 2)?;
+fn values_are_garnered_killed_and_updated(rt: HostRuntime) {
+    let mut stages = Stages::new(rt.alloc(), 2).expect(&rt, "memory for stages");
     issue(&rt, &mut stages, 0x1_0000);
     climb(&rt, &mut stages, 1);
     issue(&rt, &mut stages, 0x1_0004);
@@ -112,5 +111,4 @@ fn values_are_garnered_killed_and_updated(rt: HostRuntime) -> Result<(), Fail> {
     let garnered = cell(&rt, &stages, 1);
     assert!(rt; garnered.passenger == Some(addition(0x1_0004, Some(1), None)));
     assert!(rt; garnered.packet.is_none(), "killed");
-    Ok(())
 }
