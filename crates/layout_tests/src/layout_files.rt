@@ -1,8 +1,9 @@
 //! What no clause says: that files are read, and that the definitions mean what is wanted.
-use cf_layout::{LayoutErr, plain};
+use cf_layout::{Layout, LayoutErr, plain};
 use layout_file::laws::read_back;
 use layout_file::{FileErr, read_layout, write_layout};
 use rv_inst::Class;
+use std::alloc::Global;
 
 const PLAIN: &str =
     "format = 1\nstages = 8\nlane = 16\n\n[units]\nadd = [2, 4, 6]\nlogic = [2, 4]\nshift = [4]\ncompare = [2, 4]\nbranch = [3]\njump = [3]\n\n[[siding]]\nclasses = [\"memory\"]\nlaunch = 4\nrecover = 6\ncells = 2\n";
@@ -18,73 +19,105 @@ const SECOND: &str =
 const SHUFFLED: &str =
     "units = {jump = [1], branch = [1], compare = [1, 1], shift = [2], logic = [1], add = [2, 1, 2]}\nsiding = [{cells = 1, recover = 2, launch = 1, classes = [\"memory\"]}]\nlane = 4\nstages = 2\nformat = 1\n";
 
+/// Whether the layout is written as this text.
+fn is_written(alloc: Global, layout: &Layout, text: &str) -> bool {
+    match write_layout(alloc, layout) {
+        Ok(written) => written.as_slice() == text.as_bytes(),
+        Err(_) => false,
+    }
+}
+
+/// Whether the layout of a file is written as this text.
+fn is_rewritten(alloc: Global, file: &str, text: &str) -> bool {
+    match read_layout(alloc, file.as_bytes()) {
+        Ok(layout) => is_written(alloc, &layout, text),
+        Err(_) => false,
+    }
+}
+
 #[test]
 fn writes_what_it_reads(rt: HostRuntime) {
     let alloc = rt.alloc();
-    for (file, text) in [
-        (PLAIN, PLAIN),
-        (TINY, TINY),
-        (SECOND, SECOND),
-        (SHUFFLED, TINY),
-    ] {
-        match read_layout(alloc, file.as_bytes()) {
-            Ok(layout) => {
-                let written = write_layout(alloc, &layout).expect(&rt, "there is memory");
-                assert!(rt; written.as_slice() == text.as_bytes());
-            }
-            Err(_) => assert!(rt; false),
-        }
+    assert!(rt; is_rewritten(alloc, PLAIN, PLAIN));
+    assert!(rt; is_rewritten(alloc, TINY, TINY));
+    assert!(rt; is_rewritten(alloc, SECOND, SECOND));
+    assert!(rt; is_rewritten(alloc, SHUFFLED, TINY));
+}
+
+/// Whether the built-in layout comes back with this many stages.
+fn comes_back(alloc: Global, stages: u32) -> bool {
+    match read_back(alloc, &plain()) {
+        Ok(layout) => layout.stages() == stages,
+        Err(_) => false,
     }
 }
 
 #[test]
 fn reads_back(rt: HostRuntime) {
     let alloc = rt.alloc();
-    let written = write_layout(alloc, &plain()).expect(&rt, "there is memory");
-    assert!(rt; written.as_slice() == PLAIN.as_bytes());
-    assert!(rt; matches!(&read_back(alloc, &plain()), Ok(layout) if layout.stages() == 8));
+    assert!(rt; is_written(alloc, &plain(), PLAIN));
+    assert!(rt; comes_back(alloc, 8));
+}
+
+/// Why a file is refused, with the key or the word that is named.
+#[derive(Clone, Copy)]
+enum Refusal {
+    MissingKey(&'static str),
+    UnknownKey(&'static str),
+    UnknownClass(&'static str),
+    UnknownFormat(i64),
+    Refused(LayoutErr),
+    NotToml,
+}
+
+/// Whether the error is this refusal.
+fn tells(error: &FileErr, refusal: Refusal) -> bool {
+    match refusal {
+        Refusal::MissingKey(name) => {
+            matches!(error, FileErr::MissingKey(key) if key.as_str() == name)
+        }
+        Refusal::UnknownKey(name) => {
+            matches!(error, FileErr::UnknownKey(key) if key.as_str() == name)
+        }
+        Refusal::UnknownClass(name) => {
+            matches!(error, FileErr::UnknownClass(word) if word.as_str() == name)
+        }
+        Refusal::UnknownFormat(format) => {
+            matches!(error, FileErr::UnknownFormat(other) if *other == format)
+        }
+        Refusal::Refused(reason) => { matches!(error, FileErr::Refused(other) if *other == reason) }
+        Refusal::NotToml => matches!(error, FileErr::NotToml),
+    }
+}
+
+/// Whether the file is refused so.
+fn is_refused(alloc: Global, file: &[u8], refusal: Refusal) -> bool {
+    match read_layout(alloc, file) {
+        Ok(_) => false,
+        Err(error) => tells(&error, refusal),
+    }
 }
 
 #[test]
-fn refuses_in_order(rt: HostRuntime) {
+fn refuses_keys_and_text_in_order(rt: HostRuntime) {
     let alloc = rt.alloc();
-    assert!(rt;
-        matches!(&read_layout(alloc, b""), Err(FileErr::MissingKey(key)) if key.as_str() == "format")
-    );
-    assert!(rt;
-        matches!(&read_layout(alloc, b"cache = true\n"), Err(FileErr::UnknownKey(key)) if key.as_str() == "cache")
-    );
-    assert!(rt;
-        matches!(&read_layout(alloc, b"format = 2\n"), Err(FileErr::MissingKey(key)) if key.as_str() == "cache")
-    );
-    assert!(rt;
-        matches!(
-            &read_layout(alloc, b"format = 3\nlane = 1\nstages = 2\nunits = {}\n"),
-            Err(FileErr::UnknownFormat(3))
-        )
-    );
-    assert!(rt;
-        matches!(
-            &read_layout(alloc, b"format = 1\nlane = 2\nstages = 33\nunits = {}\n"),
-            Err(FileErr::Refused(LayoutErr::StagesOutOfRange(33)))
-        )
-    );
-    assert!(rt;
-        matches!(
-            &read_layout(
-                alloc,
-                b"format = 1\nlane = 2\nstages = 2\nunits = {add = [1]}\n"
-            ),
-            Err(FileErr::Refused(LayoutErr::MissingUnit(Class::Logic)))
-        )
-    );
-    assert!(rt;
-        matches!(&read_layout(alloc, b"format = 1\nlane = 2\nstages = 2\nunits = {mul = [1]}\n"), Err(FileErr::UnknownClass(key)) if key.as_str() == "mul")
-    );
-    assert!(rt;
-        matches!(
-            &read_layout(alloc, b"\xFFformat = 1\n"),
-            Err(FileErr::NotToml)
-        )
-    );
+    assert!(rt; is_refused(alloc, b"", Refusal::MissingKey("format")));
+    assert!(rt; is_refused(alloc, b"cache = true\n", Refusal::UnknownKey("cache")));
+    assert!(rt; is_refused(alloc, b"format = 2\n", Refusal::MissingKey("cache")));
+    assert!(rt; is_refused(alloc, b"\xFFformat = 1\n", Refusal::NotToml));
+}
+
+#[test]
+fn refuses_values_in_order(rt: HostRuntime) {
+    let alloc = rt.alloc();
+    let file = b"format = 3\nlane = 1\nstages = 2\nunits = {}\n";
+    assert!(rt; is_refused(alloc, file, Refusal::UnknownFormat(3)));
+    let file = b"format = 1\nlane = 2\nstages = 33\nunits = {}\n";
+    let refusal = Refusal::Refused(LayoutErr::StagesOutOfRange(33));
+    assert!(rt; is_refused(alloc, file, refusal));
+    let file = b"format = 1\nlane = 2\nstages = 2\nunits = {add = [1]}\n";
+    let refusal = Refusal::Refused(LayoutErr::MissingUnit(Class::Logic));
+    assert!(rt; is_refused(alloc, file, refusal));
+    let file = b"format = 1\nlane = 2\nstages = 2\nunits = {mul = [1]}\n";
+    assert!(rt; is_refused(alloc, file, Refusal::UnknownClass("mul")));
 }
