@@ -1,5 +1,5 @@
 //! Programs and environment calls that were worked out by hand from the manual and the tables of Linux.
-use crate::programs::{BASE, STACK, machine_of};
+use crate::programs::{BASE, STACK, machine_of, memory_of};
 use cf_io::{Empty, MemSink, MemSource, Nowhere};
 use mem_regions::Regions;
 use rv_machine::{Machine, Served, Stepped, serve};
@@ -160,7 +160,7 @@ static CALLS: [Call; 11] = [
 
 /// The zeroed stack alone.
 fn stack_alone(rt: &(impl Abort + AllocGlobal)) -> Regions {
-    Regions::load(rt.alloc(), b"", &[STACK]).expect(rt, "memory for a stack")
+    memory_of(rt, b"", &[STACK])
 }
 
 /// Compares the answer of a call without input.

@@ -5,7 +5,9 @@
 ghost use Rattle.std.specs.Prelude.{◌≡◌, All, [], false};
 ghost use Rattle.mem_regions.specs.Loading.{LiesIn};
 
+use crate::programs::memory_of;
 use mem_regions::{LoadErr, MemErr, Part, Regions};
+use std::alloc::Global;
 use std::process::Abort;
 
 const NOP: u32 = 0x0000_0013;
@@ -35,47 +37,44 @@ const CONSTANTS: Part = Part {
 /// Code at 100, and constants at 108.
 fn memory(rt: &(impl Abort + AllocGlobal)) -> Regions {
     let file = [0x13, 0, 0, 0, 7, 8, 9];
-    let memory = Regions::load(rt.alloc(), &file, &[CODE, CONSTANTS]);
-    memory.expect(rt, "memory for two regions")
+    memory_of(rt, &file, &[CODE, CONSTANTS])
 }
 
-/// Compares a range of memory with its bytes.
-fn assert_part(rt: &impl Abort, memory: &Regions, addr: u32, bytes: &[u8]) {
-    assert!(rt; bytes.len() < 100);
-    assert!(rt; memory.part(addr, bytes.len() as u32) == Some(bytes));
+/// Whether the bytes stand at the address, in one region.
+fn stand_at(memory: &Regions, addr: u32, bytes: &[u8]) -> bool {
+    bytes.len() < 100 && memory.part(addr, bytes.len() as u32) == Some(bytes)
 }
 
 #[test]
 fn loads_the_bytes_and_then_zeros(rt: HostRuntime) {
     let memory = memory(&rt);
-    assert_part(&rt, &memory, 100, &[0x13, 0, 0, 0, 0, 0, 0, 0]);
-    assert_part(&rt, &memory, 108, &[7, 8, 9, 0]);
+    assert!(rt; stand_at(&memory, 100, &[0x13, 0, 0, 0, 0, 0, 0, 0]));
+    assert!(rt; stand_at(&memory, 108, &[7, 8, 9, 0]));
     assert!(rt; memory.brk() == 0x7f00_0000);
 }
 
-/// Compares what a fetch gives.
-fn assert_fetches(rt: &impl Abort, memory: &Regions, pc: u32, word: Result<u32, MemErr>) {
-    assert!(rt; memory.fetch(pc) == word);
+/// Whether a load of 2 or 4 bytes gives the number.
+fn loads(memory: &Regions, addr: u32, width: u32, number: u32) -> bool {
+    (width == 2 || width == 4) && memory.load_number(addr, width) == Ok(number)
 }
 
-/// Compares the number that a load gives.
-fn assert_loads(rt: &impl Abort, memory: &Regions, addr: u32, width: u32, number: u32) {
-    assert!(rt; width == 2 || width == 4);
-    assert!(rt; memory.load_number(addr, width) == Ok(number));
+/// Whether a fetch gives this word, or this error.
+fn fetches(memory: &Regions, pc: u32, word: Result<u32, MemErr>) -> bool {
+    memory.fetch(pc) == word
 }
 
 #[test]
 fn fetches_what_was_synchronized(rt: HostRuntime) {
     let mut memory = memory(&rt);
     assert!(rt; memory.store(100, 4, EBREAK).is_ok());
-    assert_loads(&rt, &memory, 100, 4, EBREAK);
-    assert_loads(&rt, &memory, 102, 2, 0x0010);
-    assert_fetches(&rt, &memory, 100, Ok(NOP));
+    assert!(rt; loads(&memory, 100, 4, EBREAK));
+    assert!(rt; loads(&memory, 102, 2, 0x0010));
+    assert!(rt; fetches(&memory, 100, Ok(NOP)));
     memory.sync_code();
-    assert_fetches(&rt, &memory, 100, Ok(EBREAK));
-    assert_fetches(&rt, &memory, 102, Err(MemErr::Misaligned));
+    assert!(rt; fetches(&memory, 100, Ok(EBREAK)));
+    assert!(rt; fetches(&memory, 102, Err(MemErr::Misaligned)));
     // not executable
-    assert_fetches(&rt, &memory, 108, Err(MemErr::NoAccess));
+    assert!(rt; fetches(&memory, 108, Err(MemErr::NoAccess)));
 }
 
 #[test]
@@ -98,7 +97,7 @@ fn writes_through_a_loan(rt: HostRuntime) {
     if memory.is_writable(104, 2) {
         memory.writable(104, 2).copy_from_slice(&[5, 6]);
     }
-    assert_loads(&rt, &memory, 104, 4, 0x0605);
+    assert!(rt; loads(&memory, 104, 4, 0x0605));
 }
 
 #[test]
@@ -123,29 +122,30 @@ fn zeros(base: u32, size: u32) -> Part
     }
 }
 
-/// Compares why parts with no bytes in a file are refused.
-fn assert_refused(rt: &(impl Abort + AllocGlobal), parts: &[Part], refusal: Option<LoadErr>)
+/// Whether parts with no bytes in a file are refused so.
+fn are_refused(alloc: Global, parts: &[Part], refusal: Option<LoadErr>) -> bool
     requires { All (LiesIn []) parts.now }
 {
-    assert!(rt; Regions::load(rt.alloc(), &[], parts).err() == refusal);
+    Regions::load(alloc, &[], parts).err() == refusal
 }
 
 #[test]
 fn refuses_the_first_fault(rt: HostRuntime) {
-    assert_refused(&rt, &[zeros(0, 0); 17], Some(LoadErr::TooMany(17)));
+    let alloc = rt.alloc();
+    assert!(rt; are_refused(alloc, &[zeros(0, 0); 17], Some(LoadErr::TooMany(17))));
     // and all together are too large
     let wraps = [
         zeros(0xffff_fff0, 16),
         zeros(0xffff_fff1, 16),
         zeros(0, u32::MAX),
     ];
-    assert_refused(&rt, &wraps, Some(LoadErr::WrapsAround(1)));
+    assert!(rt; are_refused(alloc, &wraps, Some(LoadErr::WrapsAround(1))));
     // and they overlap
     let large = [zeros(0, 0x0400_0000), zeros(0, 1)];
-    assert_refused(&rt, &large, Some(LoadErr::TooLarge(67_108_865)));
+    assert!(rt; are_refused(alloc, &large, Some(LoadErr::TooLarge(67_108_865))));
     let overlap = [zeros(0, 10), zeros(20, 10), zeros(5, 20), zeros(0, 30)];
-    assert_refused(&rt, &overlap, Some(LoadErr::Overlap(0, 2)));
+    assert!(rt; are_refused(alloc, &overlap, Some(LoadErr::Overlap(0, 2))));
     // an empty part overlaps none
     let touching = [zeros(0, 10), zeros(10, 10), zeros(5, 0)];
-    assert_refused(&rt, &touching, None);
+    assert!(rt; are_refused(alloc, &touching, None));
 }

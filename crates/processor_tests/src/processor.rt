@@ -91,6 +91,6 @@ fn the_words_keep_up_with_the_moves(rt: HostRuntime) {
         (Move::Send(2), [0b10, 0b10, 0b10, 0, 0]),
     ] {
         assert!(rt; make(&mut core, &[m]).is_none());
-        assert!(rt; words_of(&core) == words);
+        assert_eq!(rt; words_of(&core), words);
     }
 }

@@ -1,4 +1,7 @@
 //! Machines that are about to run the words of a program.
+ghost use Rattle.std.specs.Prelude.{All};
+ghost use Rattle.mem_regions.specs.Loading.{LiesIn};
+
 use mem_regions::{Part, Regions};
 use rv_machine::Machine;
 use std::process::Abort;
@@ -15,6 +18,13 @@ pub(crate) const STACK: Part = Part {
     write: true,
     exec: false,
 };
+
+/// A memory of these parts, which are accepted.
+pub(crate) fn memory_of(rt: &(impl Abort + AllocGlobal), file: &[u8], parts: &[Part]) -> Regions
+    requires { All (LiesIn file.now) parts.now }
+{
+    Regions::load(rt.alloc(), file, parts).expect(rt, "memory of these parts")
+}
 
 /// The words as the bytes of a program, the low byte first.
 fn bytes_of(rt: &(impl Abort + AllocGlobal), words: &[u32]) -> Vec<u8> {
@@ -40,6 +50,5 @@ pub(crate) fn machine_of(rt: &(impl Abort + AllocGlobal), words: &[u32], entry: 
         write: true,
         exec: true,
     };
-    let memory = Regions::load(rt.alloc(), file.as_slice(), &[image, STACK]);
-    Machine::new(memory.expect(rt, "memory for a machine"), entry)
+    Machine::new(memory_of(rt, file.as_slice(), &[image, STACK]), entry)
 }

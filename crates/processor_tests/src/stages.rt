@@ -52,20 +52,17 @@ fn cell(rt: &impl Abort, stages: &Stages, i: u32) -> Cell
 }
 
 fn climb(rt: &impl Abort, stages: &mut Stages, i: u32) {
-    assert!(rt; 0 < i && i <= stages.count());
-    assert!(rt; stages.may_climb(i));
+    assert!(rt; 0 < i && i <= stages.count() && stages.may_climb(i));
     stages.climb(i);
 }
 
 fn fall(rt: &impl Abort, stages: &mut Stages, i: u32) {
-    assert!(rt; 0 < i && i <= stages.count());
-    assert!(rt; stages.may_fall(i));
+    assert!(rt; 0 < i && i <= stages.count() && stages.may_fall(i));
     stages.fall(i);
 }
 
 fn meet(rt: &impl Abort, stages: &mut Stages, i: u32) {
-    assert!(rt; 0 < i && i <= stages.count());
-    assert!(rt; stages.is_full(i));
+    assert!(rt; 0 < i && i <= stages.count() && stages.is_full(i));
     stages.meet_at(i);
 }
 
@@ -78,8 +75,7 @@ fn issue(rt: &impl Abort, stages: &mut Stages, pc: u32) {
 /// Puts the value 0 of x1 into the highest stage.
 fn emit(rt: &impl Abort, stages: &mut Stages) {
     let top = stages.count();
-    let cell = stages.cell(top);
-    assert!(rt; cell.packet.is_none());
+    assert!(rt; stages.packet(top).is_none());
     stages.put_packet(top, Packet::Value { reg: 1, value: 0 }, false);
 }
 
