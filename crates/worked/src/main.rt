@@ -16,26 +16,73 @@ use std::{env, io, rt, str};
 /// The most bytes of a file of rows.
 const MOST_BYTES: u64 = 1_000_000;
 
+/// Heeds one line, after the call of the row that it ends.
+fn run_line(
+    rt: &(impl Print + AllocGlobal),
+    name: &str,
+    number: u64,
+    line: &str,
+    sheet: &mut Sheet,
+    tally: &mut Tally,
+) -> io::Result<()> {
+    if Sheet::begins_row(line) {
+        judge(rt, name, sheet, tally)?;
+    }
+    if sheet.heed(line).is_ok() {
+        return Ok(());
+    }
+    tally.differ();
+    println!(rt; "{name}: line {number} cannot be read")
+}
+
 /// Reads the lines of one file, and makes the call of each of its rows.
-fn run_rows(
+fn run_lines(
     rt: &(impl Print + AllocGlobal),
     name: &str,
     text: &str,
+    sheet: &mut Sheet,
     tally: &mut Tally,
 ) -> io::Result<()> {
-    let mut sheet = Sheet::new(rt.alloc());
     let mut number = 0u64;
     for line in text.lines() {
         number = number.saturating_add(1);
-        if Sheet::begins_row(line) {
-            judge(rt, name, &mut sheet, tally)?;
+        run_line(rt, name, number, line, sheet, tally)?;
+    }
+    judge(rt, name, sheet, tally)
+}
+
+/// Makes the calls of the rows in a file's bytes, where they are a text.
+fn run_rows(
+    rt: &(impl Print + AllocGlobal),
+    name: &str,
+    bytes: &[u8],
+    tally: &mut Tally,
+) -> io::Result<()> {
+    match str::from_utf8(bytes) {
+        Ok(text) if !text.is_empty() => {
+            let mut sheet = Sheet::new(rt.alloc());
+            run_lines(rt, name, text, &mut sheet, tally)
         }
-        if sheet.heed(line).is_err() {
+        _ => {
             tally.differ();
-            println!(rt; "{name}: line {number} cannot be read")?;
+            println!(rt; "{name} cannot be read")
         }
     }
-    judge(rt, name, &mut sheet, tally)
+}
+
+/// The bytes of a file of rows; none where it cannot be read.
+fn bytes_of(rt: &HostRuntime, name: &str) -> Vec<u8> {
+    let mut files = DirFiles::new(rt);
+    match files.read(rt.alloc(), name, MOST_BYTES) {
+        Ok(bytes) => bytes,
+        Err(_) => Vec::new(rt.alloc()),
+    }
+}
+
+/// Makes the calls of one file.
+fn run_file(rt: &HostRuntime, name: &str, tally: &mut Tally) -> io::Result<()> {
+    let bytes = bytes_of(rt, name);
+    run_rows(rt, name, bytes.as_slice(), tally)
 }
 
 /// The files of rows that the command line names.
@@ -45,34 +92,23 @@ fn names_of<R: rt::Env + AllocGlobal>(rt: &R) -> io::Result<Vec<String>> {
     Ok(args.collect(rt.alloc())?)
 }
 
-fn run_files(rt: &HostRuntime) -> io::Result<Tally> {
+fn run_files(rt: &HostRuntime, tally: &mut Tally) -> io::Result<()> {
     let names = names_of(rt)?;
-    let mut files = DirFiles::new(rt);
-    let mut tally = Tally::new();
     for name in names.iter() {
-        let file = files.read(rt.alloc(), name.as_str(), MOST_BYTES);
-        let bytes = file.unwrap_or(Vec::new(rt.alloc()));
-        match str::from_utf8(bytes.as_slice()) {
-            Ok(text) if !text.is_empty() => run_rows(rt, name.as_str(), text, &mut tally)?,
-            _ => {
-                tally.differ();
-                println!(rt; "{name} cannot be read")?;
-            }
-        }
+        run_file(rt, name.as_str(), tally)?;
     }
-    Ok(tally)
+    Ok(())
 }
 
 fn main(rt: HostRuntime) -> ExitCode {
-    match run_files(&rt) {
-        Ok(tally) => {
-            let _ = println!(rt;
-                "{} rows agree, {} differ",
-                tally.agreeing(),
-                tally.differing()
-            );
-            ExitCode::from(u8::from(tally.differing() > 0))
-        }
-        Err(_) => ExitCode::from(2),
+    let mut tally = Tally::new();
+    if run_files(&rt, &mut tally).is_err() {
+        return ExitCode::from(2);
     }
+    let _ = println!(rt;
+        "{} rows agree, {} differ",
+        tally.agreeing(),
+        tally.differing()
+    );
+    ExitCode::from(u8::from(tally.differing() > 0))
 }

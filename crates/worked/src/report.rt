@@ -2,7 +2,8 @@
 
 use crate::making::make;
 use crate::tally::Tally;
-use rows::{Outcome, Sheet, Wanted};
+use rows::{Matching, Outcome, Sheet, Wanted};
+use std::alloc::{AllocError, Global};
 use std::{io, str};
 
 /// Prints what differs, with the wanted bytes and those that came.
@@ -12,39 +13,48 @@ fn print_difference(rt: &impl Print, what: &str, wanted: &[u8], came: &[u8]) -> 
     println!(rt; "  {what} wanted:\n{wanted}\n  {what} that came:\n{came}")
 }
 
+/// Whether the bytes that came are as wanted; they are printed if not.
+fn bytes_agree(
+    rt: &impl Print,
+    what: &str,
+    wanted: &(Matching, Vec<u8>),
+    came: &[u8],
+) -> io::Result<bool> {
+    if wanted.0.holds(came, wanted.1.as_slice()) {
+        return Ok(true);
+    }
+    print_difference(rt, what, wanted.1.as_slice(), came)?;
+    Ok(false)
+}
+
+/// Whether the status that came is the wanted one; both are printed if not.
+fn status_agrees(rt: &impl Print, wanted: u8, came: u8) -> io::Result<bool> {
+    if came == wanted {
+        return Ok(true);
+    }
+    println!(rt; "  status {wanted} wanted, {came} came")?;
+    Ok(false)
+}
+
 /// Whether the outcome of the call is what was wanted; what differs is printed.
 fn agrees(rt: &impl Print, wanted: &Wanted, outcome: &Outcome) -> io::Result<bool> {
-    let output = wanted
-        .output
-        .0
-        .holds(outcome.output.as_slice(), wanted.output.1.as_slice());
-    let report = wanted
-        .report
-        .0
-        .holds(outcome.report.as_slice(), wanted.report.1.as_slice());
-    if outcome.status != wanted.status {
-        println!(rt;
-            "  status {} wanted, {} came",
-            wanted.status, outcome.status
-        )?;
-    }
-    if !output {
-        print_difference(
-            rt,
-            "output",
-            wanted.output.1.as_slice(),
-            outcome.output.as_slice(),
-        )?;
-    }
-    if !report {
-        print_difference(
-            rt,
-            "report",
-            wanted.report.1.as_slice(),
-            outcome.report.as_slice(),
-        )?;
-    }
-    Ok(output && report && outcome.status == wanted.status)
+    let status = status_agrees(rt, wanted.status, outcome.status)?;
+    let output = bytes_agree(rt, "output", &wanted.output, outcome.output.as_slice())?;
+    let report = bytes_agree(rt, "report", &wanted.report, outcome.report.as_slice())?;
+    Ok(status && output && report)
+}
+
+/// The outcome of the row's call, which the sheet keeps for the rows that follow.
+fn outcome_of(alloc: Global, sheet: &mut Sheet) -> Result<Outcome, AllocError> {
+    let outcome = make(alloc, sheet.call()?)?;
+    sheet.keep(&outcome)?;
+    Ok(outcome)
+}
+
+/// Makes the row's call; whether its outcome is what the row wants.
+fn row_agrees(rt: &(impl Print + AllocGlobal), sheet: &mut Sheet) -> io::Result<bool> {
+    let outcome = outcome_of(rt.alloc(), sheet)?;
+    agrees(rt, sheet.wanted(), &outcome)
 }
 
 /// Makes the call of the row that was read, if one was, and counts it; a row that differs is printed.
@@ -57,9 +67,7 @@ pub(crate) fn judge(
     if sheet.name().is_none() {
         return Ok(());
     }
-    let outcome = make(rt.alloc(), sheet.call()?)?;
-    sheet.keep(&outcome)?;
-    if agrees(rt, sheet.wanted(), &outcome)? {
+    if row_agrees(rt, sheet)? {
         tally.agree();
         return Ok(());
     }
