@@ -59,15 +59,21 @@ pub(crate) fn find<'a>(list: &'a [Named], name: &str) -> Option<&'a [u8]> {
     None
 }
 
-/// Puts the bytes under the name, in place of those that stood there.
+/// A copy of the bytes, under the name.
+fn copy_under(alloc: Global, name: &str, bytes: &[u8]) -> Result<Named, AllocError> {
+    let name = String::from_str(alloc, name)?;
+    Ok((name, bytes.to_vec(alloc)?))
+}
+
+/// Puts a copy of the bytes under the name, in place of those that stood there.
 pub(crate) fn keep(
     alloc: Global,
     list: &mut Vec<Named>,
     name: &str,
-    bytes: Vec<u8>,
+    bytes: &[u8],
 ) -> Result<(), AllocError> {
-    list.retain(|named| named.0.as_str() != name);
-    list.push((String::from_str(alloc, name)?, bytes))?;
+    list.retain(|kept| kept.0.as_str() != name);
+    list.push(copy_under(alloc, name, bytes)?)?;
     Ok(())
 }
 
@@ -79,6 +85,17 @@ impl Fails {
             input: Vec::new(alloc),
             output: Vec::new(alloc),
             report: Vec::new(alloc),
+        }
+    }
+
+    /// The list that goes by the word, if it is one of a row's.
+    pub(crate) fn list_of(&mut self, word: &str) -> Option<&mut Vec<u64>> {
+        match word {
+            "files" => Some(&mut self.files),
+            "input" => Some(&mut self.input),
+            "output" => Some(&mut self.output),
+            "report" => Some(&mut self.report),
+            _ => None,
         }
     }
 }

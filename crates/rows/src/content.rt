@@ -3,7 +3,7 @@
 use crate::call::{Named, find};
 use crate::line_err::LineErr;
 use rv_text::numeral;
-use std::alloc::{AllocError, Global};
+use std::alloc::Global;
 use std::str;
 
 /// The registers before the first instruction: each takes 13 bytes.
@@ -16,6 +16,14 @@ x20=00000000 x21=00000000 x22=00000000 x23=00000000
 x24=00000000 x25=00000000 x26=00000000 x27=00000000
 x28=00000000 x29=00000000 x30=00000000 x31=00000000
 ";
+
+/// The first word of a line, and what comes after the space that follows it.
+pub(crate) fn split(line: &str) -> (&str, &str) {
+    match line.split_once(' ') {
+        Some((word, rest)) => (word, rest),
+        None => (line, ""),
+    }
+}
 
 /// The number that a word writes in decimal digits.
 pub(crate) fn number(word: &str) -> Result<usize, LineErr> {
@@ -46,27 +54,18 @@ fn overwrite(content: &mut Vec<u8>, at: usize, bytes: &[u8]) -> Result<(), LineE
     Ok(())
 }
 
-/// Adds bytes, each written in two hexadecimal digits.
-fn add_bytes(content: &mut Vec<u8>, words: &str) -> Result<(), LineErr> {
+/// Adds the first `size` bytes of each word of 32 bits, whose low byte comes first.
+fn add_code(content: &mut Vec<u8>, words: &str, size: usize) -> Result<(), LineErr> {
     for word in words.split_whitespace() {
-        content.push((hexadecimal(word)? & 0xff) as u8)?;
-    }
-    Ok(())
-}
-
-/// Adds words of 32 bits, the low byte of each first.
-fn add_code(content: &mut Vec<u8>, words: &str) -> Result<(), LineErr> {
-    for word in words.split_whitespace() {
-        content.extend_from_slice(&hexadecimal(word)?.to_le_bytes())?;
+        let bytes = hexadecimal(word)?.to_le_bytes();
+        content.extend_from_slice(&bytes[..size.min(4)])?;
     }
     Ok(())
 }
 
 /// Adds one byte a number of times.
 fn repeat(content: &mut Vec<u8>, words: &str) -> Result<(), LineErr> {
-    let Some((count, byte)) = words.split_once(' ') else {
-        return Err(LineErr::Unknown);
-    };
+    let (count, byte) = split(words);
     let byte = (hexadecimal(byte)? & 0xff) as u8;
     let size = content.len().saturating_add(number(count)?);
     content.resize(size, byte)?;
@@ -75,9 +74,7 @@ fn repeat(content: &mut Vec<u8>, words: &str) -> Result<(), LineErr> {
 
 /// Puts a word of 32 bits over four bytes.
 fn put(content: &mut Vec<u8>, words: &str) -> Result<(), LineErr> {
-    let Some((at, word)) = words.split_once(' ') else {
-        return Err(LineErr::Unknown);
-    };
+    let (at, word) = split(words);
     overwrite(content, number(at)?, &hexadecimal(word)?.to_le_bytes())
 }
 
@@ -112,31 +109,21 @@ fn copy(content: &mut Vec<u8>, kept: &[Named], name: &str) -> Result<(), LineErr
     }
 }
 
-/// The text with line feeds where it has `\\n`.
-fn unescaped(alloc: Global, text: &str) -> Result<String, AllocError> {
-    let mut made = String::new(alloc);
-    for (index, piece) in text.split("\\n").enumerate() {
-        if index > 0 {
-            made.push('\n')?;
-        }
-        made.push_str(piece)?;
+/// The text with a text in place of another, where the other comes first.
+fn replaced(alloc: Global, bytes: &[u8], old: &str, new: &str) -> Result<Vec<u8>, LineErr> {
+    let text = str::from_utf8(bytes).unwrap_or("");
+    if !text.contains(old) {
+        return Err(LineErr::Unknown);
     }
-    Ok(made)
+    Ok(text.replacen(alloc, old, new, 1)?.into_bytes())
 }
 
-/// Puts a text in place of another, where the other comes first.
+/// Puts a text in place of another, where the other comes first. Both stand with `\\n` for line feeds.
 fn replace(content: &mut Vec<u8>, old: &str, new: &str) -> Result<(), LineErr> {
     let alloc = *content.allocator();
-    let old = unescaped(alloc, old)?;
-    let new = unescaped(alloc, new)?;
-    let text = str::from_utf8(content.as_slice()).unwrap_or("");
-    let Some((front, back)) = text.split_once(old.as_str()) else {
-        return Err(LineErr::Unknown);
-    };
-    let mut made = front.as_bytes().to_vec(alloc)?;
-    made.extend_from_slice(new.as_str().as_bytes())?;
-    made.extend_from_slice(back.as_bytes())?;
-    *content = made;
+    let old = old.replace(alloc, "\\n", "\n")?;
+    let new = new.replace(alloc, "\\n", "\n")?;
+    *content = replaced(alloc, content.as_slice(), old.as_str(), new.as_str())?;
     Ok(())
 }
 
@@ -171,8 +158,8 @@ pub(crate) fn change(
     match word {
         "|" => add_line(content, rest),
         "text" => add_text(content, rest),
-        "bytes" => add_bytes(content, rest),
-        "code" => add_code(content, rest),
+        "bytes" => add_code(content, rest, 1),
+        "code" => add_code(content, rest, 4),
         "repeat" => repeat(content, rest),
         "put" => put(content, rest),
         "swap" => swap(content, rest),

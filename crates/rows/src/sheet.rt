@@ -1,18 +1,18 @@
 //! The rows of a file, line by line.
 
 use crate::call::{Call, Fails, Named, Outcome, keep};
-use crate::content::{change, number};
+use crate::content::{change, number, split};
 use crate::line_err::LineErr;
 use crate::matching::Matching;
 use std::alloc::{AllocError, Global};
 use std::mem;
 
 /// What the bytes that the next lines give are for.
-#[derive(Drop)]
+#[derive(Clone, Copy)]
 enum Part {
     Nothing,
-    File(String),
-    Kept(String),
+    File,
+    Kept,
     Input,
     Output,
     Report,
@@ -38,6 +38,8 @@ pub struct Sheet {
     call: Call,
     wanted: Wanted,
     part: Part,
+    /// What follows the word that began the part: of a file and of kept bytes, their name.
+    rest: String,
     content: Vec<u8>,
     /// Bytes under names, among them the `output` and the `report` of the last call.
     kept: Vec<Named>,
@@ -51,11 +53,15 @@ fn nothing_wanted(alloc: Global) -> Wanted {
     }
 }
 
-/// The first word of a line, and what comes after the space that follows it.
-fn split(line: &str) -> (&str, &str) {
-    match line.split_once(' ') {
-        Some((word, rest)) => (word, rest),
-        None => (line, ""),
+/// The part that begins with the word, if one does.
+fn part_of(word: &str) -> Option<Part> {
+    match word {
+        "file" => Some(Part::File),
+        "keep" => Some(Part::Kept),
+        "input" => Some(Part::Input),
+        "output" => Some(Part::Output),
+        "report" => Some(Part::Report),
+        _ => None,
     }
 }
 
@@ -68,6 +74,7 @@ impl Sheet {
             call: Call::new(alloc),
             wanted: nothing_wanted(alloc),
             part: Part::Nothing,
+            rest: String::new(alloc),
             content: Vec::new(alloc),
             kept: Vec::new(alloc),
         }
@@ -91,18 +98,27 @@ impl Sheet {
         &self.wanted
     }
 
+    /// Hands the bytes that were given to a part that has no name, and takes what stood there for them.
+    fn hand_over(&mut self, part: Part) {
+        match part {
+            Part::Input => mem::swap(&mut self.call.input, &mut self.content),
+            Part::Output => mem::swap(&mut self.wanted.output.1, &mut self.content),
+            Part::Report => mem::swap(&mut self.wanted.report.1, &mut self.content),
+            _ => {}
+        }
+    }
+
     /// Hands the bytes that were given to the part that they are for.
     fn close(&mut self) -> Result<(), AllocError> {
-        let alloc = self.alloc;
-        let content = mem::replace(&mut self.content, Vec::new(alloc));
-        match mem::replace(&mut self.part, Part::Nothing) {
-            Part::Nothing => {}
-            Part::File(name) => keep(alloc, &mut self.call.files, name.as_str(), content)?,
-            Part::Kept(name) => keep(alloc, &mut self.kept, name.as_str(), content)?,
-            Part::Input => self.call.input = content,
-            Part::Output => self.wanted.output.1 = content,
-            Part::Report => self.wanted.report.1 = content,
+        let part = self.part;
+        self.part = Part::Nothing;
+        let (name, bytes) = (self.rest.as_str(), self.content.as_slice());
+        match part {
+            Part::File => keep(self.alloc, &mut self.call.files, name, bytes)?,
+            Part::Kept => keep(self.alloc, &mut self.kept, name, bytes)?,
+            _ => self.hand_over(part),
         }
+        self.content.clear();
         Ok(())
     }
 
@@ -114,11 +130,9 @@ impl Sheet {
 
     /// Keeps what the row's call wrote, under the names `output` and `report`.
     pub fn keep(&mut self, outcome: &Outcome) -> Result<(), AllocError> {
-        let alloc = self.alloc;
-        let output = outcome.output.as_slice().to_vec(alloc)?;
-        keep(alloc, &mut self.kept, "output", output)?;
-        let report = outcome.report.as_slice().to_vec(alloc)?;
-        keep(alloc, &mut self.kept, "report", report)
+        let (alloc, kept) = (self.alloc, &mut self.kept);
+        keep(alloc, kept, "output", outcome.output.as_slice())?;
+        keep(alloc, kept, "report", outcome.report.as_slice())
     }
 
     /// Begins a row with the call of the row before.
@@ -146,14 +160,10 @@ impl Sheet {
     fn add_failure(&mut self, words: &str) -> Result<(), LineErr> {
         let (whose, which) = split(words);
         let call = number(which)? as u64;
-        match whose {
-            "files" => self.call.fails.files.push(call)?,
-            "input" => self.call.fails.input.push(call)?,
-            "output" => self.call.fails.output.push(call)?,
-            "report" => self.call.fails.report.push(call)?,
-            _ => return Err(LineErr::Unknown),
+        match self.call.fails.list_of(whose) {
+            Some(list) => Ok(list.push(call)?),
+            None => Err(LineErr::Unknown),
         }
-        Ok(())
     }
 
     fn set_status(&mut self, word: &str) -> Result<(), LineErr> {
@@ -164,24 +174,23 @@ impl Sheet {
         Ok(())
     }
 
-    /// Begins a part whose bytes the next lines give; whether the word names one.
-    fn begin_part(&mut self, word: &str, rest: &str) -> Result<bool, LineErr> {
-        let part = match word {
-            "file" => Part::File(String::from_str(self.alloc, rest)?),
-            "keep" => Part::Kept(String::from_str(self.alloc, rest)?),
-            "input" => Part::Input,
-            "output" => Part::Output,
-            "report" => Part::Report,
-            _ => return Ok(false),
-        };
-        self.close()?;
-        match word {
-            "output" => self.wanted.output.0 = Matching::from_words(rest)?,
-            "report" => self.wanted.report.0 = Matching::from_words(rest)?,
+    /// Sets how the bytes of the outcome are to be like those of the part.
+    fn set_matching(&mut self, part: Part, words: &str) -> Result<(), LineErr> {
+        match part {
+            Part::Output => self.wanted.output.0 = Matching::from_words(words)?,
+            Part::Report => self.wanted.report.0 = Matching::from_words(words)?,
             _ => {}
         }
+        Ok(())
+    }
+
+    /// Begins a part whose bytes the next lines give.
+    fn begin_part(&mut self, part: Part, rest: &str) -> Result<(), LineErr> {
+        self.close()?;
+        self.set_matching(part, rest)?;
+        self.rest = String::from_str(self.alloc, rest)?;
         self.part = part;
-        Ok(true)
+        Ok(())
     }
 
     /// Changes the bytes of the part that has begun.
@@ -192,12 +201,8 @@ impl Sheet {
         }
     }
 
-    /// Does what the line says. A line that is not one of a row is refused.
-    pub fn heed(&mut self, line: &str) -> Result<(), LineErr> {
-        let (word, rest) = split(line);
-        if word.is_empty() || word.starts_with("#") || self.begin_part(word, rest)? {
-            return Ok(());
-        }
+    /// Does what a line says that begins no part.
+    fn apply(&mut self, word: &str, rest: &str) -> Result<(), LineErr> {
         match word {
             "row" => self.begin(rest),
             "again" => self.begin_again(rest),
@@ -207,6 +212,18 @@ impl Sheet {
             "piece" => Ok(self.call.piece = number(rest)?),
             "room" => Ok(self.call.room = number(rest)?),
             _ => self.tell(word, rest),
+        }
+    }
+
+    /// Does what the line says. A line that is not one of a row is refused.
+    pub fn heed(&mut self, line: &str) -> Result<(), LineErr> {
+        let (word, rest) = split(line);
+        if word.is_empty() || word.starts_with("#") {
+            return Ok(());
+        }
+        match part_of(word) {
+            Some(part) => self.begin_part(part, rest),
+            None => self.apply(word, rest),
         }
     }
 }
