@@ -58,16 +58,13 @@ fn run_rows(
     bytes: &[u8],
     tally: &mut Tally,
 ) -> io::Result<()> {
-    match str::from_utf8(bytes) {
-        Ok(text) if !text.is_empty() => {
-            let mut sheet = Sheet::new(rt.alloc());
-            run_lines(rt, name, text, &mut sheet, tally)
-        }
-        _ => {
-            tally.differ();
-            println!(rt; "{name} cannot be read")
-        }
+    let text = str::from_utf8(bytes).unwrap_or("");
+    if text.is_empty() {
+        tally.differ();
+        return println!(rt; "{name} cannot be read");
     }
+    let mut sheet = Sheet::new(rt.alloc());
+    run_lines(rt, name, text, &mut sheet, tally)
 }
 
 /// The bytes of a file of rows; none where it cannot be read.
