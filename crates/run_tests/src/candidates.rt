@@ -1,37 +1,48 @@
 //! Candidates that were worked out by hand from the table of moves, under the built-in layout: what no clause says is that these
 //! moves are allowed where a reader of the table expects them to be.
-use crate::processors::{BRANCH_BEHIND, core_of};
+use crate::processors::{BRANCH_BEHIND, core_of, enter_stage_2};
 use cf_bind::{Guess, Move};
-use cf_core::Step;
 use cf_index::Candidates;
-use cf_io::{Empty, Nowhere};
 use cf_layout::plain;
+use std::process::Abort;
 use std::test::Fail;
 
+/// These are the candidates, in this order.
+fn assert_moves(rt: &impl Abort, candidates: &Candidates, moves: &[Move]) {
+    assert!(rt; candidates.len() == moves.len(), "another count");
+    for (place, mv) in moves.iter().enumerate() {
+        assert!(rt; candidates.pick(place) == *mv, "another move");
+    }
+}
+
 /// With the first instruction in stage 2, where it can be executed or passed on, the branch can be issued by three guesses.
+const BEHIND: [Move; 5] = [
+    Move::Issue(Guess::Next),
+    Move::Issue(Guess::Taken),
+    Move::Issue(Guess::Wait),
+    Move::Climb(2),
+    Move::Execute(2),
+];
+
+/// Of these candidates Climb(2) has the last behind it, and Serve, which is behind them all, the first. Holding back takes the
+/// Issues out.
+fn assert_behind(rt: &impl Abort, candidates: &mut Candidates) {
+    assert_moves(rt, candidates, &BEHIND);
+    assert_eq!(rt; candidates.first_behind(Some(Move::Climb(2))), 4);
+    assert_eq!(rt; candidates.first_behind(Some(Move::Serve)), 0);
+    candidates.hold();
+    assert_moves(rt, candidates, &[Move::Climb(2), Move::Execute(2)]);
+}
+
+/// At first nothing but the first Issue can be made.
 #[test]
 fn an_instruction_and_the_branch_behind_it(rt: HostRuntime) -> Result<(), Fail> {
     let mut core = core_of(&rt, plain(), BRANCH_BEHIND)?;
     let mut candidates = Candidates::new(rt.alloc())?;
     candidates.fill(&core);
-    assert!(rt; candidates.len() == 1);
-    assert!(rt; candidates.pick(0) == Move::Issue(Guess::Next));
-    for mv in [Move::Issue(Guess::Next), Move::Climb(1)] {
-        assert!(rt; core.retired() < 1000);
-        assert!(rt; matches!(core.step(mv, &mut Empty, &mut Nowhere), Step::Moved(_)));
-    }
+    assert_moves(&rt, &candidates, &[Move::Issue(Guess::Next)]);
+    enter_stage_2(&rt, &mut core);
     candidates.fill(&core);
-    assert!(rt; candidates.len() == 5);
-    assert!(rt; candidates.pick(0) == Move::Issue(Guess::Next));
-    assert!(rt; candidates.pick(1) == Move::Issue(Guess::Taken));
-    assert!(rt; candidates.pick(2) == Move::Issue(Guess::Wait));
-    assert!(rt; candidates.pick(3) == Move::Climb(2));
-    assert!(rt; candidates.pick(4) == Move::Execute(2));
-    assert_eq!(rt; candidates.first_behind(Some(Move::Climb(2))), 4);
-    assert_eq!(rt; candidates.first_behind(Some(Move::Serve)), 0);
-    candidates.hold();
-    assert!(rt; candidates.len() == 2);
-    assert!(rt; candidates.pick(0) == Move::Climb(2));
-    assert!(rt; candidates.pick(1) == Move::Execute(2));
+    assert_behind(&rt, &mut candidates);
     Ok(())
 }

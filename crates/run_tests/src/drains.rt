@@ -1,9 +1,8 @@
 //! The weight of what stands in a processor, and drains of one state, worked out by hand from the table of moves.
 
-use crate::processors::{SEVEN, TINY, core_of, layout_of};
+use crate::processors::{SEVEN, TINY, core_of, layout_of, make};
 use cf_bind::{Fetch, Guess, Move};
-use cf_core::{Core, Step};
-use cf_io::{Empty, Nowhere};
+use cf_core::Core;
 use std::process::Abort;
 use std::test::Fail;
 
@@ -26,14 +25,6 @@ enum Leg {
     Falls(u32, u32),
     /// An instruction climbs, from this stage on, this many times.
     Climbs(u32, u32),
-}
-
-/// Makes a move, which nothing bars.
-fn make(rt: &(impl Abort + AllocGlobal), core: &mut Core, mv: Move) {
-    assert!(rt; core.allowed(mv).is_none(), "barred");
-    assert!(rt; core.retired() <= 1000, "too many retired");
-    let step = core.step(mv, &mut Empty, &mut Nowhere);
-    assert!(rt; matches!(step, Step::Moved(_)), "not moved");
 }
 
 fn fall(rt: &(impl Abort + AllocGlobal), core: &mut Core, from: u32, count: u32) {

@@ -2,7 +2,9 @@
 ghost use Rattle.std.specs.Prelude.{IfOk};
 ghost use Rattle.cf_run.specs.Policies.{IsOpened};
 
-use cf_core::Core;
+use cf_bind::{Guess, Move};
+use cf_core::{Core, Step};
+use cf_io::{Empty, Nowhere};
 use cf_layout::Layout;
 use layout_file::read_layout;
 use mem_regions::{Part, Regions};
@@ -60,4 +62,18 @@ pub(crate) fn core_of(
     };
     let memory = Regions::load(rt.alloc(), file.as_slice(), &[image, stack])?;
     Ok(Core::new(rt.alloc(), layout, Machine::new(memory, 0x1_0000))?)
+}
+
+/// Makes a move, which nothing bars.
+pub(crate) fn make(rt: &impl Abort, core: &mut Core, mv: Move) {
+    assert!(rt; core.allowed(mv).is_none(), "barred");
+    assert!(rt; core.retired() <= 1000, "too many retired");
+    let step = core.step(mv, &mut Empty, &mut Nowhere);
+    assert!(rt; matches!(step, Step::Moved(_)), "not moved");
+}
+
+/// Issues the first instruction of a processor, which climbs to stage 2.
+pub(crate) fn enter_stage_2(rt: &impl Abort, core: &mut Core) {
+    make(rt, core, Move::Issue(Guess::Next));
+    make(rt, core, Move::Climb(1));
 }

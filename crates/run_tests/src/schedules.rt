@@ -1,11 +1,10 @@
 //! Picks that were worked out by hand, and words of the generator. The words are those of PCG XSH RR 64/32 (O'Neill, "PCG: a family
 //! of simple fast space-efficient statistically good algorithms for random number generation", 2014), worked out with whole
 //! numbers in Python by a program that gives the words of the paper's C demo, 0xa15c02b7 and so on, for state 42 and stream 54.
-use crate::processors::{BRANCH_BEHIND, core_of};
+use crate::processors::{BRANCH_BEHIND, core_of, enter_stage_2};
 use cf_bind::{Guess, Move};
-use cf_core::{Core, Step};
+use cf_core::Core;
 use cf_index::Candidates;
-use cf_io::{Empty, Nowhere};
 use cf_layout::plain;
 use cf_sched::{Drawn, Pace, Policy, Round};
 use cf_semantics::Event;
@@ -38,10 +37,7 @@ fn words_of_three_seeds(rt: HostRuntime) -> Result<(), Fail> {
 /// A processor with the first instruction in stage 2: Issue by three guesses, Climb(2) and Execute(2) are allowed.
 fn core(rt: &(impl Abort + AllocGlobal)) -> Result<Core, Fail> {
     let mut core = core_of(rt, plain(), BRANCH_BEHIND)?;
-    for mv in [Move::Issue(Guess::Next), Move::Climb(1)] {
-        assert!(rt; core.retired() < 1000);
-        assert!(rt; matches!(core.step(mv, &mut Empty, &mut Nowhere), Step::Moved(_)));
-    }
+    enter_stage_2(rt, &mut core);
     Ok(core)
 }
 
