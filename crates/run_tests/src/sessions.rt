@@ -1,5 +1,4 @@
 //! Sessions: the commands and answers of the table, and what an empty ring, the limits, and failing calls do.
-ghost use Rattle.std.specs.Prelude.{◌≡◌, [], IfOk};
 ghost use Rattle.cf_run.specs.Policies.{IsOpened};
 
 use crate::processors::{SEVEN, TINY, core_of, layout_of};
@@ -10,81 +9,78 @@ use cf_io::{MemSink, MemSource};
 use std::process::Abort;
 use std::test::Fail;
 
-/// A processor, what the debugger works with besides it, and where output and answers go.
-#[derive(Drop)]
-struct Bench {
-    core: Core,
-    candidates: Candidates,
-    ring: Ring,
-    output: MemSink,
-    report: MemSink,
+/// A program of which these puts of output fail, and the commands of its session, which come in pieces of this size where these takes
+/// fail.
+#[derive(Clone, Copy)]
+struct Session<'a> {
+    words: &'a [u32],
+    output_fails: &'a [u64],
+    commands: &'a [u8],
+    piece: usize,
+    take_fails: &'a [u64],
 }
 
-impl Bench {
-    /// The puts of these numbers to the output fail, and the report has room for this many bytes.
-    fn new(
-        rt: &(impl Abort + AllocGlobal),
-        words: &[u32],
-        fails: &[u64],
-        room: usize,
-    ) -> Result<Bench, Fail>
-        ensures opened { IfOk result (λ bench. IsOpened bench.core) }
-        ensures empty { IfOk result (λ bench. bench.ring ≡ []) }
-    {
-        let mut failing = Vec::new(rt.alloc());
-        failing.extend_from_slice(fails)?;
-        Ok(Bench {
-            core: core_of(rt, layout_of(rt, TINY), words)?,
-            candidates: Candidates::new(rt.alloc())?,
-            ring: Ring::new(rt.alloc())?,
-            output: MemSink::new(rt.alloc(), 1000, failing)?,
-            report: MemSink::new(rt.alloc(), room, Vec::new(rt.alloc()))?,
-        })
-    }
-
-    /// How the session of these commands ends, given in pieces of this size, where these takes fail.
-    fn answer(
-        &mut self,
-        rt: &(impl Abort + AllocGlobal),
-        commands: &[u8],
-        piece: usize,
-        fails: &[u64],
-    ) -> Result<Debugged, Fail>
-        requires opened { IsOpened self.old.core }
-        requires empty { self.old.ring ≡ [] }
-    {
-        assert!(rt; 0 < piece, "no piece");
-        assert!(rt; self.core.retired() <= 10_000_000, "too many retired");
-        let mut bytes = Vec::new(rt.alloc());
-        bytes.extend_from_slice(commands)?;
-        let mut failing = Vec::new(rt.alloc());
-        failing.extend_from_slice(fails)?;
-        let mut source = MemSource::new(bytes, piece, failing);
-        Ok(debug(
-            &mut self.core,
-            &mut self.candidates,
-            &mut self.ring,
-            &mut source,
-            &mut self.output,
-            &mut self.report,
-        ))
-    }
+/// A sink with room for this many bytes, of which these puts fail.
+fn sink_of(rt: &(impl Abort + AllocGlobal), room: usize, fails: &[u64]) -> MemSink {
+    let fails = fails.to_vec(rt.alloc()).expect(rt, "memory");
+    MemSink::new(rt.alloc(), room, fails).expect(rt, "memory")
 }
 
-/// The session of these commands, given in pieces of this size, where these takes fail, ends in this way with these answers.
+/// The commands of a session.
+fn source_of(rt: &(impl Abort + AllocGlobal), session: &Session<'_>) -> MemSource {
+    assert!(rt; 0 < session.piece, "no piece");
+    let commands = session.commands.to_vec(rt.alloc()).expect(rt, "memory");
+    let fails = session.take_fails.to_vec(rt.alloc()).expect(rt, "memory");
+    MemSource::new(commands, session.piece, fails)
+}
+
+/// How the session of these commands ends on a processor.
+fn answer(
+    rt: &(impl Abort + AllocGlobal),
+    core: &mut Core,
+    commands: &mut MemSource,
+    output: &mut MemSink,
+    report: &mut MemSink,
+) -> Debugged
+    requires opened { IsOpened core.old }
+{
+    assert!(rt; core.retired() <= 10_000_000, "too many retired");
+    let mut candidates = Candidates::new(rt.alloc()).expect(rt, "memory");
+    let mut ring = Ring::new(rt.alloc()).expect(rt, "memory");
+    debug(
+        core,
+        &mut candidates,
+        &mut ring,
+        commands,
+        output,
+        report,
+    )
+}
+
+/// How a session ends, which is answered to the report.
+fn run(
+    rt: &(impl Abort + AllocGlobal),
+    session: &Session<'_>,
+    report: &mut MemSink,
+) -> Result<Debugged, Fail> {
+    let mut core = core_of(rt, layout_of(rt, TINY), session.words)?;
+    let mut commands = source_of(rt, session);
+    let mut output = sink_of(rt, 1000, session.output_fails);
+    Ok(answer(rt, &mut core, &mut commands, &mut output, report))
+}
+
+/// A session ends in this way with these answers, for which the report has room for this many bytes.
 fn assert_session(
     rt: &(impl Abort + AllocGlobal),
-    words: &[u32],
-    commands: &[u8],
-    piece: usize,
-    fails: &[u64],
-    answer: Debugged,
+    session: &Session<'_>,
+    room: usize,
+    end: Debugged,
     answers: &[u8],
 ) -> Result<(), Fail> {
-    let mut bench = Bench::new(rt, words, &[], 200_000)?;
-    let ended = bench.answer(rt, commands, piece, fails)?;
-    assert!(rt; bench.report.bytes() == answers, "other answers");
-    assert!(rt; ended == answer, "another end");
+    let mut report = sink_of(rt, room, &[]);
+    let ended = run(rt, session, &mut report)?;
+    assert!(rt; report.bytes() == answers, "other answers");
+    assert!(rt; ended == end, "another end");
     Ok(())
 }
 
@@ -95,7 +91,14 @@ fn assert_answers(
     piece: usize,
     answers: &[u8],
 ) -> Result<(), Fail> {
-    assert_session(rt, SEVEN, commands, piece, &[], Debugged::Done, answers)
+    let session = Session {
+        words: SEVEN,
+        output_fails: &[],
+        commands,
+        piece,
+        take_fails: &[],
+    };
+    assert_session(rt, &session, 200_000, Debugged::Done, answers)
 }
 
 /// The commands of the first example, and what they answer: `addi` weighs 3 in stage 1 of 2, 4 as it is not done, and 4 as it is
@@ -114,21 +117,29 @@ fn pieces(rt: HostRuntime) -> Result<(), Fail> {
     assert_answers(&rt, COMMANDS, 4096, ANSWERS)
 }
 
+/// The session of those commands on `SEVEN`, given in pieces of 8 bytes, of which this take fails, is ended by that with these answers.
+fn assert_take_fails(
+    rt: &(impl Abort + AllocGlobal),
+    take: u64,
+    answers: &[u8],
+) -> Result<(), Fail> {
+    let session = Session {
+        words: SEVEN,
+        output_fails: &[],
+        commands: COMMANDS,
+        piece: 8,
+        take_fails: &[take],
+    };
+    assert_session(rt, &session, 200_000, Debugged::ReadFault, answers)
+}
+
 /// A take that fails leaves the answers to the lines that were taken whole before it: pieces of 8 bytes end in the first line, then in
 /// the first and then in the second.
 #[test]
 fn failing_takes(rt: HostRuntime) -> Result<(), Fail> {
-    assert_session(&rt, SEVEN, COMMANDS, 8, &[1], Debugged::ReadFault, b"")?;
-    assert_session(&rt, SEVEN, COMMANDS, 8, &[2], Debugged::ReadFault, b"")?;
-    assert_session(
-        &rt,
-        SEVEN,
-        COMMANDS,
-        8,
-        &[3],
-        Debugged::ReadFault,
-        b"moved\n",
-    )
+    assert_take_fails(&rt, 1, b"")?;
+    assert_take_fails(&rt, 2, b"")?;
+    assert_take_fails(&rt, 3, b"moved\n")
 }
 
 /// Each refusal, and each command in another spelling: blanks, tabs, carriage returns and digits of either case. What comes after
@@ -211,31 +222,36 @@ fn registers(rt: HostRuntime) -> Result<(), Fail> {
 /// One byte is written from address 00010000, and the output fails that: the four instructions before the call have retired.
 #[test]
 fn failing_output(rt: HostRuntime) -> Result<(), Fail> {
-    let words = &[
-        0x0010_0513,
-        0x0001_05b7,
-        0x0010_0613,
-        0x0400_0893,
-        0x0000_0073,
-    ];
-    let mut bench = Bench::new(&rt, words, &[1], 1000)?;
-    let answer = bench.answer(&rt, b"auto 1000\nbound\n", 4096, &[])?;
-    assert!(rt; answer == Debugged::WriteFault, "another end");
-    let lines =
+    let session = Session {
+        words: &[
+            0x0010_0513,
+            0x0001_05b7,
+            0x0010_0613,
+            0x0400_0893,
+            0x0000_0073,
+        ],
+        output_fails: &[1],
+        commands: b"auto 1000\nbound\n",
+        piece: 4096,
+        take_fails: &[],
+    };
+    let answers =
         b"retire 1 00010000 00100513 x10=00000001\nretire 2 00010004 000105b7 x11=00010000\n\
         retire 3 00010008 00100613 x12=00000001\nretire 4 0001000c 04000893 x17=00000040\n";
-    assert!(rt; bench.report.bytes() == lines.as_slice(), "other answers");
-    Ok(())
+    assert_session(&rt, &session, 1000, Debugged::WriteFault, answers)
 }
 
 /// A report of three bytes takes a front of the first answer, and the session ends.
 #[test]
 fn failing_report(rt: HostRuntime) -> Result<(), Fail> {
-    let mut bench = Bench::new(&rt, SEVEN, &[], 3)?;
-    let answer = bench.answer(&rt, COMMANDS, 4096, &[])?;
-    assert!(rt; answer == Debugged::ReportFault, "another end");
-    assert!(rt; bench.report.bytes() == b"mov".as_slice(), "other answers");
-    Ok(())
+    let session = Session {
+        words: SEVEN,
+        output_fails: &[],
+        commands: COMMANDS,
+        piece: 4096,
+        take_fails: &[],
+    };
+    assert_session(&rt, &session, 3, Debugged::ReportFault, b"mov")
 }
 
 /// `auto` makes 2,000 moves of a jump to itself, and then moves are taken back this many times.
@@ -248,23 +264,26 @@ fn taken_back(rt: &(impl Abort + AllocGlobal), times: u32) -> Result<Vec<u8>, Fa
     Ok(commands)
 }
 
+/// The last answer says that nothing is kept, and is the only refusal.
+fn assert_refused_last(rt: &impl Abort, answers: &[u8]) {
+    assert!(rt; answers.ends_with(b"\n? NothingKept\n"), "too much kept");
+    let refused = answers.iter().filter(|byte| **byte == b'?').count();
+    assert_eq!(rt; refused, 1);
+}
+
 /// Of 2,000 moves the last 1,024 are taken back, and no more.
 #[test]
 fn full_ring(rt: HostRuntime) -> Result<(), Fail> {
     let commands = taken_back(&rt, 1025)?;
-    let mut bench = Bench::new(&rt, &[0x0000_006f], &[], 200_000)?;
-    let answer = bench.answer(&rt, commands.as_slice(), 4096, &[])?;
-    assert!(rt; answer == Debugged::Done, "another end");
-    assert!(rt;
-        bench.report.bytes().ends_with(b"\n? NothingKept\n"),
-        "too much kept"
-    );
-    let refused = bench
-        .report
-        .bytes()
-        .iter()
-        .filter(|byte| **byte == b'?')
-        .count();
-    assert_eq!(rt; refused, 1);
+    let session = Session {
+        words: &[0x0000_006f],
+        output_fails: &[],
+        commands: commands.as_slice(),
+        piece: 4096,
+        take_fails: &[],
+    };
+    let mut report = sink_of(&rt, 200_000, &[]);
+    assert!(rt; run(&rt, &session, &mut report)? == Debugged::Done, "another end");
+    assert_refused_last(&rt, report.bytes());
     Ok(())
 }
