@@ -5,7 +5,6 @@ use cf_bind::{Guess, Move};
 use cf_index::Candidates;
 use cf_layout::plain;
 use std::process::Abort;
-use std::test::Fail;
 
 /// These are the candidates, in this order.
 fn assert_moves(rt: &impl Abort, candidates: &Candidates, moves: &[Move]) {
@@ -36,13 +35,12 @@ fn assert_behind(rt: &impl Abort, candidates: &mut Candidates) {
 
 /// At first nothing but the first Issue can be made.
 #[test]
-fn an_instruction_and_the_branch_behind_it(rt: HostRuntime) -> Result<(), Fail> {
-    let mut core = core_of(&rt, plain(), BRANCH_BEHIND)?;
-    let mut candidates = Candidates::new(rt.alloc())?;
+fn an_instruction_and_the_branch_behind_it(rt: HostRuntime) {
+    let mut core = core_of(&rt, plain(), BRANCH_BEHIND);
+    let mut candidates = Candidates::new(rt.alloc()).expect(&rt, "memory");
     candidates.fill(&core);
     assert_moves(&rt, &candidates, &[Move::Issue(Guess::Next)]);
     enter_stage_2(&rt, &mut core);
     candidates.fill(&core);
     assert_behind(&rt, &mut candidates);
-    Ok(())
 }

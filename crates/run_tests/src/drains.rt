@@ -4,7 +4,6 @@ use crate::processors::{SEVEN, TINY, core_of, layout_of, make};
 use cf_bind::{Fetch, Guess, Move};
 use cf_core::Core;
 use std::process::Abort;
-use std::test::Fail;
 
 /// Eight stages, and a siding for shifts.
 const SHIFT_SIDING: &[u8] =
@@ -53,22 +52,21 @@ fn make_all(rt: &(impl Abort + AllocGlobal), core: &mut Core, legs: &[Leg]) {
 /// An empty processor weighs nothing. The first instruction weighs 3 in stage 1 of 2, 4 as it is not done, and 4 as it is
 /// not launched where the longest siding has one cell; it requests no register.
 #[test]
-fn bounds(rt: HostRuntime) -> Result<(), Fail> {
-    let mut core = core_of(&rt, layout_of(&rt, TINY), SEVEN)?;
+fn bounds(rt: HostRuntime) {
+    let mut core = core_of(&rt, layout_of(&rt, TINY), SEVEN);
     assert_eq!(rt; core.bound(), 0);
     make(&rt, &mut core, Move::Issue(Guess::Next));
     assert_eq!(rt; core.bound(), 11);
-    Ok(())
 }
 
 /// The branch stands in stage 3, where its unit is, and has not been executed; the shift behind it stands in stage 1, from
 /// which its siding launches, and has requested x2.
-fn guessed(rt: &(impl Abort + AllocGlobal)) -> Result<Core, Fail> {
-    let mut core = core_of(rt, layout_of(rt, SHIFT_SIDING), WRONG_GUESS)?;
+fn guessed(rt: &(impl Abort + AllocGlobal)) -> Core {
+    let mut core = core_of(rt, layout_of(rt, SHIFT_SIDING), WRONG_GUESS);
     make(rt, &mut core, Move::Issue(Guess::Next));
     climb(rt, &mut core, 1, 2);
     make(rt, &mut core, Move::Issue(Guess::Next));
-    Ok(core)
+    core
 }
 
 /// The turn of the branch reaches the shift before its source does: the shift dies in stage 1 and is never launched.
@@ -139,34 +137,33 @@ const LEAVE: &[Leg] = &[
 
 /// The state after the moves, and others after them, in which nothing stands any more: the branch has retired, and fetch goes
 /// on at its target.
-fn drained(rt: &(impl Abort + AllocGlobal), moves: &[Leg], behind: &[Leg]) -> Result<Core, Fail> {
-    let mut core = guessed(rt)?;
+fn drained(rt: &(impl Abort + AllocGlobal), moves: &[Leg], behind: &[Leg]) -> Core {
+    let mut core = guessed(rt);
     make_all(rt, &mut core, moves);
     make_all(rt, &mut core, behind);
     assert!(rt; core.drained(), "not drained");
     assert!(rt; core.fetch() == Fetch::Running(0x1_0010), "elsewhere");
     assert_eq!(rt; core.retired(), 1);
-    Ok(core)
+    core
 }
 
 /// These moves drain that state to the other one.
-fn assert_drains_to(
-    rt: &(impl Abort + AllocGlobal),
-    moves: &[Leg],
-    other: &Core,
-) -> Result<(), Fail> {
-    let core = drained(rt, moves, LEAVE)?;
+fn assert_drains_to(rt: &(impl Abort + AllocGlobal), moves: &[Leg], other: &Core) {
+    let core = drained(rt, moves, LEAVE);
     assert!(rt; core.same(other), "another state");
-    Ok(())
+}
+
+/// That state is not the other one.
+fn assert_begins_elsewhere(rt: &(impl Abort + AllocGlobal), other: &Core) {
+    let core = guessed(rt);
+    assert!(rt; !core.same(other), "the same state");
 }
 
 /// All orders of moves that drain one state lead to one state, but for what is kept at the bottom; and that is another state.
 #[test]
-fn drains_end_in_one_state(rt: HostRuntime) -> Result<(), Fail> {
-    let first = drained(&rt, DIES_FIRST, &[])?;
-    assert_drains_to(&rt, DIES_LAUNCHED, &first)?;
-    assert_drains_to(&rt, DIES_OWING, &first)?;
-    let begun = guessed(&rt)?;
-    assert!(rt; !begun.same(&first), "the same state");
-    Ok(())
+fn drains_end_in_one_state(rt: HostRuntime) {
+    let first = drained(&rt, DIES_FIRST, &[]);
+    assert_drains_to(&rt, DIES_LAUNCHED, &first);
+    assert_drains_to(&rt, DIES_OWING, &first);
+    assert_begins_elsewhere(&rt, &first);
 }

@@ -1,5 +1,4 @@
 //! Processors that are about to run the words of a program.
-ghost use Rattle.std.specs.Prelude.{IfOk};
 ghost use Rattle.cf_run.specs.Policies.{IsOpened};
 
 use cf_bind::{Guess, Move};
@@ -10,7 +9,6 @@ use layout_file::read_layout;
 use mem_regions::{Part, Regions};
 use rv_machine::Machine;
 use std::process::Abort;
-use std::test::Fail;
 
 /// Two stages.
 pub(crate) const TINY: &[u8] =
@@ -29,21 +27,23 @@ pub(crate) fn layout_of(rt: &(impl Abort + AllocGlobal), text: &[u8]) -> Layout 
     read_layout(rt.alloc(), text).ok().expect(rt, "layout")
 }
 
-/// A processor of a layout on a flat image of at most eight words, with a stack.
-pub(crate) fn core_of(
-    rt: &(impl Abort + AllocGlobal),
-    layout: Layout,
-    words: &[u32],
-) -> Result<Core, Fail>
-    ensures { IfOk result (λ core. IsOpened core) }
-{
-    assert!(rt; words.len() <= 8, "too many words");
-    let mut file = Vec::new(rt.alloc());
+/// The file of words.
+fn file_of(rt: &(impl Abort + AllocGlobal), words: &[u32]) -> Vec<u8> {
+    let mut bytes = Vec::new(rt.alloc());
     for word in words {
-        file.extend_from_slice(&word.to_le_bytes())?;
+        bytes
+            .extend_from_slice(&word.to_le_bytes())
+            .expect(rt, "memory");
     }
-    assert!(rt; file.len() == 4 * words.len(), "length");
-    let size = file.len() as u32;
+    bytes
+}
+
+/// A flat image of at most eight words, and a stack.
+fn memory_of(rt: &(impl Abort + AllocGlobal), words: &[u32]) -> Regions {
+    assert!(rt; words.len() <= 8, "too many words");
+    let bytes = file_of(rt, words);
+    assert!(rt; bytes.len() == 4 * words.len(), "length");
+    let size = bytes.len() as u32;
     let image = Part {
         base: 0x1_0000,
         start: 0,
@@ -60,8 +60,17 @@ pub(crate) fn core_of(
         write: true,
         exec: false,
     };
-    let memory = Regions::load(rt.alloc(), file.as_slice(), &[image, stack])?;
-    Ok(Core::new(rt.alloc(), layout, Machine::new(memory, 0x1_0000))?)
+    Regions::load(rt.alloc(), bytes.as_slice(), &[image, stack])
+        .ok()
+        .expect(rt, "memory")
+}
+
+/// A processor of a layout on a flat image of at most eight words, with a stack.
+pub(crate) fn core_of(rt: &(impl Abort + AllocGlobal), layout: Layout, words: &[u32]) -> Core
+    ensures { IsOpened result }
+{
+    let machine = Machine::new(memory_of(rt, words), 0x1_0000);
+    Core::new(rt.alloc(), layout, machine).expect(rt, "memory")
 }
 
 /// Makes a move, which nothing bars.

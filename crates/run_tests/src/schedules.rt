@@ -9,7 +9,6 @@ use cf_layout::plain;
 use cf_sched::{Drawn, Pace, Policy, Round};
 use cf_semantics::Event;
 use std::process::Abort;
-use std::test::Fail;
 
 /// The first words of the generator with a seed.
 fn words(seed: u32) -> [u32; 4] {
@@ -18,27 +17,22 @@ fn words(seed: u32) -> [u32; 4] {
 }
 
 #[test]
-fn words_of_three_seeds(rt: HostRuntime) -> Result<(), Fail> {
+fn words_of_three_seeds(rt: HostRuntime) {
     assert_eq!(rt;
-        words(0),
-        [0x0f5d_eba9, 0x1842_96dd, 0x3576_43f4, 0xf8e8_4c31]
+        [words(0), words(1), words(u32::MAX)],
+        [
+            [0x0f5d_eba9, 0x1842_96dd, 0x3576_43f4, 0xf8e8_4c31],
+            [0xc982_8f91, 0x1592_e274, 0xc026_2657, 0xa5c2_b6d3],
+            [0x4e56_3271, 0x1235_970d, 0x0624_2b0c, 0x2f2d_a124],
+        ]
     );
-    assert_eq!(rt;
-        words(1),
-        [0xc982_8f91, 0x1592_e274, 0xc026_2657, 0xa5c2_b6d3]
-    );
-    assert_eq!(rt;
-        words(u32::MAX),
-        [0x4e56_3271, 0x1235_970d, 0x0624_2b0c, 0x2f2d_a124]
-    );
-    Ok(())
 }
 
 /// A processor with the first instruction in stage 2: Issue by three guesses, Climb(2) and Execute(2) are allowed.
-fn core(rt: &(impl Abort + AllocGlobal)) -> Result<Core, Fail> {
-    let mut core = core_of(rt, plain(), BRANCH_BEHIND)?;
+fn core(rt: &(impl Abort + AllocGlobal)) -> Core {
+    let mut core = core_of(rt, plain(), BRANCH_BEHIND);
     enter_stage_2(rt, &mut core);
-    Ok(core)
+    core
 }
 
 /// Six picks in turn from the same candidates.
@@ -53,37 +47,34 @@ fn picks<P: Policy>(rt: &impl Abort, policy: &mut P, candidates: &Candidates) ->
 
 /// Round begins again after the last; Drawn picks its words modulo 5.
 #[test]
-fn picks_from_five(rt: HostRuntime) -> Result<(), Fail> {
-    let core = core(&rt)?;
-    let mut candidates = Candidates::new(rt.alloc())?;
-    candidates.fill(&core);
-    assert_eq!(rt;
-        picks(&rt, &mut Round::new(), &candidates),
-        [0, 1, 2, 3, 4, 0]
-    );
-    assert_eq!(rt;
-        picks(&rt, &mut Drawn::new(0), &candidates),
-        [2, 1, 2, 0, 2, 2]
-    );
-    Ok(())
+fn picks_from_five(rt: HostRuntime) {
+    let mut candidates = Candidates::new(rt.alloc()).expect(&rt, "memory");
+    candidates.fill(&core(&rt));
+    let round = picks(&rt, &mut Round::new(), &candidates);
+    let drawn = picks(&rt, &mut Drawn::new(0), &candidates);
+    assert_eq!(rt; [round, drawn], [[0, 1, 2, 3, 4, 0], [2, 1, 2, 0, 2, 2]]);
+}
+
+/// Whether this pace offers so many candidates.
+fn offers(pace: &Pace, core: &Core, candidates: &mut Candidates, count: usize) -> bool {
+    pace.offer(core, candidates);
+    candidates.len() == count
 }
 
 /// With two stages Issue is held back from the fourth Issue on.
-#[test]
-fn issue_is_held_back(rt: HostRuntime) -> Result<(), Fail> {
-    let core = core(&rt)?;
-    let mut candidates = Candidates::new(rt.alloc())?;
+fn assert_held_back(rt: &impl Abort, core: &Core, candidates: &mut Candidates) {
     let mut pace = Pace::new(2);
     for _ in 0..4 {
-        assert!(rt; !pace.held());
-        pace.offer(&core, &mut candidates);
-        assert!(rt; candidates.len() == 5);
+        assert!(rt; !pace.held() && offers(&pace, core, candidates, 5));
         pace.saw(Move::Issue(Guess::Next), &Event::Plain, false);
     }
-    assert!(rt; pace.held());
-    pace.offer(&core, &mut candidates);
-    assert!(rt; candidates.len() == 2);
+    assert!(rt; pace.held() && offers(&pace, core, candidates, 2));
     pace.saw(Move::Climb(2), &Event::Plain, true);
     assert!(rt; !pace.held());
-    Ok(())
+}
+
+#[test]
+fn issue_is_held_back(rt: HostRuntime) {
+    let mut candidates = Candidates::new(rt.alloc()).expect(&rt, "memory");
+    assert_held_back(&rt, &core(&rt), &mut candidates);
 }

@@ -7,7 +7,6 @@ use cf_debug::{Debugged, Ring, debug};
 use cf_index::Candidates;
 use cf_io::{MemSink, MemSource};
 use std::process::Abort;
-use std::test::Fail;
 
 /// A program of which these puts of output fail, and the commands of its session, which come in pieces of this size where these takes
 /// fail.
@@ -20,18 +19,31 @@ struct Session<'a> {
     take_fails: &'a [u64],
 }
 
+fn bytes_of(rt: &(impl Abort + AllocGlobal), bytes: &[u8]) -> Vec<u8> {
+    let mut list = Vec::new(rt.alloc());
+    list.extend_from_slice(bytes).expect(rt, "memory");
+    list
+}
+
+fn numbers_of(rt: &(impl Abort + AllocGlobal), numbers: &[u64]) -> Vec<u64> {
+    let mut list = Vec::new(rt.alloc());
+    list.extend_from_slice(numbers).expect(rt, "memory");
+    list
+}
+
 /// A sink with room for this many bytes, of which these puts fail.
 fn sink_of(rt: &(impl Abort + AllocGlobal), room: usize, fails: &[u64]) -> MemSink {
-    let fails = fails.to_vec(rt.alloc()).expect(rt, "memory");
-    MemSink::new(rt.alloc(), room, fails).expect(rt, "memory")
+    MemSink::new(rt.alloc(), room, numbers_of(rt, fails)).expect(rt, "memory")
 }
 
 /// The commands of a session.
 fn source_of(rt: &(impl Abort + AllocGlobal), session: &Session<'_>) -> MemSource {
     assert!(rt; 0 < session.piece, "no piece");
-    let commands = session.commands.to_vec(rt.alloc()).expect(rt, "memory");
-    let fails = session.take_fails.to_vec(rt.alloc()).expect(rt, "memory");
-    MemSource::new(commands, session.piece, fails)
+    MemSource::new(
+        bytes_of(rt, session.commands),
+        session.piece,
+        numbers_of(rt, session.take_fails),
+    )
 }
 
 /// How the session of these commands ends on a processor.
@@ -62,11 +74,11 @@ fn run(
     rt: &(impl Abort + AllocGlobal),
     session: &Session<'_>,
     report: &mut MemSink,
-) -> Result<Debugged, Fail> {
-    let mut core = core_of(rt, layout_of(rt, TINY), session.words)?;
+) -> Debugged {
+    let mut core = core_of(rt, layout_of(rt, TINY), session.words);
     let mut commands = source_of(rt, session);
     let mut output = sink_of(rt, 1000, session.output_fails);
-    Ok(answer(rt, &mut core, &mut commands, &mut output, report))
+    answer(rt, &mut core, &mut commands, &mut output, report)
 }
 
 /// A session ends in this way with these answers, for which the report has room for this many bytes.
@@ -76,12 +88,11 @@ fn assert_session(
     room: usize,
     end: Debugged,
     answers: &[u8],
-) -> Result<(), Fail> {
+) {
     let mut report = sink_of(rt, room, &[]);
-    let ended = run(rt, session, &mut report)?;
+    let ended = run(rt, session, &mut report);
     assert!(rt; report.bytes() == answers, "other answers");
     assert!(rt; ended == end, "another end");
-    Ok(())
 }
 
 /// The session of these commands on `SEVEN`, given in pieces of this size, is carried out with these answers.
@@ -90,7 +101,7 @@ fn assert_answers(
     commands: &[u8],
     piece: usize,
     answers: &[u8],
-) -> Result<(), Fail> {
+) {
     let session = Session {
         words: SEVEN,
         output_fails: &[],
@@ -98,7 +109,7 @@ fn assert_answers(
         piece,
         take_fails: &[],
     };
-    assert_session(rt, &session, 200_000, Debugged::Done, answers)
+    assert_session(rt, &session, 200_000, Debugged::Done, answers);
 }
 
 /// The commands of the first example, and what they answer: `addi` weighs 3 in stage 1 of 2, 4 as it is not done, and 4 as it is
@@ -111,10 +122,10 @@ const ANSWERS: &[u8] = b"moved\nbound 11\n? NoPassenger\nback issue next\nbound 
 
 /// The answers are the same however the commands come, and whether or not the last line has a line feed.
 #[test]
-fn pieces(rt: HostRuntime) -> Result<(), Fail> {
-    assert_answers(&rt, COMMANDS, 1, ANSWERS)?;
-    assert_answers(&rt, COMMANDS, 8, ANSWERS)?;
-    assert_answers(&rt, COMMANDS, 4096, ANSWERS)
+fn pieces(rt: HostRuntime) {
+    assert_answers(&rt, COMMANDS, 1, ANSWERS);
+    assert_answers(&rt, COMMANDS, 8, ANSWERS);
+    assert_answers(&rt, COMMANDS, 4096, ANSWERS);
 }
 
 /// The session of those commands on `SEVEN`, given in pieces of 8 bytes, of which this take fails, is ended by that with these answers.
@@ -122,7 +133,7 @@ fn assert_take_fails(
     rt: &(impl Abort + AllocGlobal),
     take: u64,
     answers: &[u8],
-) -> Result<(), Fail> {
+) {
     let session = Session {
         words: SEVEN,
         output_fails: &[],
@@ -130,22 +141,22 @@ fn assert_take_fails(
         piece: 8,
         take_fails: &[take],
     };
-    assert_session(rt, &session, 200_000, Debugged::ReadFault, answers)
+    assert_session(rt, &session, 200_000, Debugged::ReadFault, answers);
 }
 
 /// A take that fails leaves the answers to the lines that were taken whole before it: pieces of 8 bytes end in the first line, then in
 /// the first and then in the second.
 #[test]
-fn failing_takes(rt: HostRuntime) -> Result<(), Fail> {
-    assert_take_fails(&rt, 1, b"")?;
-    assert_take_fails(&rt, 2, b"")?;
-    assert_take_fails(&rt, 3, b"moved\n")
+fn failing_takes(rt: HostRuntime) {
+    assert_take_fails(&rt, 1, b"");
+    assert_take_fails(&rt, 2, b"");
+    assert_take_fails(&rt, 3, b"moved\n");
 }
 
 /// Each refusal, and each command in another spelling: blanks, tabs, carriage returns and digits of either case. What comes after
 /// `end` is not answered.
 #[test]
-fn refusals(rt: HostRuntime) -> Result<(), Fail> {
+fn refusals(rt: HostRuntime) {
     let commands =
         b"\n \t\r\n\r\n# note\nmove\nmove jump\nmove climb\nmove emit 1\nmove \x80\n\x80\nmove execute 1\n\
         auto\nauto 0\nauto 1000001\nauto 0000000001\nauto x 1\nauto 1 1\n\
@@ -157,71 +168,72 @@ fn refusals(rt: HostRuntime) -> Result<(), Fail> {
         7f0ffff0 00\n? BadNumber\n? BadNumber\n? BadNumber\n? BadNumber\n? NoAccess\n\
         00010000 13 05 70 00 93 08 d0 05 73 00 00 00\nbreak 0001000c\nbreak none\n? BadNumber\n? ExtraWords\nbound 0\n\
         ? ExtraWords\n? ExtraWords\n";
-    assert_answers(&rt, commands, 5, answers)
+    assert_answers(&rt, commands, 5, answers);
 }
 
 /// The last line may lack its line feed, and keeps its carriage return then.
 #[test]
-fn last_lines(rt: HostRuntime) -> Result<(), Fail> {
-    assert_answers(&rt, b"bound\nbound", 4096, b"bound 0\nbound 0\n")?;
-    assert_answers(&rt, b"bound\nbound\r", 4096, b"bound 0\n? UnknownCommand\n")?;
-    assert_answers(&rt, b"bound\nend", 4096, b"bound 0\n")
+fn last_lines(rt: HostRuntime) {
+    assert_answers(&rt, b"bound\nbound", 4096, b"bound 0\nbound 0\n");
+    assert_answers(&rt, b"bound\nbound\r", 4096, b"bound 0\n? UnknownCommand\n");
+    assert_answers(&rt, b"bound\nend", 4096, b"bound 0\n");
+}
+
+fn push_blanks(rt: &impl Abort, line: &mut Vec<u8>, count: u32) {
+    for _ in 0..count {
+        line.push(b' ').expect(rt, "memory");
+    }
 }
 
 /// A line of 256 bytes is read, even with a carriage return after it, and one of 257 is too long, even where it is the last.
 #[test]
-fn long_lines(rt: HostRuntime) -> Result<(), Fail> {
-    let mut line = Vec::new(rt.alloc());
-    line.extend_from_slice(b"bound")?;
-    for _ in 0..251 {
-        line.push(b' ')?;
-    }
-    line.extend_from_slice(b"\r\n")?;
-    assert_answers(&rt, line.as_slice(), 100, b"bound 0\n")?;
-    for _ in 0..257 {
-        line.push(b' ')?;
-    }
-    assert_answers(&rt, line.as_slice(), 100, b"bound 0\n? TooLong\n")?;
-    line.extend_from_slice(b"\r\nend")?;
-    assert_answers(&rt, line.as_slice(), 300, b"bound 0\n? TooLong\n")
+fn long_lines(rt: HostRuntime) {
+    let mut line = bytes_of(&rt, b"bound");
+    push_blanks(&rt, &mut line, 251);
+    line.extend_from_slice(b"\r\n").expect(&rt, "memory");
+    assert_answers(&rt, line.as_slice(), 100, b"bound 0\n");
+    push_blanks(&rt, &mut line, 257);
+    assert_answers(&rt, line.as_slice(), 100, b"bound 0\n? TooLong\n");
+    line.extend_from_slice(b"\r\nend").expect(&rt, "memory");
+    assert_answers(&rt, line.as_slice(), 300, b"bound 0\n? TooLong\n");
 }
 
 /// The program runs to its end in 19 moves, worked out by hand from the table of moves and the order of Round: Serve is the 17th, so two
 /// are taken back after it, and no more. Nothing is made after the end.
 #[test]
-fn to_the_end(rt: HostRuntime) -> Result<(), Fail> {
+fn to_the_end(rt: HostRuntime) {
     let commands = b"auto 1000000\nauto 5\nmove emit\nmove serve\nback\nback\nback\nmove emit\n";
     let answers =
         b"retire 1 00010000 00700513 x10=00000007\nretire 2 00010004 05d00893 x17=0000005d\nauto 19\nauto 0\n\
         ? Halted\n? Halted\nback leave\nback fall 2\n? NothingKept\n? LaneEmpty\n";
-    assert_answers(&rt, commands, 4096, answers)
+    assert_answers(&rt, commands, 4096, answers);
 }
 
 /// `auto` stops after the Issue at the break address, even where that is its first move. The first instruction is issued, climbs, is
 /// executed, sends its result and leaves before the second is issued.
 #[test]
-fn break_address(rt: HostRuntime) -> Result<(), Fail> {
+fn break_address(rt: HostRuntime) {
     let commands = b"break 00010000\nauto 100\nback\nbreak 00010004\nauto 100\nbreak none\nshow\n";
     let answers = b"break 00010000\nauto 1\nback issue next\nbreak 00010004\n\
         retire 1 00010000 00700513 x10=00000007\nauto 6\nbreak none\nfetch 00010008\nlane -\n\
         stage 2 result | x10=00000007\nstage 1 instruction | 00010004 next new - - x17=? -\n";
-    assert_answers(&rt, commands, 4096, answers)
+    assert_answers(&rt, commands, 4096, answers);
 }
 
 /// The registers at the start.
 #[test]
-fn registers(rt: HostRuntime) -> Result<(), Fail> {
+fn registers(rt: HostRuntime) {
     let answers = b"x00=00000000 x01=00000000 x02=7f0ffff0 x03=00000000\n\
         x04=00000000 x05=00000000 x06=00000000 x07=00000000\nx08=00000000 x09=00000000 x10=00000000 x11=00000000\n\
         x12=00000000 x13=00000000 x14=00000000 x15=00000000\nx16=00000000 x17=00000000 x18=00000000 x19=00000000\n\
         x20=00000000 x21=00000000 x22=00000000 x23=00000000\nx24=00000000 x25=00000000 x26=00000000 x27=00000000\n\
         x28=00000000 x29=00000000 x30=00000000 x31=00000000\n";
-    assert_answers(&rt, b"regs", 4096, answers)
+    assert_answers(&rt, b"regs", 4096, answers);
 }
 
 /// One byte is written from address 00010000, and the output fails that: the four instructions before the call have retired.
 #[test]
-fn failing_output(rt: HostRuntime) -> Result<(), Fail> {
+fn failing_output(rt: HostRuntime) {
     let session = Session {
         words: &[
             0x0010_0513,
@@ -238,12 +250,12 @@ fn failing_output(rt: HostRuntime) -> Result<(), Fail> {
     let answers =
         b"retire 1 00010000 00100513 x10=00000001\nretire 2 00010004 000105b7 x11=00010000\n\
         retire 3 00010008 00100613 x12=00000001\nretire 4 0001000c 04000893 x17=00000040\n";
-    assert_session(&rt, &session, 1000, Debugged::WriteFault, answers)
+    assert_session(&rt, &session, 1000, Debugged::WriteFault, answers);
 }
 
 /// A report of three bytes takes a front of the first answer, and the session ends.
 #[test]
-fn failing_report(rt: HostRuntime) -> Result<(), Fail> {
+fn failing_report(rt: HostRuntime) {
     let session = Session {
         words: SEVEN,
         output_fails: &[],
@@ -251,17 +263,16 @@ fn failing_report(rt: HostRuntime) -> Result<(), Fail> {
         piece: 4096,
         take_fails: &[],
     };
-    assert_session(&rt, &session, 3, Debugged::ReportFault, b"mov")
+    assert_session(&rt, &session, 3, Debugged::ReportFault, b"mov");
 }
 
 /// `auto` makes 2,000 moves of a jump to itself, and then moves are taken back this many times.
-fn taken_back(rt: &(impl Abort + AllocGlobal), times: u32) -> Result<Vec<u8>, Fail> {
-    let mut commands = Vec::new(rt.alloc());
-    commands.extend_from_slice(b"auto 2000\n")?;
+fn taken_back(rt: &(impl Abort + AllocGlobal), times: u32) -> Vec<u8> {
+    let mut commands = bytes_of(rt, b"auto 2000\n");
     for _ in 0..times {
-        commands.extend_from_slice(b"back\n")?;
+        commands.extend_from_slice(b"back\n").expect(rt, "memory");
     }
-    Ok(commands)
+    commands
 }
 
 /// The last answer says that nothing is kept, and is the only refusal.
@@ -273,8 +284,8 @@ fn assert_refused_last(rt: &impl Abort, answers: &[u8]) {
 
 /// Of 2,000 moves the last 1,024 are taken back, and no more.
 #[test]
-fn full_ring(rt: HostRuntime) -> Result<(), Fail> {
-    let commands = taken_back(&rt, 1025)?;
+fn full_ring(rt: HostRuntime) {
+    let commands = taken_back(&rt, 1025);
     let session = Session {
         words: &[0x0000_006f],
         output_fails: &[],
@@ -283,7 +294,6 @@ fn full_ring(rt: HostRuntime) -> Result<(), Fail> {
         take_fails: &[],
     };
     let mut report = sink_of(&rt, 200_000, &[]);
-    assert!(rt; run(&rt, &session, &mut report)? == Debugged::Done, "another end");
+    assert!(rt; run(&rt, &session, &mut report) == Debugged::Done, "another end");
     assert_refused_last(&rt, report.bytes());
-    Ok(())
 }

@@ -1,4 +1,4 @@
-use Rattle.std.proofs.Common.{◌≡◌, sym, ap, ◌∙◌}
+use Rattle.std.proofs.Common.{◌≡◌, IfOk, sym, ap, ◌∙◌, subst}
 use Rattle.rv_machine.specs.Hart.{Hart}
 use Rattle.cf_layout.specs.Layout.{Plan}
 use Rattle.cf_core.specs.Processors.{Processor, opened}
@@ -10,4 +10,4 @@ unfolding opened
 opened_is core plan hart is = record { hart = hart; is = is ∙ ap (λ (p : Plan). opened p hart) (sym (ap (λ (c : Processor). c.plan) is)) }
 
 pub returns : goal.returns
-returns c = λ made. opened_is _ _ _ made.in_ok-new.ensures
+returns g c = opened_is _ _ _ (subst (λ made. IfOk made (λ core. core ≡ opened c.args.layout c.new-machine.result)) c.expect.ensures c.new.ensures)
