@@ -27,8 +27,14 @@ const BEHIND: [Move; 5] = [
 /// Issues out.
 fn assert_behind(rt: &impl Abort, candidates: &mut Candidates) {
     assert_moves(rt, candidates, &BEHIND);
-    assert_eq!(rt; candidates.first_behind(Some(Move::Climb(2))), 4);
-    assert_eq!(rt; candidates.first_behind(Some(Move::Serve)), 0);
+    assert!(rt;
+        candidates.first_behind(Some(Move::Climb(2))) == 4,
+        "behind Climb(2)"
+    );
+    assert!(rt;
+        candidates.first_behind(Some(Move::Serve)) == 0,
+        "behind Serve"
+    );
     candidates.hold();
     assert_moves(rt, candidates, &[Move::Climb(2), Move::Execute(2)]);
 }

@@ -54,9 +54,9 @@ fn make_all(rt: &(impl Abort + AllocGlobal), core: &mut Core, legs: &[Leg]) {
 #[test]
 fn bounds(rt: HostRuntime) {
     let mut core = core_of(&rt, layout_of(&rt, TINY), SEVEN);
-    assert_eq!(rt; core.bound(), 0);
+    assert!(rt; core.bound() == 0, "another bound of nothing");
     make(&rt, &mut core, Move::Issue(Guess::Next));
-    assert_eq!(rt; core.bound(), 11);
+    assert!(rt; core.bound() == 11, "another bound");
 }
 
 /// The branch stands in stage 3, where its unit is, and has not been executed; the shift behind it stands in stage 1, from
@@ -143,7 +143,7 @@ fn drained(rt: &(impl Abort + AllocGlobal), moves: &[Leg], behind: &[Leg]) -> Co
     make_all(rt, &mut core, behind);
     assert!(rt; core.drained(), "not drained");
     assert!(rt; core.fetch() == Fetch::Running(0x1_0010), "elsewhere");
-    assert_eq!(rt; core.retired(), 1);
+    assert!(rt; core.retired() == 1, "another count of retired");
     core
 }
 

@@ -4,8 +4,7 @@ use cf_closing::{push_bar, push_script, run_line};
 use cf_run::Ran;
 use cf_scripts::ScriptKind;
 use cf_texts::Page;
-use std::alloc::AllocError;
-use std::test::Fail;
+use std::process::Abort;
 
 /// Each way in which a run finishes of itself.
 const ENDS: [Ran; 7] = [
@@ -66,34 +65,43 @@ write fault output
 Halted Failed NoSuchSite NoPassenger NoPacket Occupied NotMet AlreadyMet SourceMissing x05 SourceMissing x31 NoUnit NotDone Owes \
 OwesNothing OpNotThere LaneFull LaneEmpty FetchWaiting BadGuess Dead AlreadyDone UnknownMove BadNumber ExtraWords NotAscii ";
 
-/// Adds the name of a bar, and a space.
-fn add_bar(texts: &mut Vec<u8>, bar: Bar) -> Result<(), AllocError> {
-    let mut page = Page::new();
-    push_bar(&mut page, bar);
-    page.push(b" ");
-    texts.extend_from_slice(page.bytes())
+/// Adds the bytes of a page.
+fn add(rt: &impl Abort, texts: &mut Vec<u8>, page: &Page) {
+    texts.extend_from_slice(page.bytes()).expect(rt, "memory");
 }
 
-/// Adds why a line of a script is no move, and a space.
-fn add_kind(texts: &mut Vec<u8>, kind: ScriptKind) -> Result<(), AllocError> {
-    let mut page = Page::new();
-    push_script(&mut page, kind);
-    page.push(b" ");
-    texts.extend_from_slice(page.bytes())
+/// Adds the lines of the ends.
+fn add_ends(rt: &impl Abort, texts: &mut Vec<u8>) {
+    for answer in &ENDS {
+        add(rt, texts, &run_line(500, *answer));
+    }
+}
+
+/// Adds the names of the bars, each with a space.
+fn add_bars(rt: &impl Abort, texts: &mut Vec<u8>) {
+    for bar in &BARS {
+        let mut page = Page::new();
+        push_bar(&mut page, *bar);
+        page.push(b" ");
+        add(rt, texts, &page);
+    }
+}
+
+/// Adds why a line of a script is no move, each time with a space.
+fn add_kinds(rt: &impl Abort, texts: &mut Vec<u8>) {
+    for kind in &KINDS {
+        let mut page = Page::new();
+        push_script(&mut page, *kind);
+        page.push(b" ");
+        add(rt, texts, &page);
+    }
 }
 
 #[test]
-fn ends_bars_and_kinds(rt: HostRuntime) -> Result<(), Fail> {
-    let mut lines = Vec::new(rt.alloc());
-    for answer in &ENDS {
-        lines.extend_from_slice(run_line(500, *answer).bytes())?;
-    }
-    for bar in &BARS {
-        add_bar(&mut lines, *bar)?;
-    }
-    for kind in &KINDS {
-        add_kind(&mut lines, *kind)?;
-    }
-    assert_eq!(rt; lines.as_slice(), TEXTS.as_bytes());
-    Ok(())
+fn ends_bars_and_kinds(rt: HostRuntime) {
+    let mut texts = Vec::new(rt.alloc());
+    add_ends(&rt, &mut texts);
+    add_bars(&rt, &mut texts);
+    add_kinds(&rt, &mut texts);
+    assert!(rt; texts.as_slice() == TEXTS.as_bytes(), "other texts");
 }

@@ -199,9 +199,8 @@ const TALLY: Tally = Tally {
     dead: 0,
 };
 
-#[test]
-fn lines(rt: HostRuntime) {
-    let mut report = sink(&rt);
+/// Puts the lines of stages.
+fn put_stages(rt: &impl Abort, report: &mut MemSink) {
     let stages = [
         (1, sent()),
         (2, owing()),
@@ -217,18 +216,29 @@ fn lines(rt: HostRuntime) {
         (1, cell(None, None, false)),
     ];
     for (stage, cell) in &stages {
-        assert!(rt; put_stage(*stage, cell, &mut report).is_ok(), "put");
+        assert!(rt; put_stage(*stage, cell, report).is_ok(), "put");
     }
+}
+
+/// Puts the lines of what stands beside the stages, and the others.
+fn put_others(rt: &impl Abort, report: &mut MemSink) {
     let puts = [
-        put_fetch(Fetch::Running(0x0001_0008), &mut report),
-        put_fetch(Fetch::Waiting, &mut report),
-        put_siding(1, &[operation(None), None], &mut report),
-        put_siding(0, &[None, operation(Some(7))], &mut report),
-        put_siding(2, &[None], &mut report),
-        put_retired(1, &RETIRED, &mut report),
-        put_move(12, Move::Slide(0, 1), &mut report),
-        put_tally(&TALLY, &mut report),
+        put_fetch(Fetch::Running(0x0001_0008), report),
+        put_fetch(Fetch::Waiting, report),
+        put_siding(1, &[operation(None), None], report),
+        put_siding(0, &[None, operation(Some(7))], report),
+        put_siding(2, &[None], report),
+        put_retired(1, &RETIRED, report),
+        put_move(12, Move::Slide(0, 1), report),
+        put_tally(&TALLY, report),
     ];
     assert!(rt; puts.iter().all(|put| put.is_ok()), "put");
-    assert_eq!(rt; report.bytes(), LINES.as_bytes());
+}
+
+#[test]
+fn lines(rt: HostRuntime) {
+    let mut report = sink(&rt);
+    put_stages(&rt, &mut report);
+    put_others(&rt, &mut report);
+    assert!(rt; report.bytes() == LINES.as_bytes(), "other lines");
 }

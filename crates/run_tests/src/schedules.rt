@@ -52,7 +52,8 @@ fn picks_from_five(rt: HostRuntime) {
     candidates.fill(&core(&rt));
     let round = picks(&rt, &mut Round::new(), &candidates);
     let drawn = picks(&rt, &mut Drawn::new(0), &candidates);
-    assert_eq!(rt; [round, drawn], [[0, 1, 2, 3, 4, 0], [2, 1, 2, 0, 2, 2]]);
+    assert!(rt; round == [0, 1, 2, 3, 4, 0], "other picks of Round");
+    assert!(rt; drawn == [2, 1, 2, 0, 2, 2], "other picks of Drawn");
 }
 
 /// Whether this pace offers so many candidates.

@@ -59,22 +59,11 @@ fn answer(
     assert!(rt; core.retired() <= 10_000_000, "too many retired");
     let mut candidates = Candidates::new(rt.alloc()).expect(rt, "memory");
     let mut ring = Ring::new(rt.alloc()).expect(rt, "memory");
-    debug(
-        core,
-        &mut candidates,
-        &mut ring,
-        commands,
-        output,
-        report,
-    )
+    debug(core, &mut candidates, &mut ring, commands, output, report)
 }
 
 /// How a session ends, which is answered to the report.
-fn run(
-    rt: &(impl Abort + AllocGlobal),
-    session: &Session<'_>,
-    report: &mut MemSink,
-) -> Debugged {
+fn run(rt: &(impl Abort + AllocGlobal), session: &Session<'_>, report: &mut MemSink) -> Debugged {
     let mut core = core_of(rt, layout_of(rt, TINY), session.words);
     let mut commands = source_of(rt, session);
     let mut output = sink_of(rt, 1000, session.output_fails);
@@ -96,12 +85,7 @@ fn assert_session(
 }
 
 /// The session of these commands on `SEVEN`, given in pieces of this size, is carried out with these answers.
-fn assert_answers(
-    rt: &(impl Abort + AllocGlobal),
-    commands: &[u8],
-    piece: usize,
-    answers: &[u8],
-) {
+fn assert_answers(rt: &(impl Abort + AllocGlobal), commands: &[u8], piece: usize, answers: &[u8]) {
     let session = Session {
         words: SEVEN,
         output_fails: &[],
@@ -129,11 +113,7 @@ fn pieces(rt: HostRuntime) {
 }
 
 /// The session of those commands on `SEVEN`, given in pieces of 8 bytes, of which this take fails, is ended by that with these answers.
-fn assert_take_fails(
-    rt: &(impl Abort + AllocGlobal),
-    take: u64,
-    answers: &[u8],
-) {
+fn assert_take_fails(rt: &(impl Abort + AllocGlobal), take: u64, answers: &[u8]) {
     let session = Session {
         words: SEVEN,
         output_fails: &[],
@@ -279,7 +259,7 @@ fn taken_back(rt: &(impl Abort + AllocGlobal), times: u32) -> Vec<u8> {
 fn assert_refused_last(rt: &impl Abort, answers: &[u8]) {
     assert!(rt; answers.ends_with(b"\n? NothingKept\n"), "too much kept");
     let refused = answers.iter().filter(|byte| **byte == b'?').count();
-    assert_eq!(rt; refused, 1);
+    assert!(rt; refused == 1, "another count of refusals");
 }
 
 /// Of 2,000 moves the last 1,024 are taken back, and no more.
@@ -294,6 +274,9 @@ fn full_ring(rt: HostRuntime) {
         take_fails: &[],
     };
     let mut report = sink_of(&rt, 200_000, &[]);
-    assert!(rt; run(&rt, &session, &mut report) == Debugged::Done, "another end");
+    assert!(rt;
+        run(&rt, &session, &mut report) == Debugged::Done,
+        "another end"
+    );
     assert_refused_last(&rt, report.bytes());
 }
