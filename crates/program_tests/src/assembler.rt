@@ -1,8 +1,10 @@
 //! Sources and the words that GNU as and ld 2.40 make of them, and refusals in their order.
-use rv_asm::{AsmKind, assemble};
+ghost use Rattle.rv_asm.specs.Small.{IsSmall};
+ghost use Rattle.std.specs.Prelude.{IfSome};
+
+use rv_asm::{AsmKind, Object, assemble};
 use rv_text::TextErr;
-use std::process::Abort;
-use std::test::Fail;
+use std::alloc::{AllocError, Global};
 
 const SOURCE: &str = "\
     .globl _start\n\
@@ -99,12 +101,22 @@ fn spell(bytes: &[u8], words: &[u32]) -> bool {
     rest.is_empty()
 }
 
-fn gives(rt: &(impl Abort + AllocGlobal), source: &[u8], text: &[u32], data: &[u32]) -> bool {
-    match assemble(rt.alloc(), source) {
-        Ok(object) => {
-            spell(object.text_bytes.as_slice(), text) && spell(object.data_bytes.as_slice(), data)
-        }
-        Err(_) => false,
+/// What a source is assembled to, if it is.
+pub(crate) fn object_of(rt: &impl AllocGlobal, source: &[u8]) -> Option<Object>
+    ensures { IfSome result (λ object. IsSmall object) }
+{
+    assemble(rt.alloc(), source).ok()
+}
+
+/// Whether the object has these words and no others.
+fn holds(object: &Object, text: &[u32], data: &[u32]) -> bool {
+    spell(object.text_bytes.as_slice(), text) && spell(object.data_bytes.as_slice(), data)
+}
+
+fn gives(rt: &impl AllocGlobal, source: &[u8], text: &[u32], data: &[u32]) -> bool {
+    match object_of(rt, source) {
+        Some(object) => holds(&object, text, data),
+        None => false,
     }
 }
 
@@ -131,19 +143,24 @@ fn distances_are_taken_in_32_bits(rt: HostRuntime) {
     assert!(rt; gives(&rt, FAR.as_bytes(), &text, &[]));
 }
 
-#[test]
-fn a_source_may_have_1048576_bytes(rt: HostRuntime) -> Result<(), Fail> {
-    let mut source = Vec::new(rt.alloc());
+/// Empty lines and a last one, 1,048,576 bytes in all.
+fn longest(alloc: Global) -> Result<Vec<u8>, AllocError> {
+    let mut source = Vec::new(alloc);
     source.resize(1_048_572, b'\n')?;
     source.extend_from_slice(b"ret\n")?;
-    assert!(rt; gives(&rt, source.as_slice(), &[0x0000_8067], &[]));
-    Ok(())
+    Ok(source)
 }
 
-fn entry(rt: &(impl Abort + AllocGlobal), source: &str) -> u32 {
-    match assemble(rt.alloc(), source.as_bytes()) {
-        Ok(object) => object.entry,
-        Err(_) => 0,
+#[test]
+fn a_source_may_have_1048576_bytes(rt: HostRuntime) {
+    let source = longest(rt.alloc()).ok().expect(&rt, "memory");
+    assert!(rt; gives(&rt, source.as_slice(), &[0x0000_8067], &[]));
+}
+
+fn entry(rt: &impl AllocGlobal, source: &str) -> u32 {
+    match object_of(rt, source.as_bytes()) {
+        Some(object) => object.entry,
+        None => 0,
     }
 }
 
@@ -153,7 +170,7 @@ fn a_program_is_entered_at_its_label(rt: HostRuntime) {
     assert!(rt; entry(&rt, "nop\r\n_start: # here") == 0x1_0004);
 }
 
-fn refusal(rt: &(impl Abort + AllocGlobal), source: &[u8]) -> Option<(u32, AsmKind)> {
+fn refusal(rt: &impl AllocGlobal, source: &[u8]) -> Option<(u32, AsmKind)> {
     match assemble(rt.alloc(), source) {
         Ok(_) => None,
         Err(e) => Some((e.line, e.kind)),
@@ -218,7 +235,7 @@ const REFUSALS: [(&[u8], u32, AsmKind); 25] = [
 
 #[test]
 fn the_first_failing_test_is_answered(rt: HostRuntime) {
-    for (source, line, kind) in REFUSALS {
-        assert!(rt; refusal(&rt, source) == Some((line, kind)), "line {line}");
+    for (source, line, kind) in &REFUSALS {
+        assert!(rt; refusal(&rt, source) == Some((*line, *kind)), "line {line}");
     }
 }

@@ -10,6 +10,6 @@ fn eight_digits(rt: HostRuntime) {
         (u32::MAX, b"ffffffff"),
     ];
     for (word, digits) in &cases {
-        assert_eq!(rt; hex8(*word), **digits);
+        assert!(rt; hex8(*word) == **digits);
     }
 }

@@ -6,32 +6,22 @@
 ghost use Rattle.std.specs.Prelude.{◌≤◌};
 ghost use Rattle.cf_asked.specs.Limits.{most_statements};
 
+use crate::in_memory::sink_of;
 use cf_gen::generate;
-use cf_io::{Failed, MemSink};
+use cf_io::Failed;
 use std::process::Abort;
-use std::test::Fail;
 
-/// A sink with room for 1,000 bytes, of which one put fails.
-fn sink_failing_at(rt: &(impl Abort + AllocGlobal), put: u64) -> MemSink {
-    let fails = [put].to_vec(rt.alloc()).ok().expect(rt, "memory");
-    MemSink::new(rt.alloc(), 1000, fails)
-        .ok()
-        .expect(rt, "memory")
-}
-
-/// The program of this many statements begins with this text.
-fn assert_begins(rt: &(impl Abort + AllocGlobal), number: u32, text: &[u8]) -> Result<(), Fail>
+/// Whether the program of this many statements begins with this text.
+fn begins(rt: &(impl Abort + AllocGlobal), number: u32, text: &[u8]) -> bool
     requires some { 1 ≤ number }
     requires limit { number ≤ most_statements }
 {
-    let mut out = sink_failing_at(rt, 100);
-    assert_eq!(rt; generate(number, &mut out), Ok(()));
-    assert!(rt; out.bytes().starts_with(text));
-    Ok(())
+    let mut out = sink_of(rt, 1000, &[100]);
+    generate(number, &mut out) == Ok(()) && out.bytes().starts_with(text)
 }
 
 #[test]
-fn one_statement(rt: HostRuntime) -> Result<(), Fail> {
+fn one_statement(rt: HostRuntime) {
     let text = b"    .text
     .globl _start
 _start:
@@ -49,11 +39,11 @@ L1:
 L2:
     xor x8, x8, x9
 ";
-    assert_begins(&rt, 1, text)
+    assert!(rt; begins(&rt, 1, text));
 }
 
 #[test]
-fn three_statements(rt: HostRuntime) -> Result<(), Fail> {
+fn three_statements(rt: HostRuntime) {
     let text = b"    .text
     .globl _start
 _start:
@@ -75,13 +65,12 @@ L3:
 L4:
     xor x8, x8, x9
 ";
-    assert_begins(&rt, 3, text)
+    assert!(rt; begins(&rt, 3, text));
 }
 
 #[test]
-fn output_fails_behind_the_first_statement(rt: HostRuntime) -> Result<(), Fail> {
-    let mut out = sink_failing_at(&rt, 3);
-    assert_eq!(rt; generate(3, &mut out), Err(Failed));
+fn output_fails_behind_the_first_statement(rt: HostRuntime) {
+    let mut out = sink_of(&rt, 1000, &[3]);
+    assert!(rt; generate(3, &mut out) == Err(Failed));
     assert!(rt; out.bytes().ends_with(b"L1:\n    or x15, x12, x8\n"));
-    Ok(())
 }

@@ -83,9 +83,11 @@ fn is_written(word: u32, pc: u32, text: &str) -> bool {
 #[test]
 fn each_instruction_is_read_and_written(rt: HostRuntime) {
     let mut pc = 0x0001_0000u32;
-    for (word, text) in LISTING {
-        assert!(rt; word_of(text, pc) == Some(word), "read {text}");
-        assert!(rt; is_written(word, pc, text), "written {text}");
+    for (word, text) in &LISTING {
+        assert!(rt;
+            word_of(text, pc) == Some(*word) && is_written(*word, pc, text),
+            "{text}"
+        );
         pc = pc.wrapping_add(4);
     }
 }
@@ -93,7 +95,7 @@ fn each_instruction_is_read_and_written(rt: HostRuntime) {
 #[test]
 fn registers_have_usual_names(rt: HostRuntime) {
     let mut number = 0u8;
-    for name in USUAL_NAMES {
+    for name in &USUAL_NAMES {
         assert!(rt; read_register(name.as_bytes()) == Some(number), "{name}");
         number = number.wrapping_add(1);
     }
@@ -102,90 +104,100 @@ fn registers_have_usual_names(rt: HostRuntime) {
     assert!(rt; read_register(b"x031") == Some(31));
 }
 
-fn addi(imm: i32) -> Instr {
-    Instr::OpImm {
-        op: ImmOp::Add,
-        rd: 10,
-        rs1: 0,
-        imm,
-    }
-}
+const ADDI_7: Instr = Instr::OpImm {
+    op: ImmOp::Add,
+    rd: 10,
+    rs1: 0,
+    imm: 7,
+};
 
-fn lw(imm: i32) -> Instr {
-    Instr::Load {
-        kind: LoadKind::Word,
-        rd: 1,
-        rs1: 2,
-        imm,
-    }
-}
+const ADDI_0: Instr = Instr::OpImm {
+    op: ImmOp::Add,
+    rd: 10,
+    rs1: 0,
+    imm: 0,
+};
 
-fn fence_i(rd: u8, rs1: u8, imm: u32) -> Instr {
-    Instr::FenceI { rd, rs1, imm }
-}
+const ADDI_MINUS_2047: Instr = Instr::OpImm {
+    op: ImmOp::Add,
+    rd: 10,
+    rs1: 0,
+    imm: -0x7ff,
+};
+
+const LW_MINUS_4: Instr = Instr::Load {
+    kind: LoadKind::Word,
+    rd: 1,
+    rs1: 2,
+    imm: -4,
+};
+
+const JUMP_BACK: Instr = Instr::Jal {
+    rd: 0,
+    imm: -0x1_0004,
+};
+
+const LUI_74565: Instr = Instr::Lui {
+    rd: 5,
+    imm: 0x12345,
+};
+
+const FENCE_I_15: Instr = Instr::FenceI {
+    rd: 1,
+    rs1: 2,
+    imm: 15,
+};
+
+const SPELLINGS: [(&str, Instr); 8] = [
+    ("addi a0,zero,7", ADDI_7),
+    (" \t addi\tx010 , x0 ,\t0x7 ", ADDI_7),
+    ("addi x10, x0, -0", ADDI_0),
+    ("addi x10, x0, -0x7fF", ADDI_MINUS_2047),
+    ("lw ra, -4 ( sp )", LW_MINUS_4),
+    ("jal x0, -4", JUMP_BACK),
+    ("lui x5, 74565", LUI_74565),
+    ("fence.i x1, x2, 15", FENCE_I_15),
+];
 
 #[test]
 fn other_spellings_are_read(rt: HostRuntime) {
-    for (text, instruction) in [
-        ("addi a0,zero,7", addi(7)),
-        (" \t addi\tx010 , x0 ,\t0x7 ", addi(7)),
-        ("addi x10, x0, -0", addi(0)),
-        ("addi x10, x0, -0x7fF", addi(-0x7ff)),
-        ("lw ra, -4 ( sp )", lw(-4)),
-        (
-            "jal x0, -4",
-            Instr::Jal {
-                rd: 0,
-                imm: -0x1_0004,
-            },
-        ),
-        (
-            "lui x5, 74565",
-            Instr::Lui {
-                rd: 5,
-                imm: 0x12345,
-            },
-        ),
-        ("fence.i x1, x2, 15", fence_i(1, 2, 15)),
-    ] {
+    for (text, instruction) in &SPELLINGS {
         let read = read_instr(text, 0x0001_0000);
-        assert!(rt; read == Ok(instruction), "{text}");
+        assert!(rt; read == Ok(*instruction), "{text}");
     }
 }
 
-fn counted(got: u32, wanted: u32) -> TextErr {
-    TextErr::WrongCount { got, wanted }
-}
+const REFUSALS: [(&str, TextErr); 24] = [
+    ("", TextErr::UnknownName),
+    (" \t ", TextErr::UnknownName),
+    ("addi,x1", TextErr::UnknownName),
+    ("ADD x1, x2", TextErr::UnknownName),
+    ("add x99, x1", TextErr::WrongCount { got: 2, wanted: 3 }),
+    ("addi x1,", TextErr::WrongCount { got: 2, wanted: 3 }),
+    ("ecall ,", TextErr::WrongCount { got: 2, wanted: 0 }),
+    ("fence x1", TextErr::WrongCount { got: 1, wanted: 3 }),
+    ("add x1, x032, x2", TextErr::BadRegister),
+    ("add x000, x1, x2", TextErr::BadRegister),
+    ("addi x32, x0, 5000", TextErr::BadRegister),
+    ("addi x1, x2, ", TextErr::BadNumber),
+    ("addi x1, x2, 12345678901", TextErr::BadNumber),
+    ("addi x1, x2, 0x000000000", TextErr::BadNumber),
+    ("lw x1, (x2)", TextErr::BadNumber),
+    ("lw x1, 4", TextErr::BadRegister),
+    ("lw x1, 4(x2)(x3)", TextErr::BadRegister),
+    ("lw x1, 5000", TextErr::OutOfRange(5000)),
+    ("addi x1, x2, 2048", TextErr::OutOfRange(2048)),
+    ("slli x1, x2, 32", TextErr::OutOfRange(32)),
+    ("lui x1, -1", TextErr::OutOfRange(-1)),
+    ("fence x0, x0, 4096", TextErr::OutOfRange(4096)),
+    ("beq x1, x2, 0x11000", TextErr::OutOfRange(4096)),
+    ("jal x0, 9999999999", TextErr::OutOfRange(1_409_999_871)),
+];
 
 #[test]
 fn refusals_come_in_their_order(rt: HostRuntime) {
-    for (text, refusal) in [
-        ("", TextErr::UnknownName),
-        (" \t ", TextErr::UnknownName),
-        ("addi,x1", TextErr::UnknownName),
-        ("ADD x1, x2", TextErr::UnknownName),
-        ("add x99, x1", counted(2, 3)),
-        ("addi x1,", counted(2, 3)),
-        ("ecall ,", counted(2, 0)),
-        ("fence x1", counted(1, 3)),
-        ("add x1, x032, x2", TextErr::BadRegister),
-        ("add x000, x1, x2", TextErr::BadRegister),
-        ("addi x32, x0, 5000", TextErr::BadRegister),
-        ("addi x1, x2, ", TextErr::BadNumber),
-        ("addi x1, x2, 12345678901", TextErr::BadNumber),
-        ("addi x1, x2, 0x000000000", TextErr::BadNumber),
-        ("lw x1, (x2)", TextErr::BadNumber),
-        ("lw x1, 4", TextErr::BadRegister),
-        ("lw x1, 4(x2)(x3)", TextErr::BadRegister),
-        ("lw x1, 5000", TextErr::OutOfRange(5000)),
-        ("addi x1, x2, 2048", TextErr::OutOfRange(2048)),
-        ("slli x1, x2, 32", TextErr::OutOfRange(32)),
-        ("lui x1, -1", TextErr::OutOfRange(-1)),
-        ("fence x0, x0, 4096", TextErr::OutOfRange(4096)),
-        ("beq x1, x2, 0x11000", TextErr::OutOfRange(4096)),
-        ("jal x0, 9999999999", TextErr::OutOfRange(1_409_999_871)),
-    ] {
+    for (text, refusal) in &REFUSALS {
         let read = read_instr(text, 0x0001_0000);
-        assert!(rt; read == Err(refusal), "{text}");
+        assert!(rt; read == Err(*refusal), "{text}");
     }
 }

@@ -13,6 +13,8 @@ mod drawn_programs;
 #[cfg(test)]
 mod elf_files;
 #[cfg(test)]
+mod in_memory;
+#[cfg(test)]
 mod instruction_texts;
 #[cfg(test)]
 mod instructions;

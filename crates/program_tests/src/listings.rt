@@ -1,18 +1,13 @@
 //! What no clause says: the lines of a listing, letter by letter.
 
-use cf_io::MemSink;
+use crate::in_memory::sink_of;
 use cf_listing::put_flat_listing;
 use std::process::Abort;
 
 /// Whether the listing of a flat image is this text.
 fn lists(rt: &(impl Abort + AllocGlobal), image: &[u8], text: &[u8]) -> bool {
-    let mut out = MemSink::new(rt.alloc(), 1000, Vec::new(rt.alloc()))
-        .ok()
-        .expect(rt, "memory");
-    put_flat_listing(image, &mut out)
-        .ok()
-        .expect(rt, "no fault");
-    out.bytes() == text
+    let mut out = sink_of(rt, 1000, &[]);
+    put_flat_listing(image, &mut out) == Ok(()) && out.bytes() == text
 }
 
 #[test]
