@@ -17,195 +17,207 @@ fn words_of(rt: &(impl Abort + AllocGlobal), line: &str) -> Vec<String> {
     owned(rt.alloc(), line).ok().expect(rt, "memory")
 }
 
-/// The program, the limit, whether retired instructions are shown, and whether it multiplies; else the refusal.
-type MachineAsked<'a> = Result<(&'a str, u64, bool, bool), u32>;
+/// The program, the limit, whether retired instructions are shown, and whether it multiplies.
+type MachineAsked<'a> = (&'a str, u64, bool, bool);
 
 /// What the words ask of the sequential machine.
-fn machine_asked(words: &[String]) -> MachineAsked<'_> {
-    match read_words(words)? {
-        Command::Machine { program, options } => Ok((
+fn machine_asked(words: &[String]) -> Option<MachineAsked<'_>> {
+    match read_words(words) {
+        Ok(Command::Machine { program, options }) => Some((
             program,
             options.limit,
             options.show_retired,
             options.mul,
         )),
-        _ => Err(99),
+        _ => None,
     }
 }
 
-const MACHINE_ROWS: [(&str, MachineAsked<'static>); 18] = [
-    ("machine p", Ok(("p", 10_000_000, false, false))),
-    (
-        "machine plain --mul",
-        Ok(("plain", 10_000_000, false, true)),
-    ),
+const MACHINE_ROWS: [(&str, MachineAsked<'static>); 4] = [
+    ("machine p", ("p", 10_000_000, false, false)),
+    ("machine plain --mul", ("plain", 10_000_000, false, true)),
     (
         "machine p --show retired --limit 0000000003",
-        Ok(("p", 3, true, false)),
+        ("p", 3, true, false),
     ),
     (
         "machine p --mul --limit 1000000000 --show report",
-        Ok(("p", 1_000_000_000, false, true)),
+        ("p", 1_000_000_000, false, true),
     ),
-    ("", Err(0)),
-    ("machines", Err(0)),
-    ("machine", Err(1)),
-    ("machine  ", Err(1)),
-    ("machine --mul p", Err(1)),
-    ("machine p q", Err(2)),
-    ("machine p --seed 1", Err(2)),
-    ("machine p --limit", Err(3)),
-    ("machine p --limit 1000000001", Err(3)),
-    ("machine p --limit 00000000003", Err(3)),
-    ("machine p --limit +3", Err(3)),
-    ("machine p --limit  ", Err(3)),
-    ("machine p --show moves", Err(3)),
-    ("machine p --limit 3 --mul --limit 3", Err(5)),
 ];
 
 fn asks_machine(rt: &(impl Abort + AllocGlobal), line: &str, wanted: MachineAsked<'_>) -> bool {
     let words = words_of(rt, line);
-    machine_asked(words.as_slice()) == wanted
+    machine_asked(words.as_slice()) == Some(wanted)
 }
 
 #[test]
 fn machine_words(rt: HostRuntime) {
     for (line, wanted) in &MACHINE_ROWS {
-        assert!(rt; asks_machine(&rt, line, *wanted));
+        assert!(rt; asks_machine(&rt, line, *wanted), "{line}");
     }
 }
 
-/// The file of the layout, or none for the built-in one; else the refusal.
-type Checked<'a> = Result<Option<&'a str>, u32>;
+/// The file of the layout, or none for the built-in one.
+type Checked<'a> = Option<&'a str>;
 
 /// What the words ask to check.
-fn checked(words: &[String]) -> Checked<'_> {
-    match read_words(words)? {
-        Command::Check { layout } => Ok(match layout {
+fn checked(words: &[String]) -> Option<Checked<'_>> {
+    match read_words(words) {
+        Ok(Command::Check { layout }) => Some(match layout {
             LayoutWord::Plain => None,
             LayoutWord::File(name) => Some(name),
         }),
-        _ => Err(99),
+        _ => None,
     }
 }
 
-const CHECK_ROWS: [(&str, Checked<'static>); 6] = [
-    ("check plain", Ok(None)),
-    ("check plain.toml", Ok(Some("plain.toml"))),
-    ("check", Err(1)),
-    ("check --mul", Err(1)),
-    ("check p q", Err(2)),
-    ("check p --limit 3", Err(2)),
+const CHECK_ROWS: [(&str, Checked<'static>); 2] = [
+    ("check plain", None),
+    ("check plain.toml", Some("plain.toml")),
 ];
 
 fn asks_check(rt: &(impl Abort + AllocGlobal), line: &str, wanted: Checked<'_>) -> bool {
     let words = words_of(rt, line);
-    checked(words.as_slice()) == wanted
+    checked(words.as_slice()) == Some(wanted)
 }
 
 #[test]
 fn check_words(rt: HostRuntime) {
     for (line, wanted) in &CHECK_ROWS {
-        assert!(rt; asks_check(&rt, line, *wanted));
+        assert!(rt; asks_check(&rt, line, *wanted), "{line}");
     }
 }
 
-/// The script, the seed and the limit; else the refusal.
-type RunAsked<'a> = Result<(Option<&'a str>, Option<u32>, u64), u32>;
+/// The script, the seed and the limit.
+type RunAsked<'a> = (Option<&'a str>, Option<u32>, u64);
 
 /// How the words ask to run the processor.
-fn run_asked(words: &[String]) -> RunAsked<'_> {
-    let Command::Run { options, .. } = read_words(words)? else {
-        return Err(99);
+fn run_asked(words: &[String]) -> Option<RunAsked<'_>> {
+    let Ok(Command::Run { options, .. }) = read_words(words) else {
+        return None;
     };
     let (script, seed) = match options.schedule {
         Schedule::Script(file) => (Some(file), None),
         Schedule::Seed(seed) => (None, Some(seed)),
         Schedule::Rule => (None, None),
     };
-    Ok((script, seed, options.limit))
+    Some((script, seed, options.limit))
 }
 
-const RUN_ROWS: [(&str, RunAsked<'static>); 11] = [
-    ("run plain p --script s", Ok((Some("s"), None, 10_000_000))),
+const RUN_ROWS: [(&str, RunAsked<'static>); 4] = [
+    ("run plain p --script s", (Some("s"), None, 10_000_000)),
     (
         "run l p --show moves --limit 0 --script s",
-        Ok((Some("s"), None, 0)),
+        (Some("s"), None, 0),
     ),
-    ("run", Err(1)),
-    ("run plain", Err(2)),
-    ("run plain p", Ok((None, None, 10_000_000))),
+    ("run plain p", (None, None, 10_000_000)),
     (
         "run plain p --seed 4294967295",
-        Ok((None, Some(4_294_967_295), 10_000_000)),
+        (None, Some(4_294_967_295), 10_000_000),
     ),
-    ("run plain p --seed 4294967296", Err(4)),
-    ("run plain p --mul", Err(3)),
-    ("run plain p --script", Err(4)),
-    ("run plain p --script s --seed 1", Err(5)),
-    ("run plain p --seed 1 --script s", Err(5)),
 ];
 
 fn asks_run(rt: &(impl Abort + AllocGlobal), line: &str, wanted: RunAsked<'_>) -> bool {
     let words = words_of(rt, line);
-    run_asked(words.as_slice()) == wanted
+    run_asked(words.as_slice()) == Some(wanted)
 }
 
 #[test]
 fn run_words(rt: HostRuntime) {
     for (line, wanted) in &RUN_ROWS {
-        assert!(rt; asks_run(&rt, line, *wanted));
+        assert!(rt; asks_run(&rt, line, *wanted), "{line}");
     }
 }
 
-/// The delays, the program, how many layouts, the limit, and whether the parts of each time are shown; else the refusal.
-type TimeAsked<'a> = Result<(&'a str, &'a str, usize, u64, bool), u32>;
+/// The delays, the program, how many layouts, the limit, and whether the parts of each time are shown.
+type TimeAsked<'a> = (&'a str, &'a str, usize, u64, bool);
 
 /// What the words ask to compare.
-fn time_asked(words: &[String]) -> TimeAsked<'_> {
-    match read_words(words)? {
-        Command::Time {
-            delays,
-            program,
-            layouts,
-            options,
-        } => Ok((delays, program, layouts.len(), options.limit, options.sites)),
-        _ => Err(99),
+fn time_asked(words: &[String]) -> Option<TimeAsked<'_>> {
+    match read_words(words) {
+        Ok(
+            Command::Time {
+                delays,
+                program,
+                layouts,
+                options,
+            },
+        ) => Some((delays, program, layouts.len(), options.limit, options.sites)),
+        _ => None,
     }
 }
 
-const TIME_ROWS: [(&str, TimeAsked<'static>); 12] = [
-    ("time d p plain", Ok(("d", "p", 1, 10_000_000, false))),
+const TIME_ROWS: [(&str, TimeAsked<'static>); 4] = [
+    ("time d p plain", ("d", "p", 1, 10_000_000, false)),
     (
         "time d p l plain --show sites",
-        Ok(("d", "p", 2, 10_000_000, true)),
+        ("d", "p", 2, 10_000_000, true),
     ),
-    (
-        "time d p l --limit 5 --show sites",
-        Ok(("d", "p", 1, 5, true)),
-    ),
-    (
-        "time d p l --show sites --limit 5",
-        Ok(("d", "p", 1, 5, true)),
-    ),
-    ("time d p --show sites", Err(3)),
-    ("time d p l --show", Err(5)),
-    ("time d p l --show retired", Err(5)),
-    ("time d p l --show Sites", Err(5)),
-    ("time d p l --show sites --show sites", Err(6)),
-    ("time d p l --show sites m", Err(6)),
-    ("run l p --show sites", Err(4)),
-    ("machine p --show sites", Err(3)),
+    ("time d p l --limit 5 --show sites", ("d", "p", 1, 5, true)),
+    ("time d p l --show sites --limit 5", ("d", "p", 1, 5, true)),
 ];
 
 fn asks_time(rt: &(impl Abort + AllocGlobal), line: &str, wanted: TimeAsked<'_>) -> bool {
     let words = words_of(rt, line);
-    time_asked(words.as_slice()) == wanted
+    time_asked(words.as_slice()) == Some(wanted)
 }
 
 #[test]
 fn time_words(rt: HostRuntime) {
     for (line, wanted) in &TIME_ROWS {
-        assert!(rt; asks_time(&rt, line, *wanted));
+        assert!(rt; asks_time(&rt, line, *wanted), "{line}");
+    }
+}
+
+/// Lines, and the index of the first word of each that has no place.
+const REFUSALS: [(&str, u32); 33] = [
+    ("", 0),
+    ("machines", 0),
+    ("machine", 1),
+    ("machine  ", 1),
+    ("machine --mul p", 1),
+    ("machine p q", 2),
+    ("machine p --seed 1", 2),
+    ("machine p --limit", 3),
+    ("machine p --limit 1000000001", 3),
+    ("machine p --limit 00000000003", 3),
+    ("machine p --limit +3", 3),
+    ("machine p --limit  ", 3),
+    ("machine p --show moves", 3),
+    ("machine p --limit 3 --mul --limit 3", 5),
+    ("check", 1),
+    ("check --mul", 1),
+    ("check p q", 2),
+    ("check p --limit 3", 2),
+    ("run", 1),
+    ("run plain", 2),
+    ("run plain p --seed 4294967296", 4),
+    ("run plain p --mul", 3),
+    ("run plain p --script", 4),
+    ("run plain p --script s --seed 1", 5),
+    ("run plain p --seed 1 --script s", 5),
+    ("time d p --show sites", 3),
+    ("time d p l --show", 5),
+    ("time d p l --show retired", 5),
+    ("time d p l --show Sites", 5),
+    ("time d p l --show sites --show sites", 6),
+    ("time d p l --show sites m", 6),
+    ("run l p --show sites", 4),
+    ("machine p --show sites", 3),
+];
+
+fn refusal(rt: &(impl Abort + AllocGlobal), line: &str) -> Option<u32> {
+    let words = words_of(rt, line);
+    match read_words(words.as_slice()) {
+        Ok(_) => None,
+        Err(index) => Some(index),
+    }
+}
+
+#[test]
+fn words_without_a_place_are_refused(rt: HostRuntime) {
+    for (line, index) in &REFUSALS {
+        assert!(rt; refusal(&rt, line) == Some(*index), "{line}");
     }
 }
