@@ -40,10 +40,15 @@ def over_kept(keeps):
     return lambda: os.path.isdir("out/incremental") and keeps()
 
 
-def with_statements(words, rtlib):
-    """The words, by which a library holds what other crates can cite of it, where the kit's compiler has that."""
-    has_it = words[:1] == ["lib"] and "--statements" in rtlib.help_of("build")
-    return [*words, "--statements"] if has_it else words
+def with_statements(call):
+    """A crate's call of the compiler, which has a library hold what other crates can cite of it, and no more."""
+
+    @functools.wraps(call)
+    def answer(crate, *words):
+        builds_library = words[1:2] == ("build",) and words[-1].endswith(".rlib")
+        return call(crate, *words, *["--statements"] * builds_library)
+
+    return answer
 
 
 def module_of(program):
@@ -63,7 +68,8 @@ def main():
         crate = kit.rtlib.Crate
         crate.stamp, crate.below = once(crate.stamp), once(crate.below)
         kit.rtlib.libraries_keep = over_kept(kit.rtlib.libraries_keep)
-        words = with_statements(words, kit.rtlib)
+        if "--statements" in kit.rtlib.help_of("build"):
+            crate.call = with_statements(crate.call)
     except (AttributeError, SyntaxError, ValueError):
         os.execv(program, [program, *words])
     sys.exit(kit.main(words))
