@@ -9,7 +9,7 @@ What a check keeps, a few functions at a time, helps the next check of the crate
 library is proved over what earlier checks kept where there is such, and else in one go.
 
 A crate loads what the libraries below it hold. Of a function other crates can cite that it meets its contract, and not how that was
-proved. So a library holds its statements alone, as under `rt ci`.
+proved. So a library holds its statements alone, as under `rt ci`, but where it is proved over kept work: the compiler does not do both.
 
 Where the kit's rt is made in another way, it is run as it is.
 """
@@ -41,11 +41,11 @@ def over_kept(keeps):
 
 
 def with_statements(call):
-    """A crate's call of the compiler, which has a library hold what other crates can cite of it, and no more."""
+    """A crate's call of the compiler, which has a library hold what other crates can cite of it, and no more, where nothing is kept of it."""
 
     @functools.wraps(call)
     def answer(crate, *words):
-        builds_library = words[1:2] == ("build",) and words[-1].endswith(".rlib")
+        builds_library = words[1:2] == ("build",) and words[-1].endswith(".rlib") and "--incremental" not in words
         return call(crate, *words, *["--statements"] * builds_library)
 
     return answer
