@@ -1,5 +1,5 @@
 -- A run of the processor that ends with Exit, Trap or Limit answers as `machine` does.
-use Rattle.std.proofs.Common.{◌≡◌, ◌<◌, ◌+◌, ◌-◌, ℕ, zero, suc, List, [], ◌++◌, Option, Some, None, Result, Ok, false, refl, sym, ap, subst, ◌∙◌, inl, inr, arith}
+use Rattle.std.proofs.Common.{◌≡◌, ◌<◌, ◌+◌, ◌-◌, ℕ, zero, suc, List, [], ◌++◌, Option, Some, None, Result, Ok, Err, false, refl, sym, ap, subst, ◌∙◌, inl, inr, arith}
 use Rattle.cf_asked.specs.declared.show.Show.{Show}
 use Rattle.rv_inst.specs.declared.isa.Isa.{Isa}
 use Rattle.rv_machine.specs.Hart.{Hart}
@@ -32,7 +32,7 @@ use Rattle.cli_files.specs.Outside.{Report}
 use Rattle.cfpp_cli.specs.Options.{chosen_of}
 use Rattle.cfpp_cli.specs.Reporting.{Puts, Adds, Carries, Comes}
 use Rattle.cli_files.specs.Memory.{LacksProcessor}
-use Rattle.cfpp_cli.specs.Run.{start_of, chosen_by, head_of, AgreesWithMachine, IsMachines, IsComplete, RunsCore, RunsOpened, BreaksCore, ComesOf}
+use Rattle.cfpp_cli.specs.Run.{start_of, chosen_by, head_of, AgreesWithMachine, IsMachines, IsComplete, RunsCore, RunsWithTail, RunsOpened, BreaksCore, ComesOf}
 use Rattle.cfpp_cli.specs.Statuses.{status_of}
 use Rattle.cfpp_cli.specs.Tail.{lines_behind}
 use Rattle.cfpp_cli.specs.declared.reporting.Reported.{Reported}
@@ -223,15 +223,15 @@ complete limit show (drawn_from seed) start new finish trace moves answer by sai
 complete limit show in_turn start new finish trace moves answer by said = complete_ran limit new.tally.moves in_turn by.answer answer (said ∙ ap (status_of limit new.tally.moves) by.finish_is)
 
 -- a run of the processor that was opened, and its tail
-runs-opened : (limit : ℕ) (show : Show) (tail : Tail) (last : Processor) (plan : Plan) (hart : Hart) (schedule : ReadySchedule) (before after : Streams) (blank : Option (List ℕ)) (answer : Status) (shown text : List ℕ) → hart.retired ≡ 0
-    → RunsCore limit show (opened plan hart) last (chosen_by limit show schedule) before after blank answer shown text
-    → RunsOpened limit show tail plan hart last schedule before after blank answer shown (text ++ lines_behind tail answer last)
-runs-opened limit show tail last plan hart schedule before after blank answer shown text fresh runs = record {
-  text = text;
-  runs = runs;
-  agrees = agrees limit plan hart before after blank runs.run.told last runs.run.tally runs.run.finish answer fresh runs.run.ends runs.status_is;
-  complete = complete limit show schedule _ _ runs.run.finish runs.run.trace runs.run.moves answer runs.run.runs runs.status_is;
-  closes = refl;
+runs-opened : (limit : ℕ) (show : Show) (tail : Tail) (last : Processor) (plan : Plan) (hart : Hart) (schedule : ReadySchedule) (before after : Streams) (blank : Option (List ℕ)) (answer : Status) (shown closing : List ℕ) → hart.retired ≡ 0
+    → RunsWithTail limit show tail (opened plan hart) last (chosen_by limit show schedule) before after blank answer shown closing
+    → RunsOpened limit show tail plan hart last schedule before after blank answer shown closing
+runs-opened limit show tail last plan hart schedule before after blank answer shown closing fresh r = record {
+  text = r.text;
+  runs = r.runs;
+  agrees = agrees limit plan hart before after blank r.runs.run.told last r.runs.run.tally r.runs.run.finish answer fresh r.runs.run.ends r.runs.status_is;
+  complete = complete limit show schedule _ _ r.runs.run.finish r.runs.run.trace r.runs.run.moves answer r.runs.run.runs r.runs.status_is;
+  closes = r.closes;
 }
 
 -- what comes of the run, as it was seen
@@ -239,24 +239,38 @@ abbrev pub Opens : (limit : ℕ) (show : Show) (core last : Processor) → Ready
 Opens limit show core last schedule before after blank full result =
     Comes (RunsCore limit show core last (chosen_by limit show schedule) before after blank.written) (BreaksCore limit show core (chosen_by limit show schedule) before after blank.written full.written) blank full result
 
-on-opened : (limit : ℕ) (show : Show) (core last : Processor) (plan : Plan) (hart : Hart) (schedule : ReadySchedule) (before after : Streams) (blank full : Report) (result : Result Reported Failed) → core ≡ opened plan hart
-    → Opens limit show core last schedule before after blank full result → Opens limit show (opened plan hart) last schedule before after blank full result
-on-opened limit show core last plan hart schedule before after blank full result is opens =
-    subst (λ (p : Processor). Opens limit show p last schedule before after blank full result) is opens
+-- the same with its tail
+abbrev pub OpensWithTail : (limit : ℕ) (show : Show) → Tail → (core last : Processor) → ReadySchedule → (before after : Streams) → (blank full : Report) → Result Reported Failed → Type 0
+OpensWithTail limit show tail core last schedule before after blank full result =
+    Comes (RunsWithTail limit show tail core last (chosen_by limit show schedule) before after blank.written) (BreaksCore limit show core (chosen_by limit show schedule) before after blank.written full.written) blank full result
 
--- is what comes of the layout, the hart and the schedule, once the tail was put
-pub opened-comes : (limit : ℕ) (show : Show) (tail : Tail) (core last : Processor) (plan : Plan) (hart : Hart) (schedule : ReadySchedule) (before after : Streams) (blank half full : Report) (reported behind : Reported) → core ≡ opened plan hart → hart.retired ≡ 0
+-- once that was put
+pub tail-comes : (limit : ℕ) (show : Show) (tail : Tail) (core last : Processor) (schedule : ReadySchedule) (before after : Streams) (blank half full : Report) (reported behind : Reported)
     → Opens limit show core last schedule before after blank half (Ok reported) → behind.status ≡ reported.status → Adds reported.put half full (lines_behind tail reported.status last) behind.put
-    → Comes (ComesOf limit show tail plan hart schedule before after blank.written) (BreaksCore limit show (opened plan hart) (chosen_by limit show schedule) before after blank.written full.written) blank full (Ok behind)
-opened-comes limit show tail core last plan hart schedule before after blank half full reported behind is fresh opens said added =
-    let run = on-opened limit show core last plan hart schedule before after blank half (Ok reported) is opens in
+    → OpensWithTail limit show tail core last schedule before after blank full (Ok behind)
+tail-comes limit show tail core last schedule before after blank half full reported behind run said added =
     let text : List ℕ = run.1 in (
       run.0,
       text ++ lines_behind tail reported.status last,
-      subst (λ (s : Status). ComesOf limit show tail plan hart schedule before after blank.written s run.0 (text ++ lines_behind tail reported.status last)) (sym said)
-          (inl (last, runs-opened limit show tail last plan hart schedule before after blank.written reported.status run.0 text fresh run.2)),
+      subst (λ (s : Status). RunsWithTail limit show tail core last (chosen_by limit show schedule) before after blank.written s run.0 (text ++ lines_behind tail reported.status last)) (sym said)
+          (record { text = text; runs = run.2; closes = refl }),
       adds-behind blank half full run.0 text (lines_behind tail reported.status last) reported.put behind.put run.3 added,
     )
+
+-- is what comes of the layout, the hart and the schedule
+on-opened : (limit : ℕ) (show : Show) (tail : Tail) (last : Processor) (plan : Plan) (hart : Hart) (schedule : ReadySchedule) (before after : Streams) (blank full : Report) (result : Result Reported Failed) → hart.retired ≡ 0
+    → OpensWithTail limit show tail (opened plan hart) last schedule before after blank full result
+    → Comes (ComesOf limit show tail plan hart schedule before after blank.written) (BreaksCore limit show (opened plan hart) (chosen_by limit show schedule) before after blank.written full.written) blank full result
+on-opened limit show tail last plan hart schedule before after blank full (Ok reported) fresh (shown, closing, runs, puts) =
+    (shown, closing, inl (last, runs-opened limit show tail last plan hart schedule before after blank.written reported.status shown closing fresh runs), puts)
+on-opened limit show tail last plan hart schedule before after blank full (Err failed) fresh (breaks, rose) = (breaks, rose)
+
+pub opened-comes : (limit : ℕ) (show : Show) (tail : Tail) (core last : Processor) (plan : Plan) (hart : Hart) (schedule : ReadySchedule) (before after : Streams) (blank full : Report) (result : Result Reported Failed) → core ≡ opened plan hart → hart.retired ≡ 0
+    → OpensWithTail limit show tail core last schedule before after blank full result
+    → Comes (ComesOf limit show tail plan hart schedule before after blank.written) (BreaksCore limit show (opened plan hart) (chosen_by limit show schedule) before after blank.written full.written) blank full result
+opened-comes limit show tail core last plan hart schedule before after blank full result is fresh opens =
+    on-opened limit show tail last plan hart schedule before after blank full result fresh
+    (subst (λ (p : Processor). OpensWithTail limit show tail p last schedule before after blank full result) is opens)
 
 -- or memory for it was refused
 pub unopened-comes : (limit : ℕ) (show : Show) (tail : Tail) (plan : Plan) (hart : Hart) (schedule : ReadySchedule) (before after : Streams) (told : Option (List ℕ)) (blank full : Report) (answer : Status) (text : List ℕ) (reported : Reported) → reported.status ≡ answer

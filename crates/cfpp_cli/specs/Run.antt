@@ -89,6 +89,13 @@ pub record RunsCore (limit : ℕ) (show : Show) (core last : Processor) (by : Ch
   pub shows : shown ≡ all_shown show core.plan 1 run.trace
   pub closes : text ≡ closing limit run.finish last.plan last.state run.tally
 
+-- the processor was run to this one, and the tail follows the lines that close the report
+pub record RunsWithTail (limit : ℕ) (show : Show) (tail : Tail) (core last : Processor) (by : Chooses)
+    (before after : Streams) (blank : Option (List ℕ)) (answer : Status) (shown closing : List ℕ) : Type 0 where
+  pub text : List ℕ
+  pub runs : RunsCore limit show core last by before after blank answer shown text
+  pub closes : closing ≡ text ++ lines_behind tail answer last
+
 -- the answer is that of `machine` on the hart, under the same limit and with multiplication where the layout has it; it takes the same from the input and writes the same to the output, and this text closes its report
 pub record IsMachines (limit : ℕ) (plan : Plan) (hart : Hart) (before after : Streams) (answer : Status)
     (text : List ℕ) : Type 0 where

@@ -11,6 +11,7 @@ mod finishing;
 mod help;
 mod listing;
 mod machine;
+mod opening;
 mod putting;
 mod reporting;
 mod rounds;

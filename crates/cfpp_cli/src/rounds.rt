@@ -12,10 +12,9 @@ ghost use Rattle.cfpp_cli.specs.Passages.{passage, span, input_left, output_left
 ghost use Rattle.cfpp_cli.specs.Rounds.{rounds_asked, RunsCoreInRounds, ComesInRounds, AnswersRounds};
 
 use crate::finishing::{close_in_rounds, no_moves};
+use crate::opening::{Opened, open};
 use crate::reporting::{Reported, put_answer};
 use crate::streams::Streams;
-use cf_core::Core;
-use cf_index::Candidates;
 use cf_io::{Files, Sink, Source};
 use cf_rounds::{Clocked, run_rounds};
 use cf_run::Ran;
@@ -39,15 +38,14 @@ fn ran_of(clocked: Clocked) -> Ran
 /// Runs the opened processor in rounds, and puts the closing lines.
 #[tactic(auto, using(cf_run::proofs::Opened::opened_cores))]
 fn run_core<S: Source, K: Sink, R: Sink>(
-    core: &mut Core,
-    candidates: &mut Candidates,
+    opened: &mut Opened,
     limit: u64,
     streams: Streams<'_, S, K, R>,
 ) -> Reported
     requires limit { limit ≤ most_limit }
-    requires retired { core.old.state.retired ≤ limit }
-    requires opened { IsOpened core.old }
-    ensures runs { ReportsOver (RunsCoreInRounds limit core.old core.new)
+    requires retired { opened.old.core.state.retired ≤ limit }
+    requires opened { IsOpened opened.old.core }
+    ensures runs { ReportsOver (RunsCoreInRounds limit opened.old.core opened.new.core)
         (passage S.left K.written R.written R.faults streams.entry streams.exit) result }
     ensures files { files_answered result.status ≡ Ok tt }
     ensures input { HasCause (S.faults streams.entry.input.now) (S.faults (input_left streams.exit)) (input_answered result.status) }
@@ -61,15 +59,15 @@ fn run_core<S: Source, K: Sink, R: Sink>(
     let mut tally = no_moves();
     let mut rounds = 0;
     let clocked = run_rounds(
-        core,
-        candidates,
+        &mut opened.core,
+        &mut opened.candidates,
         limit,
         input,
         output,
         &mut tally,
         &mut rounds,
     );
-    close_in_rounds(core, limit, ran_of(clocked), rounds, &tally, report)
+    close_in_rounds(&opened.core, limit, ran_of(clocked), rounds, &tally, report)
 }
 
 /// Opens the processor of the layout on the machine, and runs it in rounds.
@@ -88,11 +86,8 @@ fn run_loaded<S: Source, K: Sink, R: Sink>(
     ensures input { HasCause (S.faults streams.entry.input.now) (S.faults (input_left streams.exit)) (input_answered result.status) }
     ensures output { HasCause (K.faults streams.entry.output.now) (K.faults (output_left streams.exit)) (output_answered result.status) }
 {
-    let Ok(mut candidates) = Candidates::new(alloc) else {
-        return put_answer(no_memory(), streams.report);
-    };
-    match Core::new(alloc, loaded.layout, loaded.machine) {
-        Ok(mut core) => run_core(&mut core, &mut candidates, limit, streams),
+    match open(alloc, loaded.layout, loaded.machine) {
+        Ok(mut opened) => run_core(&mut opened, limit, streams),
         Err(_) => put_answer(no_memory(), streams.report),
     }
 }

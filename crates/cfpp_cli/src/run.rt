@@ -9,12 +9,13 @@ ghost use Rattle.cf_run.specs.Policies.{CanRun};
 ghost use Rattle.cli_files.specs.Causes.{input_answered, output_answered};
 ghost use Rattle.cli_files.specs.RunFiles.{run_asked};
 ghost use Rattle.cfpp_cli.specs.Reporting.{CarriesOut, ComesOver, Tells, files_reported};
-ghost use Rattle.cfpp_cli.specs.Run.{chosen_by, RunsCore, BreaksCore, ComesOf, AnswersRun, BreaksRun};
+ghost use Rattle.cfpp_cli.specs.Run.{chosen_by, RunsCore, RunsWithTail, BreaksCore, ComesOf, AnswersRun, BreaksRun};
 ghost use Rattle.cfpp_cli.specs.Passages.{passage, span, input_left, output_left};
 ghost use Rattle.cli_files.specs.Schedules.{schedule_view, FitsScript};
 
 use crate::by_policy::run_by_policy;
 use crate::by_script::run_by_script;
+use crate::opening::{Opened, open};
 use crate::reporting::{Reported, put_answer};
 use crate::streams::Streams;
 use crate::tail::{Tail, add_tail};
@@ -61,8 +62,45 @@ fn run_scheduled<S: Source, K: Sink, R: Sink>(
     }
 }
 
+/// Runs the opened processor by what was read, and puts what is to follow its report.
+fn run_opened<S: Source, K: Sink, R: Sink>(
+    opened: &mut Opened,
+    schedule: &ReadySchedule,
+    options: RunOptions<'_>,
+    tail: Tail,
+    streams: Streams<'_, S, K, R>,
+) -> Result<Reported, Failed>
+    requires begins { CanRun options.limit opened.old.core }
+    requires fits { FitsScript (schedule_view schedule.now) }
+    ensures comes { ComesOver
+        (RunsWithTail options.entry.limit options.entry.show tail opened.old.core opened.new.core (chosen_by options.entry.limit options.entry.show (schedule_view schedule.now)))
+        (BreaksCore options.entry.limit options.entry.show opened.old.core (chosen_by options.entry.limit options.entry.show (schedule_view schedule.now)))
+        (passage S.left K.written R.written R.faults streams.entry streams.exit) result }
+    ensures files { files_reported result ≡ Ok tt }
+    ensures input { Tells input_answered (S.faults streams.entry.input.now) (S.faults (input_left streams.exit)) result }
+    ensures output { Tells output_answered (K.faults streams.entry.output.now) (K.faults (output_left streams.exit)) result }
+{
+    let Streams {
+        input,
+        output,
+        report,
+    } = streams;
+    let reported = run_scheduled(
+        &mut opened.core,
+        &mut opened.candidates,
+        schedule,
+        options.limit,
+        options.show,
+        Streams {
+            input,
+            output,
+            report: &mut *report,
+        },
+    )?;
+    Ok(add_tail(tail, &opened.core, reported, report))
+}
+
 /// Opens the processor of the layout on the machine, runs it by what was read, and puts what is to follow its report.
-#[tactic(auto, using(cf_run::proofs::Opened::opened_cores))]
 pub fn run_ready<S: Source, K: Sink, R: Sink>(
     alloc: Global,
     ready: Ready,
@@ -81,31 +119,10 @@ pub fn run_ready<S: Source, K: Sink, R: Sink>(
     ensures input { Tells input_answered (S.faults streams.entry.input.now) (S.faults (input_left streams.exit)) result }
     ensures output { Tells output_answered (K.faults streams.entry.output.now) (K.faults (output_left streams.exit)) result }
 {
-    let Streams {
-        input,
-        output,
-        report,
-    } = streams;
-    let Ok(mut candidates) = Candidates::new(alloc) else {
-        return Ok(put_answer(no_memory(), report));
-    };
-    let mut core = match Core::new(alloc, ready.layout, ready.machine) {
-        Ok(core) => core,
-        Err(_) => return Ok(put_answer(no_memory(), report)),
-    };
-    let reported = run_scheduled(
-        &mut core,
-        &mut candidates,
-        &ready.schedule,
-        options.limit,
-        options.show,
-        Streams {
-            input,
-            output,
-            report: &mut *report,
-        },
-    )?;
-    Ok(add_tail(tail, &core, reported, report))
+    match open(alloc, ready.layout, ready.machine) {
+        Ok(mut opened) => run_opened(&mut opened, &ready.schedule, options, tail, streams),
+        Err(_) => Ok(put_answer(no_memory(), streams.report)),
+    }
 }
 
 /// Carries out `run` and `moves`: reads the layout, the program and the script, where the words name one, in this order, runs

@@ -3,8 +3,8 @@ use Rattle.cfpp_cli.proofs.InRounds.{rounds-come}
 use Rattle.cfpp_cli.proofs.rounds.run_loaded.Goals as goal
 
 pub run_core-requires-clause-opened : goal.run_core-requires-clause-opened
-run_core-requires-clause-opened g c = newly-opened _ _ _ c.in-Ok-new.ensures
+run_core-requires-clause-opened g c = newly-opened _ _ _ c.in-Ok.ensures
 
-pub returns-in-Ok-new-clause-comes : goal.returns-in-Ok-new-clause-comes
-returns-in-Ok-new-clause-comes g c =
-    rounds-come _ _ _ _ _ _ _ _ _ c.run_core.result c.in-Ok-new.ensures c.requires.count c.run_core.ensures.runs
+pub returns-in-Ok-clause-comes : goal.returns-in-Ok-clause-comes
+returns-in-Ok-clause-comes g c =
+    rounds-come _ _ _ _ _ _ _ _ _ c.run_core.result c.in-Ok.ensures c.requires.count c.run_core.ensures.runs
