@@ -9,3 +9,4 @@ pub mod ProgramFound
 pub mod Rows
 pub mod NoStreams
 pub mod FilesRead
+mod FilesLacking

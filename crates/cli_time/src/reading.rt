@@ -7,7 +7,7 @@ ghost use Rattle.cli_files.specs.Causes.{files_read};
 ghost use Rattle.cli_files.specs.Image.{IsProgram, opened};
 ghost use Rattle.cli_files.specs.Programs.{IsProgramAt, LacksProgram};
 ghost use Rattle.cli_time.specs.Asked.{files_asked};
-ghost use Rattle.cli_time.specs.Reading.{IsReady, LacksFile};
+ghost use Rattle.cli_time.specs.Reading.{IsLaid, IsReady, LacksFile, LacksLaid};
 
 use crate::delay_files::delays_at;
 use crate::layout_files::layouts_at;
@@ -43,6 +43,36 @@ fn image_at<F: Files>(alloc: Global, name: &str, files: &mut F) -> Result<Vec<u8
     }
 }
 
+/// The delays, and the layouts in their order.
+#[derive(Drop)]
+struct Laid {
+    delays: Delays,
+    layouts: Vec<Layout>,
+}
+
+/// Reads the delays and the layouts, in this order; or gives the answer of the first that is not there.
+fn laid_at<F: Files>(
+    alloc: Global,
+    delays: &str,
+    layouts: &[String],
+    files: &mut F,
+) -> Result<Laid, Answer>
+    ensures laid { IfOk result (λ laid. IsLaid delays.now (map layout_in (map string_bytes layouts.now))
+        (F.told files.old) (F.told files.new) laid.delays (vec_items laid.layouts)) }
+    ensures lacks { IfErr result (λ answer. LacksLaid delays.now (map layout_in (map string_bytes layouts.now))
+        (F.told files.old) (F.told files.new) answer.status answer.closing) }
+    ensures faults { HasCause (F.faults files.old) (F.faults files.new) (files_read result) }
+{
+    let delays = match delays_at(alloc, delays, files) {
+        Ok(delays) => delays,
+        Err(answer) => return Err(answer),
+    };
+    match layouts_at(alloc, layouts, files) {
+        Ok(layouts) => Ok(Laid { delays, layouts }),
+        Err(answer) => Err(answer),
+    }
+}
+
 /// Reads the delays, the layouts and the program, in this order; or gives the answer of the first that is not there.
 pub(crate) fn read_files<F: Files>(
     alloc: Global,
@@ -60,18 +90,14 @@ pub(crate) fn read_files<F: Files>(
         (F.told files.old) (F.told files.new) answer.status answer.closing) }
     ensures faults { HasCause (F.faults files.old) (F.faults files.new) (files_read result) }
 {
-    let delays = match delays_at(alloc, delays, files) {
-        Ok(delays) => delays,
-        Err(answer) => return Err(answer),
-    };
-    let layouts = match layouts_at(alloc, layouts, files) {
-        Ok(layouts) => layouts,
+    let laid = match laid_at(alloc, delays, layouts, files) {
+        Ok(laid) => laid,
         Err(answer) => return Err(answer),
     };
     match image_at(alloc, program, files) {
         Ok(image) => Ok(Ready {
-            delays,
-            layouts,
+            delays: laid.delays,
+            layouts: laid.layouts,
             image,
         }),
         Err(answer) => Err(answer),

@@ -1,5 +1,11 @@
-use Rattle.std.proofs.Common.{inl}
+use Rattle.std.proofs.Common.{map}
+use Rattle.std.specs.Prelude.{string_bytes}
+use Rattle.cf_words.specs.Words.{layout_in}
+use Rattle.cli_time.specs.Asked.{files_asked}
+use Rattle.cli_time.proofs.FilesLacking.{lacks-laid}
 use Rattle.cli_time.proofs.reading.read_files.Goals as goal
 
 pub returns-in-Err-clause-lacks : goal.returns-in-Err-clause-lacks
-returns-in-Err-clause-lacks g c = inl c.in-Err.ensures.refused
+returns-in-Err-clause-lacks g c =
+    lacks-laid (files_asked c.args.delays.now c.args.program.now (map layout_in (map string_bytes c.args.layouts.now))) _ _ _ _
+    c.in-Err.ensures.lacks
