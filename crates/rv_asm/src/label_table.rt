@@ -54,6 +54,7 @@ impl LabelTable {
         requires unknown { value_of self.old name.now ≡ None }
         ensures { OnOk result (self.new ≡ self.old ++ record { name = name.now; value = value; in_text = in_text; global = false } ∷ []) }
     {
+        self.list.reserve(1)?;
         let label = Label {
             name: name_of(alloc, name)?,
             value,
@@ -61,12 +62,9 @@ impl LabelTable {
             in_text,
         };
         let key = Vec::from_slice(alloc, name)?;
-        self.list.reserve(1)?;
         self.places.insert(key, self.list.len())?;
-        match self.list.push(label) {
-            Ok(()) => Ok(()),
-            Err(_) => unreachable!(),
-        }
+        self.list.push_reserved(label);
+        Ok(())
     }
 
     /// The value of the label with this name.

@@ -1,10 +1,11 @@
 //! What an item places, once the labels' values are known.
-#![tactic(auto, unfolding(crate::specs::Pieces::near_instr, crate::specs::Pieces::operand_value), using(crate::proofs::Spelt::spelling))]
+#![tactic(auto, unfolding(crate::specs::Pieces::near_instr, crate::specs::Pieces::operand_value, crate::specs::Pieces::pieces_of), using(crate::proofs::Spelt::spelling))]
 
 ghost use Rattle.std.specs.Prelude.{◌≡◌, ◌++◌, ◌∷◌, [], ◌<◌, ◌^◌, Ok, IfOk, IfErr, OnOk, IsSome, unwrap_or, replicate, if◌then◌else◌};
 ghost use Rattle.rv_asm.specs.Strings.{string_of};
 ghost use Rattle.std.specs.Int.{bytes_low_first};
 ghost use Rattle.rv_inst.specs.Ranges.{Fits};
+ghost use Rattle.rv_asm.specs.Items.{Near, Distant};
 ghost use Rattle.rv_asm.specs.Operands.{operands_of, bytes_of_width};
 ghost use Rattle.rv_asm.specs.Pieces.{Word, label_value, near_instr, operand_value, bytes_from, pieces_of};
 ghost use Rattle.rv_asm.specs.Spelling.{SpellsPiece, Spells, Gives, IsRefusal};
@@ -28,18 +29,20 @@ fn word_bytes(i: Instr) -> [u8; 4]
     encode(i).to_le_bytes()
 }
 
-fn single(alloc: Global, i: Instr) -> Result<Vec<u8>, AllocError>
+fn single(alloc: Global, i: Instr) -> Result<Vec<u8>, AsmKind>
     requires { Fits i }
-    ensures { IfOk result (λ bytes. Spells (Word i ∷ []) bytes.items) }
+    ensures ok { IfOk result (λ bytes. Spells (Word i ∷ []) bytes.items) }
+    ensures err { IfErr result (λ kind. kind ≡ AsmKind.NoMemory) }
 {
     let word = word_bytes(i);
-    Vec::from_slice(alloc, &word)
+    Ok(Vec::from_slice(alloc, &word)?)
 }
 
-fn double(alloc: Global, i: Instr, j: Instr) -> Result<Vec<u8>, AllocError>
+fn double(alloc: Global, i: Instr, j: Instr) -> Result<Vec<u8>, AsmKind>
     requires first { Fits i }
     requires second { Fits j }
-    ensures { IfOk result (λ bytes. Spells (Word i ∷ Word j ∷ []) bytes.items) }
+    ensures ok { IfOk result (λ bytes. Spells (Word i ∷ Word j ∷ []) bytes.items) }
+    ensures err { IfErr result (λ kind. kind ≡ AsmKind.NoMemory) }
 {
     let first = word_bytes(i);
     let second = word_bytes(j);
@@ -66,6 +69,38 @@ fn near(labels: &LabelTable, pc: u32, jump: Jump, label: &[u8]) -> Result<Instr,
         Err(TextErr::OutOfRange(far)) => Err(AsmKind::TooFar(far)),
         Err(e) => Err(AsmKind::Text(e)),
     }
+}
+
+/// The bytes of the jump or the branch at an address to a label.
+fn near_bytes(
+    alloc: Global,
+    labels: &LabelTable,
+    pc: u32,
+    jump: Jump,
+    label: &[u8],
+) -> Result<Vec<u8>, AsmKind>
+    requires { JumpFits jump }
+    ensures ok { IfOk result (λ bytes. Gives bytes.items (pieces_of labels.now pc (Near jump label.now))) }
+    ensures err { IfErr result (λ kind. IsRefusal kind (pieces_of labels.now pc (Near jump label.now))) }
+{
+    single(alloc, near(labels, pc, jump, label)?)
+}
+
+/// The bytes of the two instructions that reach a label from an address.
+fn distant_bytes(
+    alloc: Global,
+    labels: &LabelTable,
+    pc: u32,
+    far: Far,
+    label: &[u8],
+) -> Result<Vec<u8>, AsmKind>
+    requires { FarFits far }
+    ensures ok { IfOk result (λ bytes. Gives bytes.items (pieces_of labels.now pc (Distant far label.now))) }
+    ensures err { IfErr result (λ kind. IsRefusal kind (pieces_of labels.now pc (Distant far label.now))) }
+{
+    let value = label_value(labels, label)?;
+    let (i, j) = reaching(far, value.wrapping_sub(pc));
+    double(alloc, i, j)
 }
 
 /// The number that an operand stands for.
@@ -109,26 +144,27 @@ fn numbers(
 }
 
 /// The bytes of a string, and a zero where one follows.
-fn chars(alloc: Global, text: &[u8], zero: bool) -> Result<Vec<u8>, AllocError>
+fn chars(alloc: Global, text: &[u8], zero: bool) -> Result<Vec<u8>, AsmKind>
     requires { IsSome (string_of text.now) }
-    ensures { IfOk result (λ bytes. bytes.items ≡ unwrap_or (string_of text.now) [] ++ (if zero then 0 ∷ [] else [])) }
+    ensures ok { IfOk result (λ bytes. bytes.items ≡ unwrap_or (string_of text.now) [] ++ (if zero then 0 ∷ [] else [])) }
+    ensures err { IfErr result (λ kind. kind ≡ AsmKind.NoMemory) }
 {
     let mut bytes = Vec::new(alloc);
     push_string(&mut bytes, text)?;
     if zero {
-        bytes.push(0)?;
+        bytes.extend_from_slice(b"\0")?;
     }
     Ok(bytes)
 }
 
-fn zeros(alloc: Global, count: u32) -> Result<Vec<u8>, AllocError>
-    ensures { IfOk result (λ bytes. bytes.items ≡ replicate count 0) }
+fn zeros(alloc: Global, count: u32) -> Result<Vec<u8>, AsmKind>
+    ensures ok { IfOk result (λ bytes. bytes.items ≡ replicate count 0) }
+    ensures err { IfErr result (λ kind. kind ≡ AsmKind.NoMemory) }
 {
-    vec![in alloc; 0; count as usize]
+    Ok(vec![in alloc; 0; count as usize]?)
 }
 
 /// The bytes of what an item places at an address.
-#[tactic(auto, unfolding(crate::specs::Pieces::pieces_of), using(crate::proofs::Spelt::spelling))]
 pub fn item_bytes(
     alloc: Global,
     labels: &LabelTable,
@@ -145,16 +181,12 @@ pub fn item_bytes(
             label_value(labels, name)?;
             Ok(Vec::new(alloc))
         }
-        Item::Single(i) => Ok(single(alloc, i)?),
-        Item::Double(i, j) => Ok(double(alloc, i, j)?),
-        Item::Near(jump, label) => Ok(single(alloc, near(labels, pc, jump, label)?)?),
-        Item::Distant(far, label) => {
-            let value = label_value(labels, label)?;
-            let (i, j) = reaching(far, value.wrapping_sub(pc));
-            Ok(double(alloc, i, j)?)
-        }
+        Item::Single(i) => single(alloc, i),
+        Item::Double(i, j) => double(alloc, i, j),
+        Item::Near(jump, label) => near_bytes(alloc, labels, pc, jump, label),
+        Item::Distant(far, label) => distant_bytes(alloc, labels, pc, far, label),
         Item::Numbers(width, text) => numbers(alloc, labels, width, text),
-        Item::Chars(text, zero) => Ok(chars(alloc, text, zero)?),
-        Item::Zeros(count) => Ok(zeros(alloc, count)?),
+        Item::Chars(text, zero) => chars(alloc, text, zero),
+        Item::Zeros(count) => zeros(alloc, count),
     }
 }

@@ -3,6 +3,9 @@
 
 ghost use Rattle.std.specs.Prelude.{◌≡◌, ◌≤◌, ◌<◌, ◌^◌, pos, ◌≤ℤ◌, Ok, Err, IfOk, length};
 ghost use Rattle.std.specs.Int.RustNames.{unsigned_abs};
+ghost use Rattle.rv_asm.specs.Answers.{and_then, as_text};
+ghost use Rattle.rv_asm.specs.Operands.{count_is};
+ghost use Rattle.rv_asm.specs.Items.{Section, Zeros};
 ghost use Rattle.rv_asm.specs.Reading.{export_read, numbers_read, one_number, padding, string_read, directive_read, instruction_read, unknown, named_read, statement_read};
 ghost use Rattle.rv_asm.specs.Seen.{Reads, IsSound};
 
@@ -18,8 +21,17 @@ use rv_text::{
     split_name, trim,
 };
 
-fn read_export(text: &[u8]) -> Result<Item<'_>, TextErr>
-    ensures item { Reads result (export_read text.now) }
+/// A directive for a section: the text, or the data.
+fn read_section(in_text: bool, text: &[u8]) -> Result<Item<'_>, AsmKind>
+    ensures item { Reads result (as_text (and_then (count_is 0 text.now) (λ u. Ok (Section in_text)))) }
+    ensures sound { IfOk result (λ item. IsSound item) }
+{
+    expect_count(0, text)?;
+    Ok(Item::Section(in_text))
+}
+
+fn read_export(text: &[u8]) -> Result<Item<'_>, AsmKind>
+    ensures item { Reads result (as_text (export_read text.now)) }
     ensures sound { IfOk result (λ item. IsSound item) }
 {
     expect_count(1, text)?;
@@ -27,17 +39,17 @@ fn read_export(text: &[u8]) -> Result<Item<'_>, TextErr>
     if is_name(name) {
         Ok(Item::Export(name))
     } else {
-        Err(TextErr::UnknownName)
+        Err(AsmKind::Text(TextErr::UnknownName))
     }
 }
 
-fn read_numbers(width: Width, text: &[u8]) -> Result<Item<'_>, TextErr>
+fn read_numbers(width: Width, text: &[u8]) -> Result<Item<'_>, AsmKind>
     requires { length text.now ≤ 1048576 }
-    ensures item { Reads result (numbers_read width text.now) }
+    ensures item { Reads result (as_text (numbers_read width text.now)) }
     ensures sound { IfOk result (λ item. IsSound item) }
 {
     if count_operands(text) == 0 {
-        return Err(TextErr::WrongCount { got: 0, wanted: 1 });
+        return Err(AsmKind::Text(TextErr::WrongCount { got: 0, wanted: 1 }));
     }
     check_numbers(width, text)?;
     Ok(Item::Numbers(width, text))
@@ -63,6 +75,22 @@ fn padding(address: u32, exponent: u32) -> u32
     (size - address % size) % size
 }
 
+/// As many zeros as the operand says.
+fn read_space(text: &[u8]) -> Result<Item<'_>, AsmKind>
+    ensures item { Reads result (as_text (and_then (one_number 1048576 text.now) (λ n. Ok (Zeros n)))) }
+    ensures sound { IfOk result (λ item. IsSound item) }
+{
+    Ok(Item::Zeros(one_number(0x10_0000, text)?))
+}
+
+/// Zeros up to the next multiple of 2^n, where the operand is n.
+fn read_alignment(pc: u32, text: &[u8]) -> Result<Item<'_>, AsmKind>
+    ensures item { Reads result (as_text (and_then (one_number 12 text.now) (λ n. Ok (Zeros (padding pc (2 ^ n)))))) }
+    ensures sound { IfOk result (λ item. IsSound item) }
+{
+    Ok(Item::Zeros(padding(pc, one_number(12, text)?)))
+}
+
 #[tactic(auto, unfolding(crate::specs::Reading::string_read), using(crate::proofs::Shorter::parts))]
 fn read_string(zero: bool, text: &[u8]) -> Result<Item<'_>, AsmKind>
     requires { length text.now ≤ 1048576 }
@@ -83,22 +111,16 @@ fn read_directive(directive: Directive, pc: u32, text: &[u8]) -> Result<Item<'_>
     ensures item { Reads result (directive_read directive pc text.now) }
     ensures sound { IfOk result (λ item. IsSound item) }
 {
-    Ok(match directive {
-        Directive::Text => {
-            expect_count(0, text)?;
-            Item::Section(true)
-        }
-        Directive::Data => {
-            expect_count(0, text)?;
-            Item::Section(false)
-        }
-        Directive::Globl => read_export(text)?,
-        Directive::Numbers(width) => read_numbers(width, text)?,
-        Directive::Ascii => read_string(false, text)?,
-        Directive::Asciz => read_string(true, text)?,
-        Directive::Space => Item::Zeros(one_number(0x10_0000, text)?),
-        Directive::Align => Item::Zeros(padding(pc, one_number(12, text)?)),
-    })
+    match directive {
+        Directive::Text => read_section(true, text),
+        Directive::Data => read_section(false, text),
+        Directive::Globl => read_export(text),
+        Directive::Numbers(width) => read_numbers(width, text),
+        Directive::Ascii => read_string(false, text),
+        Directive::Asciz => read_string(true, text),
+        Directive::Space => read_space(text),
+        Directive::Align => read_alignment(pc, text),
+    }
 }
 
 /// What an instruction at an address stands for.
