@@ -4,7 +4,6 @@
 mod call;
 mod content;
 mod line_err;
-mod matching;
 mod sheet;
 
 pub use call::{Call, Fails, Named, Outcome};

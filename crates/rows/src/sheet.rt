@@ -3,7 +3,7 @@
 use crate::call::{Call, Fails, Named, Outcome, keep};
 use crate::content::{change, number, split};
 use crate::line_err::LineErr;
-use crate::matching::Matching;
+use matching::Matching;
 use std::alloc::{AllocError, Global};
 use std::mem;
 
@@ -62,6 +62,19 @@ fn part_of(word: &str) -> Option<Part> {
         "output" => Some(Part::Output),
         "report" => Some(Part::Report),
         _ => None,
+    }
+}
+
+/// How the bytes of the outcome are to be like those of a part, by the words that follow the part's own.
+fn matching_of(words: &str) -> Result<Matching, LineErr> {
+    match words {
+        "" => Ok(Matching::Whole),
+        "begins" => Ok(Matching::Begins),
+        "front" => Ok(Matching::Front),
+        _ => match words.strip_prefix("size ") {
+            Some(size) => Ok(Matching::Size(number(size)?)),
+            None => Err(LineErr::Unknown),
+        },
     }
 }
 
@@ -177,8 +190,8 @@ impl Sheet {
     /// Sets how the bytes of the outcome are to be like those of the part.
     fn set_matching(&mut self, part: Part, words: &str) -> Result<(), LineErr> {
         match part {
-            Part::Output => self.wanted.output.0 = Matching::from_words(words)?,
-            Part::Report => self.wanted.report.0 = Matching::from_words(words)?,
+            Part::Output => self.wanted.output.0 = matching_of(words)?,
+            Part::Report => self.wanted.report.0 = matching_of(words)?,
             _ => {}
         }
         Ok(())

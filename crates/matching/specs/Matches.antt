@@ -1,7 +1,7 @@
--- What a row wants of the bytes that a call left.
+-- What is wanted of the bytes that a call left.
 use Rattle.std.specs.Prelude.{◌≡◌, ◌<◌, ℕ, List, length, take}
-use Rattle.rows.specs.declared.matching.Matching.{Matching}
-use Rattle.rows.specs.declared.matching.Matching.TheVariants.{Whole, Begins, Front, Size}
+use Rattle.matching.specs.declared.matching.Matching.{Matching}
+use Rattle.matching.specs.declared.matching.Matching.TheVariants.{Whole, Begins, Front, Size}
 
 -- the bytes begin with these
 abbrev pub BeginsWith : List ℕ → List ℕ → Type 0
