@@ -1,5 +1,5 @@
 -- The run of a policy: one more turn, and where it arrives, whatever stops it there.
-use Rattle.std.proofs.Common.{◌≡◌, ℕ, ◌-◌, ◌≤◌, List, [], ◌∷◌, ◌++◌, Option, Some, Err, sym, ap, subst, ◌∙◌, inl, inr, append-nil, length}
+use Rattle.std.proofs.Common.{◌≡◌, ℕ, ◌-◌, ◌≤◌, List, [], ◌∷◌, ◌++◌, Option, Some, Err, refl, sym, ap, subst, ◌∙◌, inl, inr, append-nil, length}
 use Rattle.std.specs.Prelude.{◌⊎◌}
 use Rattle.cf_asked.specs.declared.show.Show.{Show}
 use Rattle.cf_layout.specs.Accepted.{IsAccepted}
@@ -17,7 +17,7 @@ use Rattle.cf_run.specs.Headline.{RunsSequentially}
 use Rattle.cf_run.specs.Made.{Made, moves_of}
 use Rattle.cf_run.specs.Moving.{Place, Does, shown_of}
 use Rattle.cf_run.specs.Policies.{IsOpened, Chooser, fresh, choice, offered_to, behind_choice, Picks, Takes, StopsPolicy, RunsPolicy, ChoiceAsks, most_moves}
-use Rattle.cf_run.specs.Reaching.{Reaches, GoesOn}
+use Rattle.cf_run.specs.Reaching.{Reaches, GoesOn, IsOver}
 use Rattle.cf_run.proofs.Asked.{one-more}
 use Rattle.cf_run.proofs.Bounds.{reached-bounded}
 use Rattle.cf_run.proofs.Headline.{comes_sequentially}
@@ -47,6 +47,15 @@ chosen-stops picked onward limit shows at now new later mv ran.ReportFault goes 
 chosen-stops picked onward limit shows at now new later mv (ran.Exit status) goes chosen on does = absurd does
 chosen-stops picked onward limit shows at now new later mv (ran.Trap cause pc detail) goes chosen on does = absurd does
 chosen-stops picked onward limit shows at now new later mv ran.Limit goes chosen on does = absurd does
+
+-- a turn before which the run is over
+pub over-stops : {P : Type 0} (picked : P → List Move → ℕ) (onward : P → List Move → P) (limit : ℕ) (shows : Show) (at : Chooser P) (now : Place) (answer : Answer) → IsOver limit now.core.state answer → StopsPolicy picked onward limit shows at now now at.policy answer
+over-stops picked onward limit shows at now (ran.Exit status) over = (over, refl, refl)
+over-stops picked onward limit shows at now (ran.Trap cause pc detail) over = (over, refl, refl)
+over-stops picked onward limit shows at now ran.Limit over = (over, refl, refl)
+over-stops picked onward limit shows at now ran.ReadFault over = absurd over
+over-stops picked onward limit shows at now ran.WriteFault over = absurd over
+over-stops picked onward limit shows at now ran.ReportFault over = absurd over
 
 -- one more turn
 pub turned-more : {P : Type 0} (picked : P → List Move → ℕ) (limit : ℕ) (shows : Show) (begin now new : Place) (at : Chooser P) → Reaches limit shows begin now → Takes picked limit shows at now new → Reaches limit shows begin new

@@ -1,4 +1,5 @@
 pub mod Moves
+pub mod Faults
 pub mod Behind
 pub mod Runs
 pub mod Asked

@@ -4,7 +4,7 @@ use cf_bind::Bar;
 use cf_scripts::ScriptErr;
 
 /// How a run finishes, whatever its schedule.
-#[derive(Clone, Copy, PartialEq, Eq)]
+#[derive(Clone, Copy)]
 pub enum Ran {
     /// The program ended itself with this status.
     Exit(u8),
@@ -26,7 +26,7 @@ pub enum Ran {
 }
 
 /// How the run of a script finishes.
-#[derive(Clone, Copy, PartialEq, Eq)]
+#[derive(Clone, Copy)]
 pub enum Scripted {
     /// As any run may.
     Ran(Ran),
