@@ -1,5 +1,5 @@
 -- Where a run in rounds has arrived.
-use Rattle.std.proofs.Common.{◌≡◌, ℕ, suc, ◌+◌, ◌-◌, ◌<◌, ◌≤◌, ◌^◌, List, [], ◌∷◌, ◌++◌, length, Option, Some, None, Err, inl, inr, refl, sym, ap, subst, ◌∙◌, append-nil, append_assoc, length-append, arith}
+use Rattle.std.proofs.Common.{◌≡◌, ℕ, suc, ◌+◌, ◌-◌, ◌<◌, ◌≤◌, ◌^◌, List, [], ◌∷◌, ◌++◌, length, Option, Some, None, Ok, Err, inl, inr, refl, sym, ap, subst, ◌∙◌, append-nil, append_assoc, length-append, arith}
 use Rattle.std.specs.Prelude.{if◌then◌else◌, Bool, true, false}
 use Rattle.cf_asked.specs.Limits.{most_limit}
 use Rattle.cf_asked.specs.declared.show.Show.TheVariants as show
@@ -43,10 +43,10 @@ use Rattle.cf_rounds.specs.declared.answer.Clocked.TheVariants.{Exit, Trap, Limi
 use Rattle.cf_rounds.specs.declared.answer.Fired.{Fired}
 use Rattle.cf_rounds.specs.declared.answer.Fired.TheVariants.{Plain, Retired, Ended}
 use Rattle.cf_rounds.specs.declared.answer.Fired.TheVariants as fault
-use Rattle.cf_rounds.specs.Firing.{FiresAll, Fires, MakesAll, paced_by}
+use Rattle.cf_rounds.specs.Firing.{FiresAll, Fires, MakesAll, input_fired, output_fired, paced_by}
 use Rattle.cf_rounds.specs.Rounds.{AreCandidates, IsRound, round_of}
 use Rattle.cf_rounds.specs.Running.{InRounds, FailsThere, RunsRounds, StopsRounds, all_of, ran_of, state_behind}
-use Rattle.cf_rounds.specs.Turns.{IsOffered, Turns}
+use Rattle.cf_rounds.specs.Turns.{IsOffered, Turns, finish_with, input_turned, output_turned}
 use Rattle.cf_rounds.proofs.Level.{round-level}
 use Rattle.cf_rounds.proofs.Making.{leaves, falls, left_first}
 use Rattle.cf_rounds.proofs.Pacing.{rounds_paced}
@@ -278,19 +278,50 @@ offered-candidates plan s pace moves counted are = subst (AreCandidates plan s) 
 pub offered-some : (plan : Plan) (s : State) (pace : Count) (moves : List Move) → (count : ℕ) × HasCounted plan.stages count pace → ((count : ℕ) → HasCounted plan.stages count pace → moves ≡ offered plan count s) → ((count : ℕ) → 0 < length (offered plan count s)) → 0 < length moves
 offered-some plan s pace moves counted are some = omega (arith, some counted.0, ap length (are counted.0 counted.1))
 
--- the round is made, or its call fails
-abbrev pub turn_of : Fired → Option Clocked
-turn_of Plain = None
-turn_of (Retired line) = None
-turn_of (Ended end) = None
-turn_of fault.ReadFault = Some ReadFault
-turn_of fault.WriteFault = Some WriteFault
+-- the run is over before the round
+pub turned-over : (limit : ℕ) (now : Place) (pace : Count) (answer : Clocked) → IsOver limit now.core.state (ran_of answer) → Turns limit now now pace pace (Some answer)
+unfolding Turns
+turned-over limit now pace (Exit status) over = (over, refl)
+turned-over limit now pace (Trap cause pc detail) over = (over, refl)
+turned-over limit now pace Limit over = (over, refl)
+turned-over limit now pace ReadFault over = absurd over
+turned-over limit now pace WriteFault over = absurd over
 
-pub turned : (limit : ℕ) (now new : Place) (pace later : Count) (moves round : List Move) (fired : Fired) (turn : Option Clocked) → GoesOn limit now.core.state → IsOffered now pace moves round → Fires round now new pace later fired → turn ≡ turn_of fired → Turns limit now new pace later turn
+-- no stream failed it then
+pub over-read : (limit : ℕ) (s : State) (answer : Clocked) → IsOver limit s (ran_of answer) → input_turned (Some answer) ≡ Ok tt
+over-read limit s (Exit status) over = refl
+over-read limit s (Trap cause pc detail) over = refl
+over-read limit s Limit over = refl
+over-read limit s ReadFault over = absurd over
+over-read limit s WriteFault over = refl
+
+pub over-written : (limit : ℕ) (s : State) (answer : Clocked) → IsOver limit s (ran_of answer) → output_turned (Some answer) ≡ Ok tt
+over-written limit s (Exit status) over = refl
+over-written limit s (Trap cause pc detail) over = refl
+over-written limit s Limit over = refl
+over-written limit s ReadFault over = refl
+over-written limit s WriteFault over = absurd over
+
+-- the round is made, or its call fails, and then that stream failed the turn
+pub turned-read : (fired : Fired) → input_turned (finish_with fired) ≡ input_fired fired
+turned-read Plain = refl
+turned-read (Retired line) = refl
+turned-read (Ended end) = refl
+turned-read fault.ReadFault = refl
+turned-read fault.WriteFault = refl
+
+pub turned-written : (fired : Fired) → output_turned (finish_with fired) ≡ output_fired fired
+turned-written Plain = refl
+turned-written (Retired line) = refl
+turned-written (Ended end) = refl
+turned-written fault.ReadFault = refl
+turned-written fault.WriteFault = refl
+
+pub turned : (limit : ℕ) (now new : Place) (pace later : Count) (moves round : List Move) (fired : Fired) (turn : Option Clocked) → GoesOn limit now.core.state → IsOffered now pace moves round → Fires round now new pace later fired → turn ≡ finish_with fired → Turns limit now new pace later turn
 unfolding Turns Fires
 turned limit now new pace later moves round fired turn goes o f is = subst (λ (t : Option Clocked). Turns limit now new pace later t) (sym is) (by fired f)
   where
-    by : (fired : Fired) → Fires round now new pace later fired → Turns limit now new pace later (turn_of fired)
+    by : (fired : Fired) → Fires round now new pace later fired → Turns limit now new pace later (finish_with fired)
     by Plain f = record { goes = goes; moves = moves; round = round; offer = o; fired = Plain; fires = f }
     by (Retired line) f = record { goes = goes; moves = moves; round = round; offer = o; fired = Retired line; fires = f }
     by (Ended end) f = record { goes = goes; moves = moves; round = round; offer = o; fired = Ended end; fires = f }

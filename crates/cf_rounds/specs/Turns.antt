@@ -13,6 +13,7 @@ use Rattle.cf_run.specs.Reaching.{GoesOn, IsOver}
 use Rattle.cf_rounds.specs.declared.answer.Clocked.{Clocked}
 use Rattle.cf_rounds.specs.declared.answer.Clocked.TheVariants.{Exit, Trap, Limit, ReadFault, WriteFault}
 use Rattle.cf_rounds.specs.declared.answer.Fired.{Fired}
+use Rattle.cf_rounds.specs.declared.answer.Fired.TheVariants as fired
 use Rattle.cf_rounds.specs.Firing.{FiresAll}
 use Rattle.cf_rounds.specs.Rounds.{IsRound, round_of}
 
@@ -50,6 +51,12 @@ Turns limit now new pace later (Some (Trap cause pc detail)) = IsOver limit now.
 Turns limit now new pace later (Some Limit) = IsOver limit now.core.state ran.Limit × (new ≡ now)
 Turns limit now new pace later (Some ReadFault) = FailsRound limit now new pace ran.ReadFault
 Turns limit now new pace later (Some WriteFault) = FailsRound limit now new pace ran.WriteFault
+
+-- how the run finishes with the round of which this is seen, if it does
+abbrev pub finish_with : Fired → Option Clocked
+finish_with fired.ReadFault = Some ReadFault
+finish_with fired.WriteFault = Some WriteFault
+finish_with f = None
 
 -- an error where the input failed the turn
 abbrev pub input_turned : Option Clocked → Result (Unit {0}) (Unit {0})

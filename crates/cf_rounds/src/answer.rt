@@ -4,7 +4,7 @@ use cf_bind::End;
 use rv_machine::Retired as Line;
 
 /// What is seen of a round.
-#[derive(Clone, Copy, PartialEq, Eq)]
+#[derive(Clone, Copy)]
 pub enum Fired {
     /// No instruction retired, and none ended the program.
     Plain,
@@ -23,7 +23,7 @@ pub enum Fired {
 }
 
 /// How a run in rounds finishes.
-#[derive(Clone, Copy, PartialEq, Eq)]
+#[derive(Clone, Copy)]
 pub enum Clocked {
     /// The program ended itself with this status.
     Exit(u8),

@@ -1,7 +1,7 @@
 //! A run in rounds.
 #![tactic(auto, unfolding(crate::specs::Turns::Turns, crate::specs::Firing::Fires))]
 
-ghost use Rattle.std.specs.Prelude.{◌≡◌, ℕ, ◌+◌, ◌<◌, ◌≤◌, ◌^◌, None, Some, length};
+ghost use Rattle.std.specs.Prelude.{◌≡◌, ℕ, ◌+◌, ◌<◌, ◌≤◌, ◌^◌, MatchOption, None, Some, length};
 ghost use Rattle.cf_asked.specs.Limits.{most_limit};
 ghost use Rattle.cf_io.specs.Causes.{HasCause};
 ghost use Rattle.rv_machine.specs.Streams.{streams_of};
@@ -11,9 +11,9 @@ ghost use Rattle.cf_run.specs.declared.answer.Scripted.TheVariants as scripted;
 ghost use Rattle.cf_run.specs.Ending.{EndsSequentially};
 ghost use Rattle.cf_run.specs.Moving.{place_of};
 ghost use Rattle.cf_run.specs.Policies.{IsOpened, most_moves};
-ghost use Rattle.cf_run.specs.Reaching.{no_tally};
+ghost use Rattle.cf_run.specs.Reaching.{GoesOn, IsOver, no_tally};
 ghost use Rattle.cf_rounds.specs.Running.{RunsRight, ran_of};
-ghost use Rattle.cf_rounds.specs.Turns.{Turns, input_turned, output_turned};
+ghost use Rattle.cf_rounds.specs.Turns.{Turns, finish_with, input_turned, output_turned};
 
 use crate::answer::{Clocked, Fired};
 use crate::choosing::choose;
@@ -25,6 +25,34 @@ use cf_io::{Sink, Source};
 use cf_report::Tally;
 use cf_run::{Ran, known, over};
 use cf_sched::Pace;
+
+/// How the run finishes before a further round, if it does.
+fn finish_before(core: &Core, limit: u64) -> Option<Clocked>
+    requires { core.now.state.retired ≤ limit }
+    ensures { MatchOption result (GoesOn limit core.now.state)
+        (λ clocked. IsOver limit core.now.state (ran_of clocked)) }
+{
+    match over(core, limit) {
+        Some(Ran::Exit(status)) => Some(Clocked::Exit(status)),
+        Some(Ran::Trap { cause, pc, detail }) => Some(Clocked::Trap { cause, pc, detail }),
+        Some(Ran::Limit) => Some(Clocked::Limit),
+        Some(Ran::ReadFault) => unreachable!(),
+        Some(Ran::WriteFault) => unreachable!(),
+        Some(Ran::ReportFault) => unreachable!(),
+        None => None,
+    }
+}
+
+/// How the run finishes with the round of which this is seen, if it does.
+fn finish_with(fired: Fired) -> Option<Clocked>
+    ensures { result ≡ finish_with fired }
+{
+    match fired {
+        Fired::ReadFault => Some(Clocked::ReadFault),
+        Fired::WriteFault => Some(Clocked::WriteFault),
+        Fired::Plain | Fired::Retired(_) | Fired::Ended(_) => None,
+    }
+}
 
 /// Makes the round of what the pace offers, or says why the run stops.
 fn advance<S: Source, K: Sink>(
@@ -54,24 +82,12 @@ fn advance<S: Source, K: Sink>(
     ensures output { HasCause (K.faults output.old) (K.faults output.new) (output_turned result) }
 {
     let _ = core.layout();
-    match over(core, limit) {
-        Some(Ran::Exit(status)) => return Some(Clocked::Exit(status)),
-        Some(Ran::Trap { cause, pc, detail }) => return Some(Clocked::Trap { cause, pc, detail }),
-        Some(Ran::Limit) => return Some(Clocked::Limit),
-        Some(Ran::ReadFault) => unreachable!(),
-        Some(Ran::WriteFault) => unreachable!(),
-        Some(Ran::ReportFault) => unreachable!(),
-        None => {}
+    if let Some(clocked) = finish_before(core, limit) {
+        return Some(clocked);
     }
     pace.offer(core, candidates);
     choose(core, candidates, set);
-    match fire(core, set, pace, input, output, tally) {
-        Fired::ReadFault => Some(Clocked::ReadFault),
-        Fired::WriteFault => Some(Clocked::WriteFault),
-        Fired::Plain => None,
-        Fired::Retired(_) => None,
-        Fired::Ended(_) => None,
-    }
+    finish_with(fire(core, set, pace, input, output, tally))
 }
 
 /// Runs an opened processor in rounds: makes the round of the candidates, one after the other, until the program ends or as
