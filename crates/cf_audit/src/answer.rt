@@ -3,7 +3,7 @@
 use cf_scripts::TraceKind;
 
 /// What an audit answers.
-#[derive(Clone, Copy, PartialEq, Eq)]
+#[derive(Clone, Copy)]
 pub enum Audit {
     /// The trace is that of a run of this many moves.
     Agrees(u64),
