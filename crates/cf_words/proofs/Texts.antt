@@ -1,5 +1,6 @@
 -- The words that name commands, options and what is shown: each names one, and is written in one way.
-use Rattle.std.proofs.Common.{◌≡◌, ℕ, List, codes, true, false, refl, arith, Some}
+use Rattle.std.proofs.Common.{◌≡◌, ℕ, List, codes, Bool, true, false, Option, Some, None, refl, sym, ap, ◌∙◌}
+use Rattle.std.specs.Prelude.{if◌then◌else◌}
 use lib.Pointwise.{bytes_decides}
 use Rattle.cf_asked.specs.declared.show.Show.{Show}
 use Rattle.cf_asked.specs.declared.show.Show.TheVariants as shows
@@ -15,22 +16,40 @@ use Rattle.cf_words.specs.Reading.{is_text, name_in, key_in, lines_in}
 pub is-text : (word text : List ℕ) → is_text word text ≡ true → word ≡ text
 is-text word text h = (bytes_decides word text).0 h
 
+some_same : {T : Type 0} {one other : T} → Some one ≡ Some other → one ≡ other
+some_same h = cc
+
+-- a word is that of what it names: by the first text that it is, and if it is none, by those after it
+first-named : {T : Type 0} (word text : List ℕ) (written : T → List ℕ) (here : T) (others : Option T) → written here ≡ text → ((name : T) → others ≡ Some name → word ≡ written name)
+    → (name : T) → (if is_text word text then Some here else others) ≡ Some name → word ≡ written name
+first-named {T} word text written here others same behind name = by (is_text word text) refl
+  where
+    by : (b : Bool) → is_text word text ≡ b → (if b then Some here else others) ≡ Some name → word ≡ written name
+    by true is h = is-text word text is ∙ sym same ∙ ap written (some_same h)
+    by false is h = behind name h
+
+-- no text is left
+none-named : {T : Type 0} (word : List ℕ) (written : T → List ℕ) (name : T) → None ≡ Some name → word ≡ written name
+none-named word written name h = absurd (cc)
+
 pub name-read : (word : List ℕ) (name : Name) → name_in word ≡ Some name → word ≡ word_of name
 unfolding name_in
-name-read word names.Machine h = is-text word (codes "machine") (grind arith)
-name-read word names.Run h = is-text word (codes "run") (grind arith)
-name-read word names.Moves h = is-text word (codes "moves") (grind arith)
-name-read word names.Rounds h = is-text word (codes "rounds") (grind arith)
-name-read word names.Debug h = is-text word (codes "debug") (grind arith)
-name-read word names.Time h = is-text word (codes "time") (grind arith)
-name-read word names.Audit h = is-text word (codes "audit") (grind arith)
-name-read word names.Check h = is-text word (codes "check") (grind arith)
-name-read word names.Asm h = is-text word (codes "asm") (grind arith)
-name-read word names.List h = is-text word (codes "list") (grind arith)
-name-read word names.Gen h = is-text word (codes "gen") (grind arith)
-name-read word names.Help h = is-text word (codes "help") (grind arith)
-name-read word names.HelpOption h = is-text word (codes "--help") (grind arith)
-name-read word names.Version h = is-text word (codes "--version") (grind arith)
+name-read word =
+    first-named word (codes "machine") word_of names.Machine _ refl
+    (first-named word (codes "run") word_of names.Run _ refl
+    (first-named word (codes "moves") word_of names.Moves _ refl
+    (first-named word (codes "rounds") word_of names.Rounds _ refl
+    (first-named word (codes "debug") word_of names.Debug _ refl
+    (first-named word (codes "time") word_of names.Time _ refl
+    (first-named word (codes "audit") word_of names.Audit _ refl
+    (first-named word (codes "check") word_of names.Check _ refl
+    (first-named word (codes "asm") word_of names.Asm _ refl
+    (first-named word (codes "list") word_of names.List _ refl
+    (first-named word (codes "gen") word_of names.Gen _ refl
+    (first-named word (codes "help") word_of names.Help _ refl
+    (first-named word (codes "--help") word_of names.HelpOption _ refl
+    (first-named word (codes "--version") word_of names.Version _ refl
+    (none-named word word_of))))))))))))))
 
 pub name-written : (name : Name) → name_in (word_of name) ≡ Some name
 unfolding name_in
@@ -51,12 +70,14 @@ name-written names.Version = refl
 
 pub key-read : (word : List ℕ) (key : Key) → key_in word ≡ Some key → word ≡ key_word key
 unfolding key_in
-key-read word keys.Limit h = is-text word (codes "--limit") (grind arith)
-key-read word keys.Show h = is-text word (codes "--show") (grind arith)
-key-read word keys.Script h = is-text word (codes "--script") (grind arith)
-key-read word keys.Seed h = is-text word (codes "--seed") (grind arith)
-key-read word keys.Mul h = is-text word (codes "--mul") (grind arith)
-key-read word keys.Run h = is-text word (codes "--run") (grind arith)
+key-read word =
+    first-named word (codes "--limit") key_word keys.Limit _ refl
+    (first-named word (codes "--show") key_word keys.Show _ refl
+    (first-named word (codes "--script") key_word keys.Script _ refl
+    (first-named word (codes "--seed") key_word keys.Seed _ refl
+    (first-named word (codes "--mul") key_word keys.Mul _ refl
+    (first-named word (codes "--run") key_word keys.Run _ refl
+    (none-named word key_word))))))
 
 pub key-written : (key : Key) → key_in (key_word key) ≡ Some key
 unfolding key_in
@@ -69,9 +90,11 @@ key-written keys.Run = refl
 
 pub lines-read : (word : List ℕ) (lines : Show) → lines_in word ≡ Some lines → word ≡ show_word lines
 unfolding lines_in
-lines-read word shows.Report h = is-text word (codes "report") (grind arith)
-lines-read word shows.Retired h = is-text word (codes "retired") (grind arith)
-lines-read word shows.Moves h = is-text word (codes "moves") (grind arith)
+lines-read word =
+    first-named word (codes "report") show_word shows.Report _ refl
+    (first-named word (codes "retired") show_word shows.Retired _ refl
+    (first-named word (codes "moves") show_word shows.Moves _ refl
+    (none-named word show_word)))
 
 pub lines-written : (lines : Show) → lines_in (show_word lines) ≡ Some lines
 unfolding lines_in
