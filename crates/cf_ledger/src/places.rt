@@ -80,6 +80,16 @@ fn push_exits(layout: &Layout, i: u32, places: &mut ArrayVec<usize, 10>)
     }
 }
 
+/// Some more places.
+fn push_all(places: &mut ArrayVec<usize, 10>, more: &[usize])
+    requires { length places.old.items + length more.now ≤ 10 }
+    ensures { places.new.items ≡ places.old.items ++ more.now }
+{
+    for place in more {
+        places.push(*place);
+    }
+}
+
 /// The places that the move uses, put into an empty list.
 fn push_places(layout: &Layout, mv: Move, places: &mut ArrayVec<usize, 10>)
     requires { places.old.items ≡ [] }
@@ -87,52 +97,36 @@ fn push_places(layout: &Layout, mv: Move, places: &mut ArrayVec<usize, 10>)
 {
     let top = layout.stages() as usize;
     match mv {
-        Move::Issue(_) => {
-            places.push(stage(1));
-            places.push(LANE);
-            places.push(FETCH);
-            places.push(CODE);
-        }
-        Move::Emit => {
-            places.push(stage(top));
-            places.push(LANE);
-        }
-        Move::Climb(i) => {
-            places.push(stage(i as usize));
-            places.push(stage(i as usize + 1));
-        }
-        Move::Fall(i) => {
-            places.push(stage(i as usize));
-            places.push(stage(i.saturating_sub(1) as usize));
-        }
+        Move::Issue(_) => push_all(places, &[stage(1), LANE, FETCH, CODE]),
+        Move::Emit => push_all(places, &[stage(top), LANE]),
+        Move::Climb(i) => push_all(places, &[stage(i as usize), stage(i as usize + 1)]),
+        Move::Fall(i) => push_all(
+            places,
+            &[stage(i as usize), stage(i.saturating_sub(1) as usize)],
+        ),
         Move::Meet(i) | Move::Execute(i) | Move::Send(i) => places.push(stage(i as usize)),
         Move::Launch(i) => {
             places.push(stage(i as usize));
             push_entries(layout, i, places);
         }
-        Move::Slide(k, c) => {
-            places.push(cell(k as usize, c as usize));
-            places.push(cell(k as usize, c as usize + 1));
-        }
+        Move::Slide(k, c) => push_all(
+            places,
+            &[
+                cell(k as usize, c as usize),
+                cell(k as usize, c as usize + 1),
+            ],
+        ),
         Move::Access => {
             let (k, c) = port(layout);
-            places.push(cell(k, c));
-            places.push(MEMORY);
+            push_all(places, &[cell(k, c), MEMORY]);
         }
         Move::Recover(i) => {
             places.push(stage(i as usize));
             push_exits(layout, i, places);
         }
         Move::Leave => places.push(stage(top)),
-        Move::Exit => {
-            places.push(stage(1));
-            places.push(FETCH);
-        }
-        Move::Serve => {
-            places.push(stage(top));
-            places.push(MEMORY);
-            places.push(CODE);
-        }
+        Move::Exit => push_all(places, &[stage(1), FETCH]),
+        Move::Serve => push_all(places, &[stage(top), MEMORY, CODE]),
     }
 }
 

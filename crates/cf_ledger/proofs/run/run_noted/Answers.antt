@@ -11,3 +11,9 @@ returns-clause-run g c =
     (first-is c.args.core.now.plan c.args.clock.now.delays c.args.clock.now c.args.ledger.now c.new-watching.result c.new-watching.ensures c.requires.begins.clock_is c.requires.ledger)
     ran.right ran.ends (c.timed.ensures ran.reports)
     (c.clock_behind.ensures ∙ ap (λ (p : Pending). clock_behind p c.run_unreported-ran.result) c.timing.ensures) c.ledger_behind.ensures)
+
+pub returns-clause-bounded : goal.returns-clause-bounded
+returns-clause-bounded g c = c.run_unreported-ran.ensures.bounded
+
+pub returns-clause-causes : goal.returns-clause-causes
+returns-clause-causes g c = rw (c.timed.ensures c.run_unreported-ran.ensures.run.reports) c.run_unreported-ran.ensures.causes
