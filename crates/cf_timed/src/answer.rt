@@ -1,7 +1,7 @@
 //! How a timed run finishes.
 
 /// How a timed run finishes.
-#[derive(Clone, Copy, PartialEq, Eq)]
+#[derive(Clone, Copy)]
 pub enum Timed {
     /// The program ended itself with this status.
     Exit(u8),

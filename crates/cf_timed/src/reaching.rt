@@ -5,7 +5,7 @@ ghost use Rattle.cf_semantics.specs.moves.Sites.{SidingCell, Stage};
 ghost use Rattle.cf_semantics.specs.state.Layouts.{port as port_of};
 ghost use Rattle.cf_index.specs.Sites.{used, way_out, ways_in, ways_out};
 ghost use Rattle.cf_timed.specs.Times.{greatest};
-ghost use Rattle.cf_timed.specs.Clocks.{time_at};
+ghost use Rattle.cf_timed.specs.Clocks.{number_at, time_at};
 
 use crate::clock::Clock;
 use cf_bind::Move;
@@ -27,13 +27,21 @@ pub fn port(layout: &Layout) -> (usize, usize)
     }
 }
 
+/// The time at a place of a list, and 0 where the list has no such place.
+#[inline(always)]
+fn time_in(times: &[u64], i: usize) -> u64
+    ensures { result ≡ number_at times.now i }
+{
+    times.get(i).copied().unwrap_or(0)
+}
+
 impl Clock {
     /// The time of a stage.
     #[inline(always)]
     fn stage(&self, i: usize) -> u64
         ensures { result ≡ time_at self.now (Stage i) }
     {
-        self.stages.get(i).copied().unwrap_or(0)
+        time_in(&self.stages, i)
     }
 
     /// The time of a cell of a siding.
@@ -42,7 +50,7 @@ impl Clock {
         ensures { result ≡ time_at self.now (SidingCell k c) }
     {
         match self.cells.get(k) {
-            Some(row) => row.get(c).copied().unwrap_or(0),
+            Some(row) => time_in(row, c),
             None => 0,
         }
     }

@@ -11,3 +11,9 @@ returns-clause-run g c =
     c.known.ensures.accepted c.known.ensures.registers c.requires.begins.can_run.is_opened c.known-2.ensures c.requires.begins.can_run.limit_allowed c.requires.begins.can_run.within ran.reports
     (c.new-timing.ensures ∙ ap (λ (k : SiteTimes). let p : Pending = record { clock = k; last = None } in p) c.requires.begins.clock_is)
     ran.right ran.ends (c.timed.ensures ran.reports) c.clock_behind.ensures)
+
+pub returns-clause-bounded : goal.returns-clause-bounded
+returns-clause-bounded g c = c.run_unreported-ran.ensures.bounded
+
+pub returns-clause-causes : goal.returns-clause-causes
+returns-clause-causes g c = rw (c.timed.ensures c.run_unreported-ran.ensures.run.reports) c.run_unreported-ran.ensures.causes
