@@ -1,11 +1,13 @@
 -- What an audit found is what the command answers.
-use Rattle.std.proofs.Common.{◌≡◌, ℕ, List, Option, Some, None, refl, ap}
+use Rattle.std.proofs.Common.{◌≡◌, ℕ, List, Option, Some, None, Ok, refl, ap}
 use Rattle.rv_machine.specs.Hart.{Hart}
 use Rattle.cf_layout.specs.Layout.{Plan}
 use Rattle.cf_core.specs.Processors.{Processor, opened}
 use Rattle.cf_audit.specs.declared.answer.Audit.{Audit}
 use Rattle.cf_audit.specs.declared.answer.Audit.TheVariants as found
 use Rattle.cf_audit.specs.Audits.{Audits, AgreesWithAll, IsAgreement, RetiresSequentially}
+use Rattle.cf_audit.specs.Turns.{input_tested}
+use Rattle.cli_files.specs.Causes.{files_answered, input_answered, output_answered}
 use Rattle.cli_files.specs.declared.status.Status.{Status}
 use Rattle.cli_audit.specs.Audit.{status_of, text_of, RetiresAsMachine, AnswersText, IsAccepted, AcceptsRuns, ComesOfTrace}
 use Rattle.cli_audit.specs.Reports.{trace_of}
@@ -49,3 +51,19 @@ comes core new plan hart text before after a answer report is audits agrees line
       answers = answers plan hart new text before after a audited retired;
       accepts = accepts plan hart text before a all;
     })
+
+-- what was found says of no file that it failed, nor of the output, and of the input exactly where the call did
+pub files-left : (a : Audit) → files_answered (status_of a) ≡ Ok tt
+files-left (found.Agrees n) = refl
+files-left (found.Wrong number kind) = refl
+files-left found.ReadFault = refl
+
+pub output-left : (a : Audit) → output_answered (status_of a) ≡ Ok tt
+output-left (found.Agrees n) = refl
+output-left (found.Wrong number kind) = refl
+output-left found.ReadFault = refl
+
+pub input-stopped : (a : Audit) → input_answered (status_of a) ≡ input_tested (Some a)
+input-stopped (found.Agrees n) = refl
+input-stopped (found.Wrong number kind) = refl
+input-stopped found.ReadFault = refl

@@ -10,7 +10,7 @@ use mem_regions::LoadErr;
 use rv_asm::AsmErr;
 
 /// What could not be read.
-#[derive(Clone, Copy, Debug, PartialEq, Eq)]
+#[derive(Clone, Copy)]
 pub enum Which {
     Layout,
     Program,
@@ -22,7 +22,7 @@ pub enum Which {
 }
 
 /// Why a file is no program.
-#[derive(Clone, Copy, Debug, PartialEq, Eq)]
+#[derive(Clone, Copy)]
 pub enum ProgramErr {
     /// It is longer than a program may be.
     TooLong,
@@ -36,7 +36,7 @@ pub enum ProgramErr {
 }
 
 /// Why a file is no script of moves that can be made.
-#[derive(Clone, Copy, Debug, PartialEq, Eq)]
+#[derive(Clone, Copy)]
 pub enum ScriptFault {
     /// It is longer than a script may be.
     TooLong,
@@ -46,7 +46,7 @@ pub enum ScriptFault {
 }
 
 /// Why a file does not say how long moves take.
-#[derive(Clone, Copy, Debug, PartialEq, Eq)]
+#[derive(Clone, Copy)]
 pub enum DelaysFault {
     /// It is longer than a file of delays may be.
     TooLong,
@@ -56,7 +56,7 @@ pub enum DelaysFault {
 }
 
 /// Why a file is not the trace of a run.
-#[derive(Clone, Copy, PartialEq, Eq)]
+#[derive(Clone, Copy)]
 pub enum TraceFault {
     /// It is longer than a trace may be.
     TooLong,
