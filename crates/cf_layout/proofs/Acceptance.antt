@@ -1,16 +1,16 @@
 -- Parts that are not refused describe a layout that is accepted.
-use Rattle.std.proofs.Common.{◌≡◌, ℕ, ◌≤◌, [], All, Bool, true, false, Option, Some, None, find, refl, arith}
+use Rattle.std.proofs.Common.{◌≡◌, ℕ, ◌≤◌, [], All, length, Bool, true, false, Option, Some, None, find, refl, arith}
 use Rattle.std.specs.Prelude.{not, nat_lt, ◌||◌}
 use Rattle.std.proofs.lemmas.Bool.Decides.{nat_tests}
 use Rattle.rv_inst.specs.declared.classes.Class.{Class}
 use Rattle.rv_inst.specs.declared.classes.Class.TheVariants.{Add, Logic, Shift, Compare, Branch, Jump, Memory, Serial, Free, Mul, Div}
 use Rattle.cf_layout.specs.declared.parts.Parts.{Parts}
-use Rattle.cf_layout.specs.Asked.{natural, is_asked, listed, ascending, plan_of}
+use Rattle.cf_layout.specs.Asked.{natural, is_within, IsSmall, is_asked, listed, ascending, plan_of}
 use Rattle.cf_layout.specs.Accepted.{is_needed, is_control, IsAccepted}
 use Rattle.cf_layout.specs.Acceptable.{AreComputed, IsAcceptable}
 use Rattle.cf_layout.specs.Refusal.{refusal, missing, missing_refusal, needed_classes, above, turn_refusal, control_refusal, turns_in, siding_for, memory_launch_in}
 use Rattle.cf_layout.proofs.Control.{described}
-use Rattle.cf_layout.proofs.Passing.{first_passes, next_passes, holds, none_found, all_fail, limits_hold, units_hold, sidings_hold, all_once}
+use Rattle.cf_layout.proofs.Passing.{first_passes, next_passes, holds, none_found, all_fail, within_most, limits_hold, units_hold, sidings_hold, small_sidings, all_once}
 
 -- no class is missing
 none_missing : (o : Option Class) → missing o ≡ None → o ≡ None
@@ -104,3 +104,16 @@ acceptable parts e =
 -- so what parts that are not refused describe is accepted
 pub accepted : (parts : Parts) → AreComputed parts → refusal parts ≡ None → IsAccepted (plan_of parts)
 accepted parts computed e = described parts computed (acceptable parts e)
+
+-- their numbers are within the limits of a layout
+pub limits_kept : (parts : Parts) → refusal parts ≡ None → (is_within 2 32 parts.stages ≡ true) × (is_within 2 64 parts.lane ≡ true) × (length parts.sidings ≤ 8)
+unfolding refusal
+limits_kept parts e = limits_hold parts (first_passes _ _ e)
+
+-- and so are those of their sidings
+pub small_kept : (parts : Parts) → refusal parts ≡ None → All IsSmall parts.sidings
+unfolding refusal
+small_kept parts e =
+    let limits = limits_hold parts (first_passes _ _ e) in
+    let sidings = first_passes _ _ (next_passes _ _ (next_passes _ _ e)) in
+    small_sidings (natural parts.stages) parts.units parts.sidings sidings (within_most parts.stages 2 32 limits.0)

@@ -1,5 +1,5 @@
 -- What holds of parts that pass the tests.
-use Rattle.std.proofs.Common.{◌≡◌, ◌≢◌, ℕ, ℤ, pos, negsuc, ◌<ℤ◌, ◌+◌, ◌<◌, ◌≤◌, List, [], ◌∷◌, ◌++◌, All, Bool, true, false, cond, subst, OnOk, Option, Some, None, length, map, refl, ap, arith, sym}
+use Rattle.std.proofs.Common.{◌≡◌, ◌≢◌, ℕ, ℤ, pos, negsuc, ◌<ℤ◌, ◌+◌, ◌<◌, ◌≤◌, List, [], ◌∷◌, ◌++◌, All, Bool, true, false, cond, subst, OnOk, Option, Some, None, Result, Ok, length, map, refl, ap, arith, sym}
 use Rattle.std.specs.Prelude.{find, not, nat_lt, nat_le, int_lt, ◌||◌, ◌&&◌}
 use Rattle.std.proofs.lemmas.List.Elements.{All-cons, All-nil}
 use Rattle.std.proofs.lemmas.Int.{ints}
@@ -166,6 +166,11 @@ small_siding n siding few s = record {
 -- so have all sidings that are not refused
 pub small_sidings : (n : ℕ) (units : List (Class × List ℤ)) (sidings : List asked.Siding) → sidings_refusal n units [] sidings ≡ None → n ≤ 32 → All IsSmall sidings
 small_sidings n units sidings e few = λ k d within. small_siding n _ few (sidings_hold n units [] sidings e k d within)
+
+-- where a test answers that it passes there is no refusal
+pub none_told : (o : Option LayoutErr) (answer : Result (Unit {0}) LayoutErr) (u : Unit {0}) → answer ≡ told o → answer ≡ Ok u → o ≡ None
+none_told None answer u told_so passes = refl
+none_told (Some e) answer u told_so passes = cc
 
 -- so after an answer that lets them pass
 pub told_small : (n : ℕ) (units : List (Class × List ℤ)) (sidings : List asked.Siding) (o : Option LayoutErr) → sidings_refusal n units [] sidings ≡ o → n ≤ 32 → OnOk (told o) (All IsSmall sidings)

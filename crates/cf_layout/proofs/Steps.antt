@@ -1,5 +1,5 @@
 -- What the tests of a layout say, one step at a time.
-use Rattle.std.proofs.Common.{◌≡◌, ℕ, ℤ, ◌+◌, ◌<◌, List, [], ◌∷◌, All, Bool, true, false, sym, find, subst, arith, Option, Some, cond, length, get_or, take, drop, refl, add-one, drop-cons}
+use Rattle.std.proofs.Common.{◌≡◌, ℕ, ℤ, ◌+◌, ◌<◌, List, [], ◌∷◌, All, Bool, true, false, sym, find, subst, arith, Option, Some, None, cond, length, get_or, take, drop, refl, add-one, drop-cons}
 use Rattle.std.specs.Prelude.{◌||◌}
 use Rattle.std.proofs.Math.Seq.{take-suc}
 use Rattle.std.proofs.lemmas.List.Elements.{All-tail}
@@ -13,9 +13,17 @@ use Rattle.cf_layout.specs.Refusal.{siding_for, or_else, unit_refusal, units_ref
 pub units_step : (n : ℕ) (units : List (Class × List ℤ)) (i : ℕ) (d : Class × List ℤ) → i < length units → units_refusal n (take i units) (drop i units) ≡ or_else (unit_refusal n (take i units) (get_or units i d)) (units_refusal n (take (i + 1) units) (drop (i + 1) units))
 units_step n units i d within = rw (drop-cons units i d, add-one, take-suc units i d) refl
 
+-- a unit that is not refused is passed over
+pub units_on : (n : ℕ) (units : List (Class × List ℤ)) (i : ℕ) (unit : Class × List ℤ) → i < length units → unit ≡ get_or units i unit → unit_refusal n (take i units) unit ≡ None → units_refusal n (take (i + 1) units) (drop (i + 1) units) ≡ units_refusal n (take i units) (drop i units)
+units_on n units i unit within this passes = sym (rw (← this, passes) at (units_step n units i unit within))
+
 -- the sidings from one on likewise
 pub sidings_step : (n : ℕ) (units : List (Class × List ℤ)) (sidings : List Siding) (i : ℕ) (d : Siding) → i < length sidings → sidings_refusal n units (take i sidings) (drop i sidings) ≡ or_else (siding_refusal n units (take i sidings) (get_or sidings i d)) (sidings_refusal n units (take (i + 1) sidings) (drop (i + 1) sidings))
 sidings_step n units sidings i d within = rw (drop-cons sidings i d, add-one, take-suc sidings i d) refl
+
+-- and so is a siding
+pub sidings_on : (n : ℕ) (units : List (Class × List ℤ)) (sidings : List Siding) (i : ℕ) (siding : Siding) → i < length sidings → siding ≡ get_or sidings i siding → siding_refusal n units (take i sidings) siding ≡ None → sidings_refusal n units (take (i + 1) sidings) (drop (i + 1) sidings) ≡ sidings_refusal n units (take i sidings) (drop i sidings)
+sidings_on n units sidings i siding within this passes = sym (rw (← this, passes) at (sidings_step n units sidings i siding within))
 
 -- the first repeated class is the next one, or else one after it
 pub repeated_step : (elsewhere : Class → Bool) (classes : List Class) (i : ℕ) (d : Class) → i < length classes → first_repeated elsewhere (take i classes) (drop i classes) ≡ cond (elsewhere (get_or classes i d) || names (take i classes) (get_or classes i d)) (Some (get_or classes i d)) (first_repeated elsewhere (take (i + 1) classes) (drop (i + 1) classes))

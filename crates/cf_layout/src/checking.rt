@@ -5,7 +5,7 @@ ghost use Rattle.std.specs.Option.{option_copied};
 ghost use Rattle.cf_layout.specs.Asked.{plan_of, is_within, IsSmall, natural, is_unit, is_sided, is_asked, names, listed, ascending};
 ghost use Rattle.cf_layout.specs.Acceptable.{AreComputed, IsAcceptable};
 ghost use Rattle.cf_layout.specs.Causes.{IsCause};
-ghost use Rattle.cf_layout.specs.Refusal.{refusal, told, unless, outside, limits_refusal, unit_refusal, units_refusal, first_repeated, stages_refusal, classes_refusal, filled_refusal, siding_refusal, sidings_refusal, missing_refusal, memory_launch_in, siding_for, launch_in, turns_in, turn_refusal, control_refusal, needed_classes};
+ghost use Rattle.cf_layout.specs.Refusal.{refusal, told, limits_refusal, unit_refusal, units_refusal, first_repeated, stages_refusal, classes_refusal, filled_refusal, siding_refusal, sidings_refusal, missing_refusal, memory_launch_in, siding_for, launch_in, turns_in, turn_refusal, control_refusal, needed_classes};
 
 use crate::asked::{
     first_outside, is_asked, is_sided, is_unit, is_within, listed, names, natural, siding_for,
@@ -18,13 +18,6 @@ use rv_inst::Class;
 /// How many classes every processor computes: those at the front of class order, all but multiplication and division.
 const NEEDED: usize = 7;
 
-/// The refusal, unless the test holds.
-fn require(holds: bool, error: LayoutErr) -> Result<(), LayoutErr>
-    ensures { result ≡ told (unless holds error) }
-{
-    if holds { Ok(()) } else { Err(error) }
-}
-
 /// Tests how many stages, entries of the lane and sidings there are.
 #[tactic(auto, unfolding(crate::specs::Refusal::limits_refusal))]
 fn check_limits(parts: &Parts) -> Result<(), LayoutErr>
@@ -33,27 +26,18 @@ fn check_limits(parts: &Parts) -> Result<(), LayoutErr>
     ensures lane { OnOk result (is_within 2 64 parts.now.lane ≡ true) }
     ensures few { OnOk result (length parts.now.sidings ≤ 8) }
 {
-    let count = parts.sidings.as_slice().len();
-    let told = u32::try_from(count).unwrap_or(u32::MAX);
-    require(
-        is_within(2, 32, parts.stages),
-        LayoutErr::StagesOutOfRange(parts.stages),
-    )?;
-    require(
-        is_within(2, 64, parts.lane),
-        LayoutErr::LaneOutOfRange(parts.lane),
-    )?;
-    require(count <= 8, LayoutErr::TooManySidings(told))
-}
-
-/// Tests that the stages of a class are from 1 to `most`.
-fn check_stages(most: u32, class: Class, stages: &[i64]) -> Result<(), LayoutErr>
-    ensures { result ≡ told (outside class (find (λ stage. not (is_within 1 most stage)) stages.now)) }
-{
-    match first_outside(most, stages) {
-        Some(stage) => Err(LayoutErr::StageOutOfRange(class, *stage)),
-        None => Ok(()),
+    if !is_within(2, 32, parts.stages) {
+        return Err(LayoutErr::StagesOutOfRange(parts.stages));
     }
+    if !is_within(2, 64, parts.lane) {
+        return Err(LayoutErr::LaneOutOfRange(parts.lane));
+    }
+    let count = parts.sidings.as_slice().len();
+    if count > 8 {
+        let told = u32::try_from(count).unwrap_or(u32::MAX);
+        return Err(LayoutErr::TooManySidings(told));
+    }
+    Ok(())
 }
 
 /// Tests a unit, given the units before it.
@@ -67,10 +51,19 @@ fn check_unit(
 {
     let class = unit.0;
     let stages = unit.1.as_slice();
-    require(!is_same(class, Class::Memory), LayoutErr::MemoryNotSiding)?;
-    require(!stages.is_empty(), LayoutErr::EmptyUnit(class))?;
-    check_stages(most, class, stages)?;
-    require(!is_unit(before, class), LayoutErr::ClassTwice(class))
+    if is_same(class, Class::Memory) {
+        return Err(LayoutErr::MemoryNotSiding);
+    }
+    if stages.is_empty() {
+        return Err(LayoutErr::EmptyUnit(class));
+    }
+    if let Some(stage) = first_outside(most, stages) {
+        return Err(LayoutErr::StageOutOfRange(class, *stage));
+    }
+    if is_unit(before, class) {
+        return Err(LayoutErr::ClassTwice(class));
+    }
+    Ok(())
 }
 
 /// Tests each unit in order.
@@ -118,22 +111,19 @@ fn first_repeated(
 fn check_siding_stages(most: u32, siding: &Siding, first: Class) -> Result<(), LayoutErr>
     ensures { result ≡ told (stages_refusal most siding.now first) }
 {
-    require(
-        is_within(1, 8, siding.cells),
-        LayoutErr::CellsOutOfRange(siding.cells),
-    )?;
-    require(
-        is_within(1, most, siding.launch),
-        LayoutErr::StageOutOfRange(first, siding.launch),
-    )?;
-    require(
-        is_within(1, most, siding.recover),
-        LayoutErr::StageOutOfRange(first, siding.recover),
-    )?;
-    require(
-        siding.launch < siding.recover,
-        LayoutErr::SidingOrder(siding.launch, siding.recover),
-    )
+    if !is_within(1, 8, siding.cells) {
+        return Err(LayoutErr::CellsOutOfRange(siding.cells));
+    }
+    if !is_within(1, most, siding.launch) {
+        return Err(LayoutErr::StageOutOfRange(first, siding.launch));
+    }
+    if !is_within(1, most, siding.recover) {
+        return Err(LayoutErr::StageOutOfRange(first, siding.recover));
+    }
+    if siding.launch >= siding.recover {
+        return Err(LayoutErr::SidingOrder(siding.launch, siding.recover));
+    }
+    Ok(())
 }
 
 /// Tests the classes of a siding, given the units and the sidings before it.
@@ -148,10 +138,10 @@ fn check_siding_classes(
     if let Some(class) = first_repeated(units, before, classes) {
         return Err(LayoutErr::ClassTwice(class));
     }
-    require(
-        !(names(classes, Class::Memory) && classes.len() > 1),
-        LayoutErr::MemorySharesSiding,
-    )
+    if names(classes, Class::Memory) && classes.len() > 1 {
+        return Err(LayoutErr::MemorySharesSiding);
+    }
+    Ok(())
 }
 
 /// Tests a siding, given the units and the sidings before it.
@@ -224,8 +214,13 @@ fn check_missing(parts: &Parts) -> Result<(), LayoutErr>
     }
     let multiplies = is_asked(parts, Class::Mul);
     let divides = is_asked(parts, Class::Div);
-    require(multiplies || !divides, LayoutErr::MissingUnit(Class::Mul))?;
-    require(divides || !multiplies, LayoutErr::MissingUnit(Class::Div))
+    if divides && !multiplies {
+        return Err(LayoutErr::MissingUnit(Class::Mul));
+    }
+    if multiplies && !divides {
+        return Err(LayoutErr::MissingUnit(Class::Div));
+    }
+    Ok(())
 }
 
 /// The stage from which the siding launches.
@@ -309,23 +304,31 @@ fn count_stages(parts: &Parts) -> u32
     natural(parts.stages)
 }
 
+/// Makes all tests, in their order.
+#[tactic(auto, unfolding(crate::specs::Refusal::refusal))]
+fn check_all(parts: &Parts) -> Result<(), LayoutErr>
+    ensures { result ≡ told (refusal parts.now) }
+{
+    let units = parts.units.as_slice();
+    check_limits(parts)?;
+    let most = count_stages(parts);
+    check_units(most, units)?;
+    check_sidings(most, units, parts.sidings.as_slice())?;
+    check_missing(parts)?;
+    check_control(parts)
+}
+
 /// The layout that the parts describe, if they pass the tests, or else the first test that they fail.
-#[tactic(auto, using(crate::proofs::Acceptance::accepted), unfolding(crate::specs::Refusal::refusal))]
 fn lay_out(parts: &Parts) -> Result<Layout, LayoutErr>
     requires { AreComputed parts.now }
     ensures ok { IfOk result (λ layout. layout ≡ plan_of parts.now) }
     ensures not_refused { IfOk result (λ layout. refusal parts.now ≡ None) }
     ensures refused { IfErr result (λ error. refusal parts.now ≡ Some error) }
 {
-    let units = parts.units.as_slice();
-    let sidings = parts.sidings.as_slice();
-    check_limits(parts)?;
-    let most = count_stages(parts);
-    check_units(most, units)?;
-    check_sidings(most, units, sidings)?;
-    check_missing(parts)?;
-    check_control(parts)?;
-    Ok(Layout::lay(parts))
+    match check_all(parts) {
+        Ok(()) => Ok(Layout::lay(parts)),
+        Err(error) => Err(error),
+    }
 }
 
 /// The layout that the parts describe, if that is accepted, or else the first test that they fail.
