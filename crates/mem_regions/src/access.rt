@@ -14,7 +14,7 @@ use crate::numbers::number_of;
 use crate::region::Region;
 
 /// Why memory refuses an access.
-#[derive(Clone, Copy, Debug, PartialEq, Eq)]
+#[derive(Clone, Copy, PartialEq, Eq)]
 pub enum MemErr {
     /// The width does not divide the address.
     Misaligned,
