@@ -1,10 +1,11 @@
 -- What the tests of a table's entries say of the table.
-use Rattle.std.proofs.Common.{◌≡◌, ℕ, List, [], ◌∷◌, Bool, true, false, cond, Option, Some, None, find, length, refl, ap, ◌∙◌, String, Bor}
+use Rattle.std.proofs.Common.{◌≡◌, ℕ, ◌+◌, ◌<◌, List, [], ◌∷◌, Bool, true, false, cond, Option, Some, None, find, length, get_or, drop, drop-cons, add-one, refl, ap, ◌∙◌, String, Bor}
 use Rattle.std.specs.Prelude.{not, option_map, string_bytes}
 use Rattle.std.specs.Option.{option_copied}
 use Rattle.std.specs.List.{list_all}
 use Rattle.std.specs.Map.{keys_of}
 use Rattle.std.specs.Global.{Global}
+use Rattle.toml.specs.Data.{item}
 use Rattle.toml.specs.View.{view, items_view, members_view}
 use Rattle.toml.specs.declared.value.Value.{Value}
 use Rattle.layout_file.specs.declared.form.Form.{Form}
@@ -20,6 +21,10 @@ all_have_view s (v ∷ vs) = rw (all_have_view s vs)
 pub item_count_view : (vs : List Value) → item_count (items_view vs) ≡ length vs
 item_count_view [] = refl
 item_count_view (v ∷ vs) = rw (item_count_view vs)
+
+-- the elements from one on
+pub items_from : (vs : List Value) (i : ℕ) (v : Value) → i < length vs → v ≡ get_or vs i v → items_view (drop i vs) ≡ item (view v) (items_view (drop (i + 1) vs))
+items_from vs i v within this = rw (drop-cons vs i v, ← this, add-one) refl
 
 -- one step of the search for a key
 chosen : {A : Type 0} (f : A → List ℕ) (b : Bool) (k : A) (rest : Option A) (d : Option (List ℕ)) → option_map f rest ≡ d → option_map f (cond (not b) (Some k) rest) ≡ cond b d (Some (f k))
