@@ -34,6 +34,11 @@ bar_text bar.BadGuess = codes "BadGuess"
 bar_text bar.Dead = codes "Dead"
 bar_text bar.AlreadyDone = codes "AlreadyDone"
 
+-- the register of a source without a value, which the text of what bars a move ends with
+abbrev pub source_text : Bar → List ℕ
+source_text (bar.SourceMissing r) = register_name r
+source_text b = []
+
 -- why a line of a script is no move: the name
 unfoldable pub script_text : ScriptKind → List ℕ
 script_text script.UnknownMove = codes "UnknownMove"
