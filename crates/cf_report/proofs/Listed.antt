@@ -41,5 +41,3 @@ pub cells-few : (plan : Plan) (k : ℕ) → IsAccepted plan → k < length plan.
 unfolding cells_of
 cells-few plan k a below =
     subst (λ (siding : SidingPlan). siding.cells ≤ 8) (sym (unwrap_or-slice_get plan.sidings k no_siding)) (a.sidings k no_siding below).cells.1
-
-pub ruleset few = (cells-few)

@@ -37,7 +37,6 @@ fn put_stages<R: Sink>(core: &Core, report: &mut R) -> Result<(), Failed>
 }
 
 /// Puts the sidings.
-#[tactic(auto, using(crate::proofs::Listed::few))]
 fn put_sidings<R: Sink>(core: &Core, report: &mut R) -> Result<(), Failed>
     ensures { PutsText (R.written report.old) (R.written report.new)
         (R.faults report.old) (R.faults report.new) (siding_lines 0 core.now.state.sidings) result }
