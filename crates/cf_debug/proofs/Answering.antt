@@ -21,7 +21,7 @@ use Rattle.cf_debug.specs.declared.answer.Broken.TheVariants as broken
 use Rattle.cf_debug.specs.declared.answer.Debugged.{Debugged}
 use Rattle.cf_debug.specs.declared.answer.Debugged.TheVariants.{Done, Limit, ReadFault, WriteFault, ReportFault}
 use Rattle.cf_debug.specs.declared.command.Command.{Command}
-use Rattle.cf_debug.specs.declared.command.Command.TheVariants.{Nothing, Move, Auto, Show, Registers, Memory, Break, Bound, Back, End}
+use Rattle.cf_debug.specs.declared.command.Command.TheVariants.{Nothing, Move, Auto, Show, Break, Back, End}
 use Rattle.cf_debug.specs.declared.command.Refusal.{Refusal}
 use Rattle.cf_debug.specs.Commands.{command_in}
 use Rattle.cf_debug.specs.Driving.{Turn, Takes, Passes, Pauses, Drives, first_turn, next_turn}
@@ -157,15 +157,20 @@ ended-report before now (Err broken.Output) end is h = subst (λ (e : Option Deb
 ended-report before now (Err broken.Report) end is h = subst (λ (e : Option Debugged). HasCause before now (report_ended e)) (sym is) h
 
 -- a refusal was put, or failed
-pub ends-refused : {E : Type 0} (line : List ℕ) (refusal : Refusal) (now : Desk) (written after : Option (List ℕ)) (i j : ℕ) (done : Unit {0}) → command_in line ≡ Err refusal → PutsText {E = E} written after i j (refused_line (refusal_text refusal)) (Ok done) → Ends line now now written after None
+ends_refused : {E : Type 0} (line : List ℕ) (refusal : Refusal) (now : Desk) (written after : Option (List ℕ)) (i j : ℕ) (done : Unit {0}) → command_in line ≡ Err refusal → PutsText {E = E} written after i j (refused_line (refusal_text refusal)) (Ok done) → Ends line now now written after None
 unfolding Ends Answers
-ends-refused line refusal now written after i j done is put =
+ends_refused line refusal now written after i j done is put =
     (refused_line (refusal_text refusal), subst (λ (told : Result Command Refusal). Answers told now now (refused_line (refusal_text refusal))) (sym is) (refl, refl), put.all)
 
-pub ends-unrefused : {T E : Type 0} (line : List ℕ) (refusal : Refusal) (now : Desk) (written after : Option (List ℕ)) (i j : ℕ) (failed : E) → command_in line ≡ Err refusal → PutsText {T = T} written after i j (refused_line (refusal_text refusal)) (Err failed) → Ends line now now written after (Some ReportFault)
+ends_unrefused : {T E : Type 0} (line : List ℕ) (refusal : Refusal) (now : Desk) (written after : Option (List ℕ)) (i j : ℕ) (failed : E) → command_in line ≡ Err refusal → PutsText {T = T} written after i j (refused_line (refusal_text refusal)) (Err failed) → Ends line now now written after (Some ReportFault)
 unfolding Ends AnswersPart
-ends-unrefused line refusal now written after i j failed is put =
+ends_unrefused line refusal now written after i j failed is put =
     (refused_line (refusal_text refusal), subst (λ (told : Result Command Refusal). AnswersPart told now now (refused_line (refusal_text refusal))) (sym is) (refl, refl), put.front)
+
+-- so in the words of the session
+pub ends-refusal : (line : List ℕ) (refusal : Refusal) (now : Desk) (written after : Option (List ℕ)) (i j : ℕ) (answer : Result (Unit {0}) Failed) (told : Result (Unit {0}) Broken) (end : Option Debugged) → end ≡ ended_by told → told ≡ of_report answer → command_in line ≡ Err refusal → PutsText written after i j (refused_line (refusal_text refusal)) answer → Ends line now now written after end
+ends-refusal line refusal now written after i j (Ok done) told end ends told_is is put = rw (ends, told_is) (ends_refused line refusal now written after i j done is put)
+ends-refusal line refusal now written after i j (Err failed) told end ends told_is is put = rw (ends, told_is) (ends_unrefused line refusal now written after i j failed is put)
 
 -- a line that tells the same ends the session in the same way
 pub ends-same : (line other : List ℕ) (now new : Desk) (written after : Option (List ℕ)) (answer : Option Debugged) → command_in line ≡ command_in other → Ends line now new written after answer → Ends other now new written after answer
@@ -215,11 +220,8 @@ carries_stand start (Move mv) now new text h (same, inr (inr (below, (e, makes, 
 carries_stand start (Auto n) now new text h (same, inl (spent, r)) = same_stands start now.bench new.bench h r.0
 carries_stand start (Auto n) now new text h (same, inr (below, (count, lines, d, is))) =
     pauses_stand start n now.stop (length d.trace) d.at d.now new.bench d.last (passes_stand start now.stop first_turn d.at now.bench d.now d.trace h d.passes) d.pauses
-carries_stand start Show now new text h c = bench_same start now new h c.0
-carries_stand start Registers now new text h c = bench_same start now new h c.0
-carries_stand start (Memory address len) now new text h c = bench_same start now new h c.0
+carries_stand start (Show view) now new text h c = bench_same start now new h c.0
 carries_stand start (Break stop) now new text h c = same_stands start now.bench new.bench h (ap (λ (d : Desk). d.bench) c.0)
-carries_stand start Bound now new text h c = bench_same start now new h c.0
 carries_stand start Back now new text h (same, inl (none, r)) = same_stands start now.bench new.bench h r.0
 carries_stand start Back now new text h (same, inr (older, k, there, is, t)) =
     let before : Stands start now.bench.core (older ++ k ∷ []) = subst (Stands start now.bench.core) there h in

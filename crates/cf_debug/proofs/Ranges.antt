@@ -9,10 +9,11 @@ use Rattle.cf_scripts.specs.MoveLines.{move_in}
 use Rattle.cf_scripts.specs.Words.{words_of, first_word, first_number}
 use Rattle.cf_bind.specs.declared.moves.Move.{Move as AnyMove}
 use Rattle.cf_debug.specs.declared.command.Command.{Command}
-use Rattle.cf_debug.specs.declared.command.Command.TheVariants.{Nothing, Auto, Show, Registers, Memory, Break, Bound, Back, End}
+use Rattle.cf_debug.specs.declared.command.Command.TheVariants.{Nothing, Auto, Show, Break, Back, End}
+use Rattle.cf_debug.specs.declared.command.View.TheVariants.{Picture, Registers, Memory, Bound}
 use Rattle.cf_debug.specs.declared.command.Refusal.{Refusal}
 use Rattle.cf_debug.specs.declared.command.Refusal.TheVariants.{TooLong, UnknownCommand, BadNumber, ExtraWords}
-use Rattle.cf_debug.specs.Commands.{AsksFew, address_told, alone, and_then, auto_told, break_told, command_in, command_named, memory_told, move_told, number_told, stop_told, within}
+use Rattle.cf_debug.specs.Commands.{AsksFew, address_told, alone, and_then, auto_told, break_told, command_in, command_named, lone_command, lone_told, memory_told, move_told, number_told, stop_told, within}
 
 -- what is told, if anything is, asks for few
 abbrev Few : Result Command Refusal → Type 0
@@ -51,7 +52,7 @@ unfolding memory_told number_told
 memory_few words =
     then_few (address_told (first_word words)) _ (λ address told.
     then_few (number_told 16 (drop 1 words)) _ (λ len is.
-    alone_few (drop 1 (drop 1 words)) (Memory address len) (within_most 16 (first_number (drop 1 words)) len is)))
+    alone_few (drop 1 (drop 1 words)) (Show (Memory address len)) (within_most 16 (first_number (drop 1 words)) len is)))
 
 auto_few : (words : List (List ℕ)) → Few (auto_told words)
 unfolding auto_told
@@ -61,19 +62,37 @@ stop_few : (words : List (List ℕ)) → Few (stop_told words)
 unfolding stop_told
 stop_few words = then_few (break_told (first_word words)) _ (λ stop is. alone_few (drop 1 words) (Break stop) tt)
 
+-- a command that may be missing, which asks for few where it is there
+abbrev LoneFew : Option Command → Type 0
+LoneFew None = Unit {0}
+LoneFew (Some command) = AsksFew command
+
+lone_pick : (b : Bool) (command : Command) (other : Option Command) → AsksFew command → LoneFew other → LoneFew (if b then Some command else other)
+lone_pick true command other few rest = few
+lone_pick false command other few rest = rest
+
+lone_few : (name : List ℕ) → LoneFew (lone_command name)
+unfolding lone_command
+lone_few name =
+    lone_pick (bytes_eq name (codes "show")) (Show Picture) _ tt
+    (lone_pick (bytes_eq name (codes "regs")) (Show Registers) _ tt
+    (lone_pick (bytes_eq name (codes "bound")) (Show Bound) _ tt
+    (lone_pick (bytes_eq name (codes "back")) Back _ tt
+    (lone_pick (bytes_eq name (codes "end")) End None tt tt))))
+
+lone_told_few : (told : Option Command) (words : List (List ℕ)) → LoneFew told → Few (lone_told told words)
+lone_told_few None words few = tt
+lone_told_few (Some command) words few = alone_few words command few
+
 named_few : (name behind : List ℕ) → Few (command_named name behind)
 unfolding command_named
 named_few name behind =
     pick (bytes_eq name (codes "")) (Ok Nothing) _ tt
     (pick (bytes_eq name (codes "move")) (move_told (move_in behind)) _ (move_few (move_in behind))
     (pick (bytes_eq name (codes "auto")) (auto_told (words_of behind)) _ (auto_few (words_of behind))
-    (pick (bytes_eq name (codes "show")) (alone (words_of behind) Show) _ (alone_few (words_of behind) Show tt)
-    (pick (bytes_eq name (codes "regs")) (alone (words_of behind) Registers) _ (alone_few (words_of behind) Registers tt)
     (pick (bytes_eq name (codes "mem")) (memory_told (words_of behind)) _ (memory_few (words_of behind))
     (pick (bytes_eq name (codes "break")) (stop_told (words_of behind)) _ (stop_few (words_of behind))
-    (pick (bytes_eq name (codes "bound")) (alone (words_of behind) Bound) _ (alone_few (words_of behind) Bound tt)
-    (pick (bytes_eq name (codes "back")) (alone (words_of behind) Back) _ (alone_few (words_of behind) Back tt)
-    (pick (bytes_eq name (codes "end")) (alone (words_of behind) End) (Err UnknownCommand) (alone_few (words_of behind) End tt) tt)))))))))
+    (lone_told_few (lone_command name) (words_of behind) (lone_few name))))))
 
 -- a command that a line tells asks for few
 pub few-told : (line : List ℕ) (command : Command) → command_in line ≡ Ok command → AsksFew command

@@ -7,7 +7,9 @@ use Rattle.cf_scripts.specs.declared.refusal.ScriptKind.{ScriptKind}
 use Rattle.cf_scripts.specs.MoveLines.{move_in}
 use Rattle.cf_scripts.specs.Words.{words_of, first_word, first_number, address_in}
 use Rattle.cf_debug.specs.declared.command.Command.{Command}
-use Rattle.cf_debug.specs.declared.command.Command.TheVariants.{Nothing, Move, Auto, Show, Registers, Memory, Break, Bound, Back, End}
+use Rattle.cf_debug.specs.declared.command.Command.TheVariants.{Nothing, Move, Auto, Show, Break, Back, End}
+use Rattle.cf_debug.specs.declared.command.View.{View}
+use Rattle.cf_debug.specs.declared.command.View.TheVariants.{Picture, Registers, Memory, Bound}
 use Rattle.cf_debug.specs.declared.command.Refusal.{Refusal}
 use Rattle.cf_debug.specs.declared.command.Refusal.TheVariants.{TooLong, UnknownCommand, BadNumber, ExtraWords, Script}
 use Rattle.cf_debug.specs.Limits.{longest_line, most_moves}
@@ -57,11 +59,26 @@ unfoldable pub memory_told : List (List ℕ) → Result Command Refusal
 memory_told words =
     and_then (address_told (first_word words)) (λ address.
     and_then (number_told 16 (drop 1 words)) (λ len.
-    alone (drop 1 (drop 1 words)) (Memory address len)))
+    alone (drop 1 (drop 1 words)) (Show (Memory address len))))
 
 -- where to break
 unfoldable pub stop_told : List (List ℕ) → Result Command Refusal
 stop_told words = and_then (break_told (first_word words)) (λ stop. alone (drop 1 words) (Break stop))
+
+-- the command of this name, if it is one after which no word may follow
+unfoldable pub lone_command : List ℕ → Option Command
+lone_command name =
+    if bytes_eq name (codes "show") then Some (Show Picture)
+    else if bytes_eq name (codes "regs") then Some (Show Registers)
+    else if bytes_eq name (codes "bound") then Some (Show Bound)
+    else if bytes_eq name (codes "back") then Some Back
+    else if bytes_eq name (codes "end") then Some End
+    else None
+
+-- such a command, or that there is none of the name
+abbrev pub lone_told : Option Command → List (List ℕ) → Result Command Refusal
+lone_told None words = Err UnknownCommand
+lone_told (Some command) words = alone words command
 
 -- the command of this name, with the text after it
 unfoldable pub command_named : List ℕ → List ℕ → Result Command Refusal
@@ -69,14 +86,9 @@ command_named name behind =
     if bytes_eq name (codes "") then Ok Nothing
     else if bytes_eq name (codes "move") then move_told (move_in behind)
     else if bytes_eq name (codes "auto") then auto_told (words_of behind)
-    else if bytes_eq name (codes "show") then alone (words_of behind) Show
-    else if bytes_eq name (codes "regs") then alone (words_of behind) Registers
     else if bytes_eq name (codes "mem") then memory_told (words_of behind)
     else if bytes_eq name (codes "break") then stop_told (words_of behind)
-    else if bytes_eq name (codes "bound") then alone (words_of behind) Bound
-    else if bytes_eq name (codes "back") then alone (words_of behind) Back
-    else if bytes_eq name (codes "end") then alone (words_of behind) End
-    else Err UnknownCommand
+    else lone_told (lone_command name) (words_of behind)
 
 -- what a line tells, or the first refusal
 unfoldable pub command_in : List ℕ → Result Command Refusal
@@ -84,7 +96,12 @@ command_in line =
     if nat_lt longest_line (length line) then Err TooLong
     else command_named (name_part line) (operand_part line)
 
+-- of memory at most 16 bytes are shown
+abbrev pub ShowsFew : View → Type 0
+ShowsFew (Memory address len) = len ≤ 16
+ShowsFew view = Unit {0}
+
 -- a command asks for at most 16 bytes of memory
 abbrev pub AsksFew : Command → Type 0
-AsksFew (Memory address len) = len ≤ 16
+AsksFew (Show view) = ShowsFew view
 AsksFew command = Unit {0}

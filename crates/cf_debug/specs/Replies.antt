@@ -9,7 +9,7 @@ use Rattle.cf_semantics.specs.declared.event.Event.{Event}
 use Rattle.cf_semantics.specs.moves.Bars.{bar}
 use Rattle.cf_semantics.specs.moves.Kept.{Kept, restored}
 use Rattle.cf_semantics.specs.claims.Weight.{weight}
-use Rattle.cf_core.specs.Processors.{in_state}
+use Rattle.cf_core.specs.Processors.{Processor, in_state}
 use Rattle.digits.specs.Hexadecimal.{hex8}
 use Rattle.cf_texts.specs.Texts.{line, counted_line}
 use Rattle.cf_report.specs.Lines.{registers_text}
@@ -17,8 +17,10 @@ use Rattle.cf_report.specs.Picture.{picture}
 use Rattle.cf_closing.specs.Lines.{bar_text, script_text}
 use Rattle.cf_run.specs.Made.{retirement}
 use Rattle.cf_debug.specs.declared.command.Command.{Command}
-use Rattle.cf_debug.specs.declared.command.Command.TheVariants.{Nothing, Move, Auto, Show, Registers, Memory, Break, Bound, Back, End}
+use Rattle.cf_debug.specs.declared.command.Command.TheVariants.{Nothing, Move, Auto, Show, Break, Back, End}
 use Rattle.cf_debug.specs.declared.command.Refusal.{Refusal}
+use Rattle.cf_debug.specs.declared.command.View.{View}
+use Rattle.cf_debug.specs.declared.command.View.TheVariants.{Picture, Registers, Memory, Bound}
 use Rattle.cf_debug.specs.declared.command.Refusal.TheVariants.{TooLong, UnknownCommand, BadNumber, ExtraWords, Script}
 use Rattle.cf_debug.specs.Commands.{command_in}
 use Rattle.cf_debug.specs.Driving.{Drives, DrivesOn, DrivesAground}
@@ -107,16 +109,20 @@ TakesBack now new text =
 abbrev pub Shows : (now new : Desk) → (text told : List ℕ) → Type 0
 Shows now new text told = (new ≡ now) × (text ≡ told)
 
+-- what is shown of a processor
+unfoldable pub shown : Processor → View → List ℕ
+shown core Picture = picture core.plan core.state
+shown core Registers = registers_text core.state.regs
+shown core (Memory address len) = memory_text address (range_of core.state.mem address len)
+shown core Bound = counted_line (codes "bound ") (weight core.plan core.state)
+
 -- the table
 unfoldable pub Carries : Command → (now new : Desk) → List ℕ → Type 0
 Carries Nothing now new text = Shows now new text []
 Carries (Move mv) now new text = (new.stop ≡ now.stop) × Moves mv now.bench new.bench text
 Carries (Auto n) now new text = (new.stop ≡ now.stop) × Automates n now.stop now.bench new.bench text
-Carries Show now new text = Shows now new text (picture now.bench.core.plan now.bench.core.state)
-Carries Registers now new text = Shows now new text (registers_text now.bench.core.state.regs)
-Carries (Memory address len) now new text = Shows now new text (memory_text address (range_of now.bench.core.state.mem address len))
+Carries (Show view) now new text = Shows now new text (shown now.bench.core view)
 Carries (Break stop) now new text = (new ≡ desk_of now.bench stop) × (text ≡ break_text stop)
-Carries Bound now new text = Shows now new text (counted_line (codes "bound ") (weight now.bench.core.plan now.bench.core.state))
 Carries Back now new text = (new.stop ≡ now.stop) × TakesBack now.bench new.bench text
 Carries End now new text = Shows now new text []
 

@@ -20,7 +20,7 @@ pub enum Debugged {
 }
 
 /// What failed a command.
-#[derive(Clone, Copy, PartialEq, Eq)]
+#[derive(Clone, Copy)]
 pub(crate) enum Broken {
     /// The output failed in a call of the environment.
     Output,

@@ -4,15 +4,15 @@ ghost use Rattle.std.specs.Prelude.{◌≡◌, None};
 ghost use Rattle.cf_io.specs.Causes.{HasCause};
 ghost use Rattle.cf_report.specs.Putting.{PutsText};
 ghost use Rattle.cf_debug.specs.declared.command.Command.TheVariants as commands;
-ghost use Rattle.cf_debug.specs.Commands.{AsksFew};
+ghost use Rattle.cf_debug.specs.Commands.{AsksFew, ShowsFew};
 ghost use Rattle.cf_debug.specs.Lending.{desk_left, desk_lent};
 ghost use Rattle.cf_debug.specs.Making.{bench_of};
 ghost use Rattle.cf_debug.specs.Outcomes.{CarriesOut, PutsBack, of_report, output_broken, report_broken};
-ghost use Rattle.cf_debug.specs.Replies.{break_text};
+ghost use Rattle.cf_debug.specs.Replies.{break_text, shown};
 ghost use Rattle.cf_debug.specs.Standing.{StandsSomewhere};
 
 use crate::answer::Broken;
-use crate::command::Command;
+use crate::command::{Command, View};
 use crate::desk::Desk;
 use crate::driving::{drive, is_spent};
 use crate::making::make;
@@ -24,7 +24,7 @@ use cf_io::{Failed, Sink};
 use cf_report::{put_picture, put_registers};
 
 /// Only the report can fail a command that makes no move.
-fn told(answer: Result<(), Failed>) -> Result<(), Broken>
+pub(crate) fn told(answer: Result<(), Failed>) -> Result<(), Broken>
     ensures { result ≡ of_report answer }
 {
     match answer {
@@ -115,6 +115,21 @@ fn carry_break<R: Sink>(
     put_break(address, report)
 }
 
+/// Puts what is shown of the processor.
+#[tactic(auto, unfolding(crate::specs::Replies::shown))]
+fn show<R: Sink>(view: View, core: &Core, report: &mut R) -> Result<(), Failed>
+    requires { ShowsFew view }
+    ensures { PutsText (R.written report.old) (R.written report.new) (R.faults report.old) (R.faults report.new)
+        (shown core.now view) result }
+{
+    match view {
+        View::Picture => put_picture(core, report),
+        View::Registers => put_registers(core.regs(), report),
+        View::Memory(address, len) => put_memory(core, address, len, report),
+        View::Bound => put_counted(b"bound ", core.bound(), report),
+    }
+}
+
 /// Carries a command out.
 pub(crate) fn carry_out<K: Sink, R: Sink>(
     command: Command,
@@ -134,11 +149,8 @@ pub(crate) fn carry_out<K: Sink, R: Sink>(
         Command::Nothing => Ok(()),
         Command::Move(mv) => carry_move(mv, desk, output, report),
         Command::Auto(count) => carry_auto(count, desk, output, report),
-        Command::Show => told(put_picture(desk.core, report)),
-        Command::Registers => told(put_registers(desk.core.regs(), report)),
-        Command::Memory(address, len) => told(put_memory(desk.core, address, len, report)),
+        Command::Show(view) => told(show(view, desk.core, report)),
         Command::Break(address) => told(carry_break(address, desk.stop, report)),
-        Command::Bound => told(put_counted(b"bound ", desk.core.bound(), report)),
         Command::Back => {
             let Desk { core, ring, .. } = desk;
             told(carry_back(core, ring, report))

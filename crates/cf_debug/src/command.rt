@@ -4,7 +4,7 @@ use cf_bind::Move as AnyMove;
 use cf_scripts::ScriptKind;
 
 /// A command of the debugger.
-#[derive(Clone, Copy, PartialEq, Eq)]
+#[derive(Clone, Copy)]
 pub(crate) enum Command {
     /// A line without words.
     Nothing,
@@ -15,20 +15,11 @@ pub(crate) enum Command {
     /// Makes at most this many moves in turn.
     Auto(u32),
 
-    /// Shows the picture of the processor.
-    Show,
-
-    /// Shows the registers.
-    Registers,
-
-    /// Shows this many bytes of memory, from an address on.
-    Memory(u32, u32),
+    /// Shows something of the processor.
+    Show(View),
 
     /// Sets the address at which `auto` stops, or that it stops at none.
     Break(Option<u32>),
-
-    /// Shows the weight of what stands in the processor.
-    Bound,
 
     /// Takes the last move back.
     Back,
@@ -37,8 +28,24 @@ pub(crate) enum Command {
     End,
 }
 
+/// What a command shows of the processor.
+#[derive(Clone, Copy)]
+pub(crate) enum View {
+    /// Its picture.
+    Picture,
+
+    /// Its registers.
+    Registers,
+
+    /// This many bytes of memory, from an address on.
+    Memory(u32, u32),
+
+    /// The weight of what stands in it.
+    Bound,
+}
+
 /// Why a line is no command, in the order in which it is tested.
-#[derive(Clone, Copy, PartialEq, Eq)]
+#[derive(Clone, Copy)]
 pub(crate) enum Refusal {
     /// The line has more than 256 bytes.
     TooLong,

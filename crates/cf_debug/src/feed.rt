@@ -14,7 +14,7 @@ use std::marker::Model;
 const MOST_BYTES: usize = 16_777_216;
 
 /// What comes next of the commands.
-#[derive(Clone, Copy, PartialEq, Eq)]
+#[derive(Clone, Copy)]
 pub(crate) enum Next {
     /// A byte.
     Byte(u8),
@@ -89,11 +89,15 @@ impl Feed {
         ensures cause { HasCause (S.faults commands.old) (S.faults commands.new) result }
     {
         let room = self.left.min(4096);
-        let count = commands.take(&mut self.piece[..room])?;
-        self.at = 0;
-        self.end = count;
-        self.left -= count;
-        Ok(count)
+        match commands.take(&mut self.piece[..room]) {
+            Ok(count) => {
+                self.at = 0;
+                self.end = count;
+                self.left -= count;
+                Ok(count)
+            }
+            Err(failed) => Err(failed),
+        }
     }
 
     /// The next byte that was taken.

@@ -2,9 +2,10 @@
 
 ghost use Rattle.std.specs.Prelude.{◌≡◌, drop};
 ghost use Rattle.cf_scripts.specs.MoveLines.{move_in};
-ghost use Rattle.cf_debug.specs.Commands.{address_told, alone, auto_told, break_told, command_in, command_named, memory_told, move_told, number_told, stop_told};
+ghost use Rattle.cf_scripts.specs.Words.{words_of};
+ghost use Rattle.cf_debug.specs.Commands.{address_told, alone, auto_told, break_told, command_in, command_named, lone_command, lone_told, memory_told, move_told, number_told, stop_told};
 
-use crate::command::{Command, Refusal};
+use crate::command::{Command, Refusal, View};
 use cf_scripts::{Words, read_move};
 use rv_text::{numeral, split_name};
 
@@ -81,7 +82,7 @@ fn read_memory(mut words: Words<'_>) -> Result<Command, Refusal>
 {
     let start = address(words.next())?;
     let len = number(&mut words, 16)?;
-    alone(&words, Command::Memory(start, len))
+    alone(&words, Command::Show(View::Memory(start, len)))
 }
 
 /// An address, or `none`.
@@ -105,6 +106,36 @@ fn read_break(mut words: Words<'_>) -> Result<Command, Refusal>
     alone(&words, Command::Break(stop))
 }
 
+/// The command of this name, if it is one after which no word may follow.
+#[tactic(auto, unfolding(crate::specs::Commands::lone_command))]
+fn lone_command(name: &[u8]) -> Option<Command>
+    ensures { result ≡ lone_command name.now }
+{
+    if name == b"show".as_slice() {
+        Some(Command::Show(View::Picture))
+    } else if name == b"regs".as_slice() {
+        Some(Command::Show(View::Registers))
+    } else if name == b"bound".as_slice() {
+        Some(Command::Show(View::Bound))
+    } else if name == b"back".as_slice() {
+        Some(Command::Back)
+    } else if name == b"end".as_slice() {
+        Some(Command::End)
+    } else {
+        None
+    }
+}
+
+/// A command after which no word may follow, with the text after its name.
+fn read_lone(name: &[u8], behind: &[u8]) -> Result<Command, Refusal>
+    ensures { result ≡ lone_told (lone_command name.now) (words_of behind.now) }
+{
+    match lone_command(name) {
+        Some(command) => alone(&Words::of(behind), command),
+        None => Err(Refusal::UnknownCommand),
+    }
+}
+
 /// The command of a name, with the text after it.
 #[tactic(auto, unfolding(crate::specs::Commands::command_named))]
 fn read_named(name: &[u8], behind: &[u8]) -> Result<Command, Refusal>
@@ -116,22 +147,12 @@ fn read_named(name: &[u8], behind: &[u8]) -> Result<Command, Refusal>
         read_moves(behind)
     } else if name == b"auto".as_slice() {
         read_auto(Words::of(behind))
-    } else if name == b"show".as_slice() {
-        alone(&Words::of(behind), Command::Show)
-    } else if name == b"regs".as_slice() {
-        alone(&Words::of(behind), Command::Registers)
     } else if name == b"mem".as_slice() {
         read_memory(Words::of(behind))
     } else if name == b"break".as_slice() {
         read_break(Words::of(behind))
-    } else if name == b"bound".as_slice() {
-        alone(&Words::of(behind), Command::Bound)
-    } else if name == b"back".as_slice() {
-        alone(&Words::of(behind), Command::Back)
-    } else if name == b"end".as_slice() {
-        alone(&Words::of(behind), Command::End)
     } else {
-        Err(Refusal::UnknownCommand)
+        read_lone(name, behind)
     }
 }
 

@@ -12,7 +12,7 @@ ghost use Rattle.cf_debug.specs.Sessions.{Debugs, Ends, Finishes, StaysOnRun, Us
 ghost use Rattle.cf_debug.specs.Standing.{StandsSomewhere};
 
 use crate::answer::{Broken, Debugged};
-use crate::carrying::carry_out;
+use crate::carrying::{carry_out, told};
 use crate::command::Command;
 use crate::desk::Desk;
 use crate::feed::{Feed, Next};
@@ -65,10 +65,7 @@ fn answer_line<K: Sink, R: Sink>(
             }
             ended(carry_out(command, desk, output, report))
         }
-        Err(refusal) => match refuse_line(refusal, report) {
-            Ok(()) => None,
-            Err(_) => Some(Debugged::ReportFault),
-        },
+        Err(refusal) => ended(told(refuse_line(refusal, report))),
     }
 }
 

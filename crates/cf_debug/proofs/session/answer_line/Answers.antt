@@ -1,7 +1,7 @@
 use Rattle.std.proofs.Common.{refl, sym, ap, ◌∙◌}
 use Rattle.std.specs.Prelude.{Ok}
 use Rattle.cf_debug.specs.Sessions.{Ends}
-use Rattle.cf_debug.proofs.Answering.{ends-refused, ends-told, ends-unrefused}
+use Rattle.cf_debug.proofs.Answering.{ends-refusal, ends-told}
 use Rattle.cf_debug.proofs.Ranges.{few-told}
 use Rattle.cf_debug.proofs.session.answer_line.Goals as goal
 
@@ -15,8 +15,5 @@ carry_out-requires-clause-few g c = few-told _ _ (sym c.read_command.ensures ∙
 pub returns-else-is_end-clause-ends : goal.returns-else-is_end-clause-ends
 returns-else-is_end-clause-ends g c = ends-told _ _ _ _ _ _ _ _ c.ended.ensures (sym c.read_command.ensures ∙ c.in-Ok.is) (c.is_end.ensures.no c.if-is_end.false) c.carry_out.ensures.carries
 
-pub returns-in-Ok-refuse_line-clause-ends : goal.returns-in-Ok-refuse_line-clause-ends
-returns-in-Ok-refuse_line-clause-ends g c = ends-refused _ _ _ _ _ _ _ _ (sym c.read_command.ensures ∙ c.in-Err.is) c.in-Ok-refuse_line.ensures
-
-pub returns-in-Err-refuse_line-clause-ends : goal.returns-in-Err-refuse_line-clause-ends
-returns-in-Err-refuse_line-clause-ends g c = ends-unrefused _ _ _ _ _ _ _ _ (sym c.read_command.ensures ∙ c.in-Err.is) c.in-Err-refuse_line.ensures
+pub returns-in-Err-clause-ends : goal.returns-in-Err-clause-ends
+returns-in-Err-clause-ends g c = ends-refusal _ _ _ _ _ _ _ _ _ _ c.ended-in-Err.ensures c.told.ensures (sym c.read_command.ensures ∙ c.in-Err.is) c.refuse_line.ensures
