@@ -20,8 +20,7 @@ use Rattle.cf_semantics.specs.state.Passengers.{kind}
 use Rattle.cf_semantics.specs.state.State.{State, cell_at, siding_at}
 use Rattle.cf_core.specs.Processors.{IsOp, IsProcessor}
 use Rattle.cf_core.proofs.Berths.{length-siding}
-use Rattle.cf_core.proofs.Ported.{last-all, memory-port, port-cells, siding-cells}
-use Rattle.cf_core.proofs.Sites.{port-number, slide-number}
+use Rattle.cf_core.proofs.Ported.{last-all, memory-port, siding-cells}
 use Rattle.cf_core.proofs.Weights.{few-cells}
 
 -- of a slide: both of its cells; a siding has few
@@ -49,8 +48,6 @@ there-number plan s i k h e = (there_siding plan s k (cell_at s.cells i) h (sym 
 
 pub there-cells : (plan : Plan) (s : State) (i k : ℕ) → IsProcessor plan s → Some k ≡ siding_there plan s i → 0 < length (siding_at s k)
 there-cells plan s i k h e = (there_siding plan s k (cell_at s.cells i) h (sym e)).1
-
-pub ruleset cells = (slide-cells, slide-few, slide-number, port-number, port-cells, there-number, there-cells)
 
 -- the operation at the end of Memory's siding
 op_is_memory : (plan : Plan) (s : State) (op : Op) → IsProcessor plan s → siding_of plan (class_of op.instr) ≡ Some (port plan) → class_of op.instr ≡ MemoryClass

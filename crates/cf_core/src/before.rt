@@ -76,7 +76,6 @@ impl Processor {
     }
 
     /// What stands in the cells of sidings that the move writes.
-    #[tactic(auto, using(crate::proofs::OldOps::cells))]
     fn old_ops(&self, m: Move) -> Few<OldOp>
         requires facts { IsProcessor self.now.plan self.now.state }
         requires allowed { row_bar self.now.plan self.now.state m ≡ None }
