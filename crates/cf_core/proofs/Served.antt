@@ -28,7 +28,8 @@ use Rattle.cf_core.specs.Processors.{Processor, in_state}
 use Rattle.cf_core.proofs.Exits.{exit-any_rest}
 use Rattle.cf_core.proofs.Quiet.{with_rest, still-makes}
 use Rattle.cf_core.specs.declared.fault.Fault.{Fault}
-use Rattle.cf_core.specs.Stepping.{Makes, CallsHere, ServesOrFails, taken, told_of, with_memory, synchronized}
+use Rattle.cf_core.specs.Places.{with_memory}
+use Rattle.cf_core.specs.Stepping.{Makes, CallsHere, ServesOrFails, taken, told_of, synchronized}
 
 -- the instruction in a stage has its place
 record Place (s : State) (i : ℕ) (p : Passenger) : Type 0 where

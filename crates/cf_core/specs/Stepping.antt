@@ -1,6 +1,5 @@
 -- What a step of a processor answers and leaves ("Counterflow Pipeline Processor Architecture", 1994: every change is one local action).
 use Rattle.std.specs.Prelude.{◌≡◌, ℕ, List, [], Some, None, true, Result, Ok, Err}
-use Rattle.mem_regions.specs.Memory.{Memory}
 use Rattle.mem_regions.specs.Fetching.{synced}
 use Rattle.rv_inst.specs.declared.instruction.Instr.TheVariants.{Ecall}
 use Rattle.rv_machine.specs.declared.outcome.Served.{Served}
@@ -19,6 +18,7 @@ use Rattle.cf_semantics.specs.moves.Events.{IsEvent}
 use Rattle.cf_semantics.specs.moves.Moves.{next, answered, with_passenger}
 use Rattle.cf_semantics.specs.state.Passengers.{instruction}
 use Rattle.cf_stages.specs.Changes.{changed, passenger_at}
+use Rattle.cf_core.specs.Places.{with_memory}
 use Rattle.cf_core.specs.Processors.{Processor, in_state}
 use Rattle.cf_core.specs.declared.step.Step.{Step}
 use Rattle.cf_core.specs.declared.step.Step.TheVariants.{Moved, Barred, ReadFault, WriteFault}
@@ -64,10 +64,6 @@ taken old p (served.Value v) = record old.state { cells = changed old.state.cell
 taken old p (served.Exit status) = record old.state { cells = changed old.state.cells old.plan.stages (λ c. with_passenger c (record p { done = true; ending = Some (ending.Exit status) })) }
 taken old p served.ReadFault = record old.state { failed = true }
 taken old p served.WriteFault = record old.state { failed = true }
-
--- the processor with another memory
-abbrev pub with_memory : Processor → Memory → Processor
-with_memory p mem = in_state p (record p.state { mem = mem })
 
 -- the processor after FENCE.I in its highest stage: the code is what stands in memory
 abbrev pub synchronized : Processor → Passenger → Processor

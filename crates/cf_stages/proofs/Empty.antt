@@ -14,7 +14,8 @@ use Rattle.cf_layout.proofs.Words.{no_bits}
 use Rattle.cf_semantics.specs.state.Options.{on, is_some}
 use Rattle.cf_semantics.specs.state.Drained.{is_occupied}
 use Rattle.cf_semantics.specs.state.State.{cell_at}
-use Rattle.cf_stages.specs.Changes.{IsCell, empty_cell}
+use Rattle.cf_semantics.specs.runs.Runs.{empty_cell}
+use Rattle.cf_stages.specs.Changes.{IsCell}
 use Rattle.cf_stages.specs.Parts.{AreParts, cells_from, cells_of}
 use Rattle.cf_stages.specs.Words.{word_of, word_where, passenger_word, packet_word}
 use Rattle.cf_stages.proofs.Bits.{word-agrees, word-bit}

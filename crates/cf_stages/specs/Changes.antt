@@ -9,10 +9,6 @@ use Rattle.cf_semantics.specs.moves.Bars.{is_full}
 use Rattle.cf_bind.specs.Meeting.{meeting}
 use Rattle.cf_semantics.specs.moves.Moves.{with_passenger, without_passenger, without_packet, cell_met}
 
--- a stage in which nothing stands
-abbrev pub empty_cell : Cell
-empty_cell = record { passenger = None; packet = None; met = false }
-
 -- an instruction and a result have met only where both are there
 abbrev pub IsCell : Cell → Type 0
 IsCell c = IsTrue c.met → IsTrue (is_some c.passenger && is_some c.packet)

@@ -2,7 +2,8 @@
 
 ghost use Rattle.std.specs.Prelude.{◌≡◌, ◌<◌, ◌≤◌, IfOk, length, replicate, Some};
 ghost use Rattle.cf_semantics.specs.state.State.{cell_at};
-ghost use Rattle.cf_stages.specs.Changes.{empty_cell, IsCell, has_met_at, is_full_at, packet_at, passenger_at};
+ghost use Rattle.cf_semantics.specs.runs.Runs.{empty_cell};
+ghost use Rattle.cf_stages.specs.Changes.{IsCell, has_met_at, is_full_at, packet_at, passenger_at};
 ghost use Rattle.cf_stages.specs.Words.{met_word, packet_word, passenger_word};
 
 use crate::words::has_bit;

@@ -19,7 +19,7 @@ use Rattle.cf_refinement.proofs.claims.Runs.{going, holds_after}
 use Rattle.cf_refinement.proofs.moves.Serve.{serve_ready}
 use Rattle.cf_refinement.proofs.column.Sorted.{Riders, Sorted, over, sorted}
 use Rattle.cf_refinement.proofs.walks.Stands.{each_front}
-use Rattle.cf_semantics.specs.claims.Heeds.{Acted, Heeds, NoneFlies, OnWay, Unmoved, as_launched}
+use Rattle.cf_semantics.specs.claims.Heeds.{Acted, Heeds, OnWay, Unmoved, as_launched}
 use Rattle.cf_semantics.specs.claims.Refines.{gained}
 use Rattle.cf_refinement.proofs.invariant.Invariant.{HoldsAt, Sound}
 use Rattle.cf_refinement.proofs.invariant.Stands.{Each}
@@ -42,7 +42,7 @@ use Rattle.cf_refinement.proofs.walks.Order as order
 use Rattle.cf_semantics.specs.claims.Right as right
 use Rattle.cf_refinement.proofs.invariant.Sure as sure
 use Rattle.cf_semantics.specs.claims.Path as trail
-use Rattle.cf_semantics.specs.claims.Soundness.{may_turn}
+use Rattle.cf_semantics.specs.claims.Soundness.{NoneFlies, may_turn}
 use Rattle.cf_refinement.proofs.walks.Path.{sure_at}
 use Rattle.cf_refinement.proofs.walks.Port.{open_of}
 

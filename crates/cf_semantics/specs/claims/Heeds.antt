@@ -1,5 +1,5 @@
 -- Which passenger a move acts for, and whether this passenger is on the sequential path.
-use Rattle.std.specs.Prelude.{◌≡◌, ◌⊎◌, ℕ, List, [], ◌∷◌, ◌++◌, Option, Some, None, true, false}
+use Rattle.std.specs.Prelude.{◌≡◌, ◌⊎◌, ℕ, List, ◌∷◌, ◌++◌, Option, Some, None, true}
 use Rattle.rv_inst.specs.declared.isa.Isa.{Isa}
 use Rattle.rv_machine.specs.Machine.{Machine}
 use Rattle.rv_machine.specs.After.{after}
@@ -9,7 +9,7 @@ use Rattle.cf_bind.specs.declared.passenger.Passenger.{Passenger}
 use Rattle.cf_bind.specs.declared.moves.Move.{Move}
 use Rattle.cf_bind.specs.declared.moves.Move.TheVariants.{Access, Leave, Serve}
 use Rattle.cf_semantics.specs.state.State.{State, Moment, siding_at}
-use Rattle.cf_semantics.specs.state.Column.{Item, Up, Down, column}
+use Rattle.cf_semantics.specs.state.Column.{Item, Up, column}
 use Rattle.cf_semantics.specs.claims.Ahead.{flies}
 use Rattle.cf_semantics.specs.state.Layouts.{isa_of, port}
 use Rattle.cf_semantics.specs.moves.Bars.{last_op}
@@ -17,6 +17,7 @@ use Rattle.cf_semantics.specs.moves.Moves.{next, operation}
 use Rattle.cf_semantics.specs.claims.Walks.{walk}
 use Rattle.cf_semantics.specs.claims.Path as path
 use Rattle.cf_semantics.specs.claims.Right as right
+use Rattle.cf_semantics.specs.claims.Soundness.{NoneFlies}
 use Rattle.cf_semantics.specs.claims.Refines.{gained}
 
 -- every sure passenger above it is on the path and goes on, and it stands where the machine then is
@@ -32,12 +33,6 @@ pub record Unmoved (m k : Moment) : Type 0 where
   pub rest : k.rest ≡ m.rest
   pub output : k.output ≡ m.output
   pub ending : k.state.ending ≡ m.state.ending
-
--- no passenger among these has its load or store in Memory's siding
-abbrev pub NoneFlies : List Item → Type 0
-NoneFlies [] = Unit {0}
-NoneFlies (Up i p ∷ items) = (flies p ≡ false) × NoneFlies items
-NoneFlies (Down i k ∷ items) = NoneFlies items
 
 -- an operation as it was launched
 abbrev pub as_launched : Option Op → Option Op
