@@ -44,11 +44,11 @@ split (p ∷ ps) qs bytes h =
     }
 
 -- pieces in the middle are spelt after those in front
-pub middle : (front ps behind : List Piece) (bytes : List ℕ) (at : ℕ) → Spells (front ++ (ps ++ behind)) bytes → pieces_size front ≡ at
+pub middle : (front ps after : List Piece) (bytes : List ℕ) (at : ℕ) → Spells (front ++ (ps ++ after)) bytes → pieces_size front ≡ at
     → Spells ps (take (pieces_size ps) (drop at bytes))
-middle front ps behind bytes at h e =
-    let outer = split front (ps ++ behind) bytes h in
-    let inner = split ps behind outer.back outer.others in
+middle front ps after bytes at h e =
+    let outer = split front (ps ++ after) bytes h in
+    let inner = split ps after outer.back outer.others in
     let before : at ≡ length outer.front = sym e ∙ sym (spelt-length front outer.front outer.first) in
     let long : pieces_size ps ≡ length inner.front = sym (spelt-length ps inner.front inner.first) in
     let dropped : drop at bytes ≡ inner.front ++ inner.back =
@@ -83,9 +83,9 @@ above-next labels line p text_front data_front place s a =
     }
 
 -- an item is there
-there-by : (b : Bool) (object : Object) (p : Placed) (text_front text_behind data_front data_behind : List Piece) → p.place.in_text ≡ b
-    → Spells (text_front ++ (cond b p.pieces [] ++ text_behind)) object.text_bytes
-    → Spells (data_front ++ (cond b [] p.pieces ++ data_behind)) object.data_bytes
+there-by : (b : Bool) (object : Object) (p : Placed) (text_front text_after data_front data_after : List Piece) → p.place.in_text ≡ b
+    → Spells (text_front ++ (cond b p.pieces [] ++ text_after)) object.text_bytes
+    → Spells (data_front ++ (cond b [] p.pieces ++ data_after)) object.data_bytes
     → AreAbove p.place text_front data_front → IsThere object p
 there-by true object p tf tb df db e t d a = rw e (middle tf p.pieces tb object.text_bytes p.place.text_len t a.text)
 there-by false object p tf tb df db e t d a = rw e (middle df p.pieces db object.data_bytes p.place.data_len d a.data_section)

@@ -86,8 +86,8 @@ unfolding shown numbered_move
 shown-some plan n made = omega arith
 
 -- what was put after what agreed
-pub put-behind : (now new : Comparison) (piece : List ℕ) → now.other ≡ None → told_by new ≡ told_by now ++ piece → (new.text ≡ now.text) × (put_of new ≡ take now.agreed now.text ++ piece)
-put-behind now new piece none told =
+pub put-after : (now new : Comparison) (piece : List ℕ) → now.other ≡ None → told_by new ≡ told_by now ++ piece → (new.text ≡ now.text) × (put_of new ≡ take now.agreed now.text ++ piece)
+put-after now new piece none told =
     let both = told-more now new piece told in
     (both.0, both.1 ∙ ap (λ (put : List ℕ). put ++ piece) (put_all_agreed now none))
 
@@ -110,7 +110,7 @@ comes-more text start now new mv small tells h next a =
     let P : Option (List ℕ) → Type 0 = λ o. Writes o new.place.report group in
     let written : new.place.report ≡ Some (told_by now.seen ++ group) = subst P h.tells a.makes.report in
     let told : told_by new.seen ≡ told_by now.seen ++ group = same_Some _ _ (sym tells ∙ written) in
-    let both = put-behind now.seen new.seen group h.none told in
+    let both = put-after now.seen new.seen group h.none told in
     let agreed : take new.seen.agreed now.seen.text ≡ take now.seen.agreed now.seen.text ++ group =
     ap (take new.seen.agreed) (sym both.0) ∙ sym (put_all_agreed new.seen a.same.none) ∙ both.1 in
     let high : new.seen.agreed ≤ length now.seen.text = subst (λ (t : List ℕ). new.seen.agreed ≤ length t) both.0 a.same.within in

@@ -42,10 +42,10 @@ pub taken : {E : Type 0} (text rest bytes : List ℕ) (agreed same faults count 
     → record { text = text; agreed = agreed; other = other; faults = faults } ≡ old → is_some other ≡ false → rest ≡ drop old.agreed old.text
     → 0 < length bytes → same ≤ length bytes → take same rest ≡ take same bytes → next ≡ slice_get bytes same → count ≡ min (length bytes) (same + 1)
     → Puts {E = E} (Some (told_by old)) (Some (told_by (record { text = text; agreed = agreed + same; other = next; faults = faults }))) bytes (Ok count)
-taken {E} text rest bytes agreed same faults count other next old is none behind some within agrees next_is count_is =
+taken {E} text rest bytes agreed same faults count other next old is none after some within agrees next_is count_is =
     let blank : record { text = text; agreed = agreed; other = None; faults = faults } ≡ old = ap (λ (o : Option ℕ). record { text = text; agreed = agreed; other = o; faults = faults }) (sym (none_other other none)) ∙ is in
     let place : drop old.agreed old.text ≡ drop agreed text = ap (λ (c : Comparison). drop c.agreed c.text) (sym is) in
-    let front : take same (drop agreed text) ≡ take same bytes = ap (take same) (sym (behind ∙ place)) ∙ agrees in
+    let front : take same (drop agreed text) ≡ take same bytes = ap (take same) (sym (after ∙ place)) ∙ agrees in
     let put : Puts {E = E} (Some (told_by (record { text = text; agreed = agreed; other = None; faults = faults }))) (Some (told_by (record { text = text; agreed = agreed + same; other = slice_get bytes same; faults = faults }))) bytes (Ok (min (length bytes) (same + 1))) = put_taken {E = E} text bytes agreed same faults some within front in
     let started : Puts {E = E} (Some (told_by old)) (Some (told_by (record { text = text; agreed = agreed + same; other = slice_get bytes same; faults = faults }))) bytes (Ok (min (length bytes) (same + 1))) =
     subst (λ (c : Comparison). Puts {E = E} (Some (told_by c)) (Some (told_by (record { text = text; agreed = agreed + same; other = slice_get bytes same; faults = faults }))) bytes (Ok (min (length bytes) (same + 1)))) blank put in
@@ -64,22 +64,22 @@ refused text bytes agreed faults more other old e is some = record {
 }
 
 -- a byte after a front
-get-behind : (text : List ℕ) (front place : ℕ) → slice_get (drop front text) place ≡ slice_get text (front + place)
-get-behind text zero place = let same : zero + place ≡ place = omega arith in rw same refl
-get-behind [] (suc front) place = refl
-get-behind (x ∷ text) (suc front) place = let same : suc front + place ≡ suc (front + place) = omega arith in rw same (get-behind text front place)
+get-after : (text : List ℕ) (front place : ℕ) → slice_get (drop front text) place ≡ slice_get text (front + place)
+get-after text zero place = let same : zero + place ≡ place = omega arith in rw same refl
+get-after [] (suc front) place = refl
+get-after (x ∷ text) (suc front) place = let same : suc front + place ≡ suc (front + place) = omega arith in rw same (get-after text front place)
 
 other_is : (text : List ℕ) (agreed same : ℕ) (other : Option ℕ) → ((byte : ℕ) → other ≡ Some byte → IsOther (drop agreed text) same byte) → IfSome other (λ byte. IsOther text (agreed + same) byte)
 other_is text agreed same None apart = tt
-other_is text agreed same (Some byte) apart = λ here. apart byte refl (get-behind text agreed same ∙ here)
+other_is text agreed same (Some byte) apart = λ here. apart byte refl (get-after text agreed same ∙ here)
 
 -- a comparison after a put of bytes
 pub compared-more : (text rest bytes : List ℕ) (agreed same faults : ℕ) (other next : Option ℕ) (old : Comparison)
     → record { text = text; agreed = agreed; other = other; faults = faults } ≡ old → IsComparison (record { text = text; agreed = agreed; other = other; faults = faults }) → is_some other ≡ false
     → rest ≡ drop old.agreed old.text → same ≤ length rest → AreApart rest bytes same → next ≡ slice_get bytes same
     → IsComparison (record { text = text; agreed = agreed + same; other = next; faults = faults })
-compared-more text rest bytes agreed same faults other next old is was none behind within apart next_is =
-    let place : rest ≡ drop agreed text = behind ∙ ap (λ (c : Comparison). drop c.agreed c.text) (sym is) in
+compared-more text rest bytes agreed same faults other next old is was none after within apart next_is =
+    let place : rest ≡ drop agreed text = after ∙ ap (λ (c : Comparison). drop c.agreed c.text) (sym is) in
     let front : AreApart (drop agreed text) bytes same = subst (λ (r : List ℕ). AreApart r bytes same) place apart in
     let low : same ≤ length (drop agreed text) = subst (λ (r : List ℕ). same ≤ length r) place within in
     record {

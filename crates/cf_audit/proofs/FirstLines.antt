@@ -105,42 +105,42 @@ one_first (c ∷ a) (d ∷ b) x y e f same =
     (cc, both.1)
 
 -- the line of a move by its parts
-front_of : (n : ℕ) (mv : Move) (behind : List ℕ) → numbered_move n mv ++ behind ≡ move_front n ++ (move_line mv ++ 10 ∷ behind)
+front_of : (n : ℕ) (mv : Move) (after : List ℕ) → numbered_move n mv ++ after ≡ move_front n ++ (move_line mv ++ 10 ∷ after)
 unfolding numbered_move
-front_of n mv behind = append_assoc (move_front n) (move_line mv ++ 10 ∷ []) behind ∙ ap (λ (t : List ℕ). move_front n ++ t) (append_assoc (move_line mv) (10 ∷ []) behind)
+front_of n mv after = append_assoc (move_front n) (move_line mv ++ 10 ∷ []) after ∙ ap (λ (t : List ℕ). move_front n ++ t) (append_assoc (move_line mv) (10 ∷ []) after)
 
 -- what comes after the number of a move's line
-line_behind : (text rest : List ℕ) (n : ℕ) (mv : Move) → text ≡ move_front n ++ rest → (b : BeginsWith text n mv) → rest ≡ move_line mv ++ 10 ∷ b.behind
-line_behind text rest n mv is b = append_cancel_left (move_front n) rest (move_line mv ++ 10 ∷ b.behind) (sym is ∙ b.is ∙ front_of n mv b.behind)
+line_after : (text rest : List ℕ) (n : ℕ) (mv : Move) → text ≡ move_front n ++ rest → (b : BeginsWith text n mv) → rest ≡ move_line mv ++ 10 ∷ b.after
+line_after text rest n mv is b = append_cancel_left (move_front n) rest (move_line mv ++ 10 ∷ b.after) (sym is ∙ b.is ∙ front_of n mv b.after)
 
 -- no move's line stands first where its front does not, where there is no line after that, or where the line names no move
 pub no_front : (text : List ℕ) (n : ℕ) → ((rest : List ℕ) → text ≡ move_front n ++ rest → ⊥) → (mv : Move) → BeginsWith text n mv → ⊥
-no_front text n none mv b = none (move_line mv ++ 10 ∷ b.behind) (b.is ∙ front_of n mv b.behind)
+no_front text n none mv b = none (move_line mv ++ 10 ∷ b.after) (b.is ∙ front_of n mv b.after)
 
 pub no_line : (text rest : List ℕ) (n : ℕ) → text ≡ move_front n ++ rest → ((line : List ℕ) → IsFirstLine rest line → ⊥) → (mv : Move) → BeginsWith text n mv → ⊥
-no_line text rest n is none mv b = none (move_line mv) (record { whole = move_line_no mv; behind = b.behind; is = line_behind text rest n mv is b })
+no_line text rest n is none mv b = none (move_line mv) (record { whole = move_line_no mv; after = b.after; is = line_after text rest n mv is b })
 
 pub no_move : (text rest line : List ℕ) (n : ℕ) → text ≡ move_front n ++ rest → IsFirstLine rest line → ((mv : Move) → Tells line mv → ⊥) → (mv : Move) → BeginsWith text n mv → ⊥
 no_move text rest line n is first none mv b =
-    let same = one_first line (move_line mv) first.behind b.behind first.whole (move_line_no mv) (sym first.is ∙ line_behind text rest n mv is b) in
+    let same = one_first line (move_line mv) first.after b.after first.whole (move_line_no mv) (sym first.is ∙ line_after text rest n mv is b) in
     none mv (record { written = same.0; told = b.told })
 
 -- a move's line does where the line there names it
 pub one_move : (text rest line : List ℕ) (n : ℕ) (mv : Move) → text ≡ move_front n ++ rest → IsFirstLine rest line → Tells line mv → BeginsWith text n mv
 one_move text rest line n mv is first tells = record {
   told = tells.told;
-  behind = first.behind;
-  is = is ∙ ap (λ (t : List ℕ). move_front n ++ t) (first.is ∙ ap (λ (l : List ℕ). l ++ 10 ∷ first.behind) tells.written) ∙ sym (front_of n mv first.behind);
+  after = first.after;
+  is = is ∙ ap (λ (t : List ℕ). move_front n ++ t) (first.is ∙ ap (λ (l : List ℕ). l ++ 10 ∷ first.after) tells.written) ∙ sym (front_of n mv first.after);
 }
 
 -- two texts that begin with the lines of moves of one number, and are one, begin with that of one move
 pub one_told : (n : ℕ) (a b : Move) (x y : List ℕ) → IsReadBack a → IsReadBack b → numbered_move n a ++ x ≡ numbered_move n b ++ y → (a ≡ b) × (x ≡ y)
 one_told n a b x y reads tells same =
     let text : List ℕ = numbered_move n b ++ y in
-    let here : BeginsWith text n a = record { told = reads; behind = x; is = sym same } in
-    let there : BeginsWith text n b = record { told = tells; behind = y; is = refl } in
+    let here : BeginsWith text n a = record { told = reads; after = x; is = sym same } in
+    let there : BeginsWith text n b = record { told = tells; after = y; is = refl } in
     let left : text ≡ move_front n ++ (move_line b ++ 10 ∷ y) = front_of n b y in
-    let both = one_first (move_line a) (move_line b) x y (move_line_no a) (move_line_no b) (sym (line_behind text (move_line b ++ 10 ∷ y) n a left here)) in
+    let both = one_first (move_line a) (move_line b) x y (move_line_no a) (move_line_no b) (sym (line_after text (move_line b ++ 10 ∷ y) n a left here)) in
     let moves : Ok a ≡ Ok b = sym reads ∙ ap move_in both.0 ∙ tells in
     (cc, both.1)
 
@@ -154,26 +154,26 @@ first_at (x ∷ text) h = by (is_line_feed x) refl (λ low. first_at text low) h
   where
     by : (b : Bool) → is_line_feed x ≡ b → (position_or_len is_line_feed text < length text → IsFirstLine text (take (position_or_len is_line_feed text) text))
         → cond (not b) (1 + position_or_len is_line_feed text) 0 < suc (length text) → IsFirstLine (x ∷ text) (take (cond (not b) (1 + position_or_len is_line_feed text) 0) (x ∷ text))
-    by true e rest low = record { whole = refl; behind = text; is = ap (λ (byte : ℕ). byte ∷ text) (feed_here x e) }
+    by true e rest low = record { whole = refl; after = text; is = ap (λ (byte : ℕ). byte ∷ text) (feed_here x e) }
     by false e rest low =
         let one : 1 + position_or_len is_line_feed text ≡ suc (position_or_len is_line_feed text) = omega arith in
         let h : IsFirstLine text (take (position_or_len is_line_feed text) text) = rest (omega arith) in
-        rw one (record { whole = or_false (is_line_feed x) (has_line (take (position_or_len is_line_feed text) text)) e h.whole; behind = h.behind; is = ap (λ (l : List ℕ). x ∷ l) h.is })
+        rw one (record { whole = or_false (is_line_feed x) (has_line (take (position_or_len is_line_feed text) text)) e h.whole; after = h.after; is = ap (λ (l : List ℕ). x ∷ l) h.is })
 
 no_first : (text line : List ℕ) → length text ≤ position_or_len is_line_feed text → IsFirstLine text line → ⊥
-no_first [] line h f = absurd (let size : 0 ≡ length (line ++ 10 ∷ f.behind) = ap length f.is in omega (arith, size, length-append line (10 ∷ f.behind)))
+no_first [] line h f = absurd (let size : 0 ≡ length (line ++ 10 ∷ f.after) = ap length f.is in omega (arith, size, length-append line (10 ∷ f.after)))
 no_first (x ∷ text) line h f = by (is_line_feed x) refl (λ rest high. no_first text rest high) h line f
   where
     by : (b : Bool) → is_line_feed x ≡ b → ((rest : List ℕ) → length text ≤ position_or_len is_line_feed text → IsFirstLine text rest → ⊥)
         → suc (length text) ≤ cond (not b) (1 + position_or_len is_line_feed text) 0 → (line : List ℕ) → IsFirstLine (x ∷ text) line → ⊥
     by true e go high line f = absurd (omega arith)
-    by false e go high [] f = let same : x ≡ 10 = first_byte x text f.behind f.is in absurd (let here : is_line_feed 10 ≡ false = ap is_line_feed (sym same) ∙ e in cc)
+    by false e go high [] f = let same : x ≡ 10 = first_byte x text f.after f.is in absurd (let here : is_line_feed 10 ≡ false = ap is_line_feed (sym same) ∙ e in cc)
       where
-        first_byte : (x : ℕ) (text behind : List ℕ) → x ∷ text ≡ 10 ∷ behind → x ≡ 10
-        first_byte x text behind e = cc
+        first_byte : (x : ℕ) (text after : List ℕ) → x ∷ text ≡ 10 ∷ after → x ≡ 10
+        first_byte x text after e = cc
     by false e go high (y ∷ line) f =
-        let rest : text ≡ line ++ 10 ∷ f.behind = tail_of f.is in
-        go line (omega arith) (record { whole = tail_none y line f.whole; behind = f.behind; is = rest })
+        let rest : text ≡ line ++ 10 ∷ f.after = tail_of f.is in
+        go line (omega arith) (record { whole = tail_none y line f.whole; after = f.after; is = rest })
       where
         tail_of : {y : ℕ} {more : List ℕ} → x ∷ text ≡ y ∷ more → text ≡ more
         tail_of e = cc

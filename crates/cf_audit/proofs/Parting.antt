@@ -41,13 +41,13 @@ parted (x ∷ text) group (suc from) (suc to) k other within low differs e =
     (omega (arith, h.0), rw same h.1)
 
 -- a byte after a front of a text
-pub byte_behind : (text : List ℕ) (from to : ℕ) (byte : Option ℕ) → from ≤ to → slice_get (drop from text) (to - from) ≡ byte → slice_get text to ≡ byte
-byte_behind text zero to byte low e = let same : to - zero ≡ to = omega arith in rw same at e
-byte_behind text (suc from) zero byte low e = absurd (omega arith)
-byte_behind [] (suc from) (suc to) byte low e = e
-byte_behind (x ∷ text) (suc from) (suc to) byte low e =
+pub byte_after : (text : List ℕ) (from to : ℕ) (byte : Option ℕ) → from ≤ to → slice_get (drop from text) (to - from) ≡ byte → slice_get text to ≡ byte
+byte_after text zero to byte low e = let same : to - zero ≡ to = omega arith in rw same at e
+byte_after text (suc from) zero byte low e = absurd (omega arith)
+byte_after [] (suc from) (suc to) byte low e = e
+byte_after (x ∷ text) (suc from) (suc to) byte low e =
     let same : suc to - suc from ≡ to - from = omega arith in
-    byte_behind text from to byte (omega arith) (rw same at e)
+    byte_after text from to byte (omega arith) (rw same at e)
 
 -- a longer front goes on after a shorter one
 pub goes_on : (text more : List ℕ) (from to : ℕ) → from ≤ length text → to ≤ length text → 0 < length more → take to text ≡ take from text ++ more → from < to

@@ -30,8 +30,8 @@ use Rattle.cf_audit.specs.Compared.{alone, told_by}
 use Rattle.cf_audit.specs.Traces.{most_retired, line_of, has_line, BeginsWith, IsTrace, StandsAt, PartsAt, Fails, GoesWrong}
 use Rattle.cf_audit.specs.Turns.{Stand, left_of, NextIs, Parts, PutsSome, Tries, Tests}
 use Rattle.cf_audit.specs.Limits.{most_trace}
-use Rattle.cf_audit.proofs.Coming.{Comes, so-far, put-behind, retires-below, trace-so-far, agrees-so-far, agreed-length, stands-here}
-use Rattle.cf_audit.proofs.Parting.{parted, byte_behind}
+use Rattle.cf_audit.proofs.Coming.{Comes, so-far, put-after, retires-below, trace-so-far, agrees-so-far, agreed-length, stands-here}
+use Rattle.cf_audit.proofs.Parting.{parted, byte_after}
 
 -- the last of some moves, and the moment at which it was made
 record LastMade (plan : Plan) (limit : ℕ) (told : Option (List ℕ)) (m : Moment) (trace : List Made) (made : Made) (last : Moment) : Type 0 where
@@ -78,7 +78,7 @@ parts_there text start now new mv small tells h next p =
     let P : Option (List ℕ) → Type 0 = λ o. PutsSome o new.place.report group in
     let front : PutsSome (Some (told_by now.seen)) new.place.report group = subst P h.tells p.report in
     let told : told_by new.seen ≡ told_by now.seen ++ take front.0 group = same_Some _ _ (sym tells ∙ front.2) in
-    let both = put-behind now.seen new.seen (take front.0 group) h.none told in
+    let both = put-after now.seen new.seen (take front.0 group) h.none told in
     let put : take new.seen.agreed now.seen.text ++ p.differs.other ∷ [] ≡ take now.seen.agreed now.seen.text ++ take front.0 group =
     ap (λ (t : List ℕ). take new.seen.agreed t ++ p.differs.other ∷ []) (sym both.0) ∙ ap (λ (o : Option ℕ). take new.seen.agreed new.seen.text ++ alone o) (sym p.differs.is) ∙ both.1 in
     let high : new.seen.agreed ≤ length now.seen.text = subst (λ (t : List ℕ). new.seen.agreed ≤ length t) both.0 p.differs.within in
@@ -108,7 +108,7 @@ parts_there text start now new mv small tells h next p =
         same = apart.1.same;
         other = p.differs.other;
         goes_on = apart.1.next;
-        differs = λ here. other (byte_behind now.seen.text now.seen.agreed new.seen.agreed (Some p.differs.other) apart.0 here);
+        differs = λ here. other (byte_after now.seen.text now.seen.agreed new.seen.agreed (Some p.differs.other) apart.0 here);
       };
       low = apart.0;
       text_is = both.0 ∙ s.text_is;
@@ -237,13 +237,13 @@ tried text start now new mv ReadFault small tells quiet h next t =
 pub tests-none : (text left : List ℕ) (now new : Stand) (place : ℕ) (answer : Audit) → answer ≡ Wrong (line_of text place) NotAMove → place ≡ now.seen.agreed → left ≡ left_of now.seen → has_line left ≡ true → ((mv : Move) → BeginsWith left (now.place.tally.moves + 1) mv → ⊥)
     → new ≡ now → Tests text now new (Some answer)
 unfolding Tests
-tests-none text left now new place answer is at behind has none same =
-    rw is (ap has_line (sym behind) ∙ has, λ mv begins. none mv (subst (λ (t : List ℕ). BeginsWith t (now.place.tally.moves + 1) mv) (sym behind) begins), ap (line_of text) at, same)
+tests-none text left now new place answer is at after has none same =
+    rw is (ap has_line (sym after) ∙ has, λ mv begins. none mv (subst (λ (t : List ℕ). BeginsWith t (now.place.tally.moves + 1) mv) (sym after) begins), ap (line_of text) at, same)
 
 -- it names a move, which is tried
 pub tests-tried : (text left : List ℕ) (now new : Stand) (mv : Move) (answer : Option Audit) → left ≡ left_of now.seen → BeginsWith left (now.place.tally.moves + 1) mv → Tries text mv now new answer → Tests text now new answer
 unfolding Tests Tries
-tests-tried text left now new mv answer behind begins tries = of answer (subst (λ (t : List ℕ). BeginsWith t (now.place.tally.moves + 1) mv) behind begins) tries
+tests-tried text left now new mv answer after begins tries = of answer (subst (λ (t : List ℕ). BeginsWith t (now.place.tally.moves + 1) mv) after begins) tries
   where
     of : (answer : Option Audit) → NextIs now mv → Tries text mv now new answer → Tests text now new answer
     of None next t = (mv, next, t)

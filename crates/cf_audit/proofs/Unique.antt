@@ -60,7 +60,7 @@ same_group plan m n a b h k same =
 record IsOneMove (plan : Plan) (m : Moment) (a b : Made) (x y : List ℕ) : Type 0 where
   move : a.move ≡ b.move
   state : a.state ≡ b.state
-  behind : x ≡ y
+  after : x ≡ y
 
 one_move : (plan : Plan) (m : Moment) (n : ℕ) (a b : Made) (x y : List ℕ) → IsMade plan most_retired m a → IsMade plan most_retired m b → IsReadBack a.move → IsReadBack b.move → shown show.Moves plan n a ++ x ≡ shown show.Moves plan n b ++ y → IsOneMove plan m a b x y
 one_move plan m n a b x y h k reads tells same =
@@ -69,7 +69,7 @@ one_move plan m n a b x y h k reads tells same =
     record {
       move = lines.0;
       state = groups.0;
-      behind = append_cancel_left (shown show.Moves plan n b) x y (ap (λ (t : List ℕ). t ++ x) (sym groups.1) ∙ same);
+      after = append_cancel_left (shown show.Moves plan n b) x y (ap (λ (t : List ℕ). t ++ x) (sym groups.1) ∙ same);
     }
 
 -- the input that a move finds is what is left
@@ -100,7 +100,7 @@ same_count plan told m n (first ∷ a) (other ∷ b) last end (r, f, i, h) (s, g
     let one = one_move plan m n first other (all_shown show.Moves plan (n + 1) a) (all_shown show.Moves plan (n + 1) b) here there read tell same in
     let left : Leads plan most_retired (Some told) (next plan m first.move) a last = leads_rest plan told m last r first a f h in
     let right : Leads plan most_retired (Some told) (next plan m first.move) b end = subst (λ (mv : Move). Leads plan most_retired (Some told) (next plan m mv) b end) (sym one.move) (leads_rest plan told m end s other b g k) in
-    ap suc (same_count plan told (next plan m first.move) (n + 1) a b last end left right reads tells one.behind)
+    ap suc (same_count plan told (next plan m first.move) (n + 1) a b last end left right reads tells one.after)
 
 -- a text that begins with a group has a line feed
 has_feed : (a b : List ℕ) → has_line (a ++ 10 ∷ b) ≡ true
@@ -128,8 +128,8 @@ not_parted : (plan : Plan) (told : List ℕ) (m : Moment) (n : ℕ) (made : Made
 not_parted plan told m n made left more place stop is reads same p =
     let g = p.is_group in
     let here : IsMade plan most_retired m g.made = at_rest plan told m g.rest g.made g.finds g.is_made in
-    let lines : numbered_move n p.move ++ p.begins.behind ≡ numbered_move n made.move ++ (rest_of_group plan made ++ more) = sym p.begins.is ∙ same ∙ group_parts plan n made more in
-    let moves = one_told n p.move made.move p.begins.behind (rest_of_group plan made ++ more) p.begins.told reads lines in
+    let lines : numbered_move n p.move ++ p.begins.after ≡ numbered_move n made.move ++ (rest_of_group plan made ++ more) = sym p.begins.is ∙ same ∙ group_parts plan n made more in
+    let moves = one_told n p.move made.move p.begins.after (rest_of_group plan made ++ more) p.begins.told reads lines in
     let groups = same_group plan m n g.made made here is (g.move ∙ moves.0) in
     let group : p.group ≡ shown show.Moves plan n made = g.is ∙ groups.1 in
     p.differs (ap (λ (t : List ℕ). slice_get t place) (same ∙ ap (λ (t : List ℕ). t ++ more) (sym group)) ∙ get_front p.group more place p.other p.goes_on)
@@ -137,9 +137,9 @@ not_parted plan told m n made left more place stop is reads same p =
 not_failing : (plan : Plan) (told : List ℕ) (m : Moment) (n : ℕ) (made : Made) (left more : List ℕ) (place : ℕ) (kind : TraceKind) (stop : Moment) → IsMade plan most_retired m made → IsReadBack made.move → left ≡ shown show.Moves plan n made ++ more → Fails plan (Some told) m n left place kind stop → ⊥
 unfolding Fails
 not_failing plan told m n made left more place NotAMove stop is reads same (has, none, at, still) =
-    none made.move (record { told = reads; behind = rest_of_group plan made ++ more; is = same ∙ group_parts plan n made more })
+    none made.move (record { told = reads; after = rest_of_group plan made ++ more; is = same ∙ group_parts plan n made more })
 not_failing plan told m n made left more place (Barred b) stop is reads same (mv, begins, barred, at, still) =
-    let moves = one_told n mv made.move begins.behind (rest_of_group plan made ++ more) begins.told reads (sym begins.is ∙ same ∙ group_parts plan n made more) in
+    let moves = one_told n mv made.move begins.after (rest_of_group plan made ++ more) begins.told reads (sym begins.is ∙ same ∙ group_parts plan n made more) in
     let free : bar plan m.state mv ≡ None = ap (bar plan m.state) moves.0 ∙ is.allowed in
     absurd (cc)
 not_failing plan told m n made left more place Differs stop is reads same (p, at) = not_parted plan told m n made left more place stop is reads same p
@@ -165,8 +165,8 @@ no_trace plan told m n k (first ∷ a) (other ∷ b) last end left place kind st
     let there : IsMade plan most_retired m other = at_rest plan told m s other g j in
     let one = one_move plan m n first other (all_shown show.Moves plan (n + 1) a ++ left) (all_shown show.Moves plan (n + 1) b) here there read tell (sym (append_assoc (shown show.Moves plan n first) (all_shown show.Moves plan (n + 1) a) left) ∙ same) in
     let before : Leads plan most_retired (Some told) (next plan m first.move) a last = leads_rest plan told m last r first a f h in
-    let behind : Leads plan most_retired (Some told) (next plan m first.move) b end = subst (λ (mv : Move). Leads plan most_retired (Some told) (next plan m mv) b end) (sym one.move) (leads_rest plan told m end s other b g l) in
-    no_trace plan told (next plan m first.move) (n + 1) k a b last end left place kind stop (omega (arith, count)) before behind reads tells some fails one.behind
+    let after : Leads plan most_retired (Some told) (next plan m first.move) b end = subst (λ (mv : Move). Leads plan most_retired (Some told) (next plan m mv) b end) (sym one.move) (leads_rest plan told m end s other b g l) in
+    no_trace plan told (next plan m first.move) (n + 1) k a b last end left place kind stop (omega (arith, count)) before after reads tells some fails one.after
 
 -- what is told of the input of a trace
 same_start : (core : Processor) (told rest : List ℕ) → rest ≡ told → moment_of core rest ≡ moment_of core told

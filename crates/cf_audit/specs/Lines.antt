@@ -11,8 +11,8 @@ move_front n = codes "move " ++ decimal n ++ codes " "
 -- the line stands before the first line feed of the text
 pub record IsFirstLine (text line : List ℕ) : Type 0 where
   pub whole : has_line line ≡ false
-  pub behind : List ℕ
-  pub is : text ≡ line ++ 10 ∷ behind
+  pub after : List ℕ
+  pub is : text ≡ line ++ 10 ∷ after
 
 -- the line is the one that is written for the move, and is read as that move
 pub record Tells (line : List ℕ) (mv : Move) : Type 0 where

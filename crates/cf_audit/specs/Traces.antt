@@ -51,8 +51,8 @@ pub record StandsAt (core new : Processor) (told now : Option (List ℕ)) (last 
 -- the text begins with the line of this move under this number
 pub record BeginsWith (text : List ℕ) (n : ℕ) (mv : Move) : Type 0 where
   pub told : IsReadBack mv
-  pub behind : List ℕ
-  pub is : text ≡ numbered_move n mv ++ behind
+  pub after : List ℕ
+  pub is : text ≡ numbered_move n mv ++ after
 
 -- a line feed stands in the text
 abbrev pub has_line : List ℕ → Bool

@@ -12,7 +12,7 @@ use cf_scripts::read_move;
 use rv_text::find_byte;
 
 /// What comes after a front of the text, where it begins with that front.
-fn behind<'a>(text: &'a [u8], front: &[u8]) -> Option<&'a [u8]>
+fn after<'a>(text: &'a [u8], front: &[u8]) -> Option<&'a [u8]>
     ensures { MatchOption result ((rest : List ℕ) → text.now ≡ front.now ++ rest → ⊥)
         (λ rest. text.now ≡ front.now ++ rest.now) }
 {
@@ -20,12 +20,12 @@ fn behind<'a>(text: &'a [u8], front: &[u8]) -> Option<&'a [u8]>
 }
 
 /// What comes after `move ` and the number, where the text begins with them.
-fn behind_number(text: &[u8], n: u64) -> Option<&[u8]>
+fn after_number(text: &[u8], n: u64) -> Option<&[u8]>
     ensures { MatchOption result ((rest : List ℕ) → text.now ≡ move_front n ++ rest → ⊥)
         (λ rest. text.now ≡ move_front n ++ rest.now) }
 {
     let front = move_number(n);
-    behind(text, front.bytes())
+    after(text, front.bytes())
 }
 
 /// What stands before the first line feed.
@@ -61,5 +61,5 @@ fn move_of(line: &[u8]) -> Option<Move>
 pub(crate) fn recorded_move(text: &[u8], n: u64) -> Option<Move>
     ensures { MatchOption result ((mv : AnyMove) → BeginsWith text.now n mv → ⊥) (λ mv. BeginsWith text.now n mv) }
 {
-    move_of(first_line(behind_number(text, n)?)?)
+    move_of(first_line(after_number(text, n)?)?)
 }

@@ -58,9 +58,9 @@ line-next plan s f a i n m e k =
     ∙ sym (lines-split plan s f a n 1))
 
 -- after it come those of the others
-pub line-behind : (plan : Plan) (s : State) (f : ℕ → Move) (a i n whole : ℕ) → i ≡ a + n → n < whole →
+pub line-after : (plan : Plan) (s : State) (f : ℕ → Move) (a i n whole : ℕ) → i ≡ a + n → n < whole →
     (rest : List ℕ) × ((lines_from plan s f a n ++ line_in plan s (f i)) ++ rest ≡ lines_from plan s f a whole)
-line-behind plan s f a i n whole e below =
+line-after plan s f a i n whole e below =
     let left = whole - (n + 1) in
     let all : (n + 1) + left ≡ whole = omega arith in (
       lines_from plan s f (a + (n + 1)) left,
@@ -115,10 +115,10 @@ sidings-next plan s i below =
     (cell_moves i (unwrap_or (slice_get plan.sidings i) no_siding).cells)) ∙ ap (lines_in plan s) (sym next))
 
 -- after them come those of the others
-pub sidings-behind : (plan : Plan) (s : State) (i : ℕ) → i < length plan.sidings →
+pub sidings-after : (plan : Plan) (s : State) (i : ℕ) → i < length plan.sidings →
     (rest : List ℕ) × ((lines_in plan s (siding_moves 0 (take i plan.sidings))
     ++ lines_in plan s (cell_moves i (cells_of plan i))) ++ rest ≡ lines_in plan s (siding_moves 0 plan.sidings))
-sidings-behind plan s i below =
+sidings-after plan s i below =
     let rest : List Move = siding_moves (0 + (i + 1)) (drop (i + 1) plan.sidings) in (
       lines_in plan s rest,
       ap (λ (text : List ℕ). text ++ lines_in plan s rest) (sidings-next plan s i below)
@@ -153,11 +153,11 @@ pub all-parts : (plan : Plan) (s : State) → lines_in plan s (flat_map (part_mo
 unfolding moves_text
 all-parts plan s = ap (lines_in plan s) (parts-all plan)
 
-pub parts-behind : (plan : Plan) (s : State) (i : ℕ) (none : Part) (items : List Part) → items ≡ PARTS →
+pub parts-after : (plan : Plan) (s : State) (i : ℕ) (none : Part) (items : List Part) → items ≡ PARTS →
     i < length items →
     (rest : List ℕ) × ((lines_in plan s (flat_map (part_moves plan) (take i PARTS))
     ++ lines_in plan s (part_moves plan (get_or items i none))) ++ rest ≡ moves_text plan s)
-parts-behind plan s i none items same below =
+parts-after plan s i none items same below =
     let rest : List Move = flat_map (part_moves plan) (drop (i + 1) PARTS) in (
       lines_in plan s rest,
       ap (λ (text : List ℕ). text ++ lines_in plan s rest) (parts-next plan s i none items same below)

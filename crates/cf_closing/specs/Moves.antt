@@ -31,7 +31,7 @@ every_move plan =
 
 -- a move between two texts
 abbrev pub between : List ℕ → Move → List ℕ → List ℕ
-between before mv behind = before ++ (move_line mv ++ behind)
+between before mv after = before ++ (move_line mv ++ after)
 
 -- the line of a move that nothing bars, or whose first bar this is
 unfoldable pub standing_line : Option Bar → Move → List ℕ

@@ -28,28 +28,23 @@ fn bar_page(bar: Bar) -> Page
 }
 
 /// Puts a move, and a text after it.
-fn put_move<R: Sink>(mv: Move, behind: &[u8], report: &mut R) -> Result<(), Failed>
+fn put_move<R: Sink>(mv: Move, after: &[u8], report: &mut R) -> Result<(), Failed>
     ensures { PutsText (R.written report.old) (R.written report.new)
-        (R.faults report.old) (R.faults report.new) (move_line mv ++ behind.now) result }
+        (R.faults report.old) (R.faults report.new) (move_line mv ++ after.now) result }
 {
     let mut line = MoveLine::new();
     move_text(mv, &mut line);
     put_all(report, line.bytes())?;
-    put_all(report, behind)
+    put_all(report, after)
 }
 
 /// Puts a move between two texts.
-fn put_between<R: Sink>(
-    before: &[u8],
-    mv: Move,
-    behind: &[u8],
-    report: &mut R,
-) -> Result<(), Failed>
+fn put_between<R: Sink>(before: &[u8], mv: Move, after: &[u8], report: &mut R) -> Result<(), Failed>
     ensures { PutsText (R.written report.old) (R.written report.new)
-        (R.faults report.old) (R.faults report.new) (between before.now mv behind.now) result }
+        (R.faults report.old) (R.faults report.new) (between before.now mv after.now) result }
 {
     put_all(report, before)?;
-    put_move(mv, behind, report)
+    put_move(mv, after, report)
 }
 
 /// Puts the line of a move.

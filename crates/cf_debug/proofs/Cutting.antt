@@ -143,11 +143,11 @@ empty : (xs : List ℕ) → length xs ≡ 0 → xs ≡ []
 empty [] none = refl
 empty (x ∷ xs) none = absurd (omega (arith, none))
 
-pub nothing_behind : (at end : ℕ) (piece : List ℕ) → at ≡ end → drop at (take end piece) ≡ []
-nothing_behind at end piece same = empty (drop at (take end piece)) (omega (arith, same, length-drop at (take end piece), length-take end piece))
+pub nothing_after : (at end : ℕ) (piece : List ℕ) → at ≡ end → drop at (take end piece) ≡ []
+nothing_after at end piece same = empty (drop at (take end piece)) (omega (arith, same, length-drop at (take end piece), length-take end piece))
 
-pub something_behind : (at end : ℕ) (piece : List ℕ) → at < end → end ≤ length piece → 0 < length (drop at (take end piece))
-something_behind at end piece low within = omega (arith, low, within, length-drop at (take end piece), length-take end piece)
+pub something_after : (at end : ℕ) (piece : List ℕ) → at < end → end ≤ length piece → 0 < length (drop at (take end piece))
+something_after at end piece low within = omega (arith, low, within, length-drop at (take end piece), length-take end piece)
 
 pub few_left : (at end : ℕ) (piece : List ℕ) → end ≤ 4096 → length (drop at (take end piece)) ≤ 4096
 few_left at end piece within = omega (arith, within, length-drop at (take end piece), length-take end piece)

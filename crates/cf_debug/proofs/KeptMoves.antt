@@ -17,15 +17,15 @@ use Rattle.cf_core.specs.Undo.{CanStand, kept_by}
 use Rattle.cf_core.specs.declared.fault.Fault.TheVariants as fault
 use Rattle.cf_core.specs.declared.undo.Undo.{Undo}
 use Rattle.cf_core.proofs.Steps.{next_moved}
-use Rattle.cf_run.proofs.Behind.{next-behind}
+use Rattle.cf_run.proofs.AfterOutput.{next-after}
 use Rattle.cf_debug.specs.Making.{Bench, MakesOne, FailsOne, bench_of}
-use Rattle.cf_debug.specs.Rings.{WasKept, ring_behind, with_record}
+use Rattle.cf_debug.specs.Rings.{WasKept, ring_after, with_record}
 use Rattle.cf_debug.specs.Standing.{Stands}
 use Rattle.cf_debug.proofs.Standing.{stands-kept, stands-served}
 
 -- what is kept of a move, unless it is Serve
-pub serves-or : (mv : Move) → (mv ≡ Serve) ⊎ ((mv ≢ Serve) × ((plan : Plan) (s : State) (ring : List Kept) → ring_behind plan s mv ring ≡ with_record ring (kept plan s mv)))
-unfolding ring_behind
+pub serves-or : (mv : Move) → (mv ≡ Serve) ⊎ ((mv ≢ Serve) × ((plan : Plan) (s : State) (ring : List Kept) → ring_after plan s mv ring ≡ with_record ring (kept plan s mv)))
+unfolding ring_after
 serves-or Serve = inl refl
 serves-or (Issue g) = inr ((λ e. cc), (λ plan s ring. refl))
 serves-or Emit = inr ((λ e. cc), (λ plan s ring. refl))
@@ -42,10 +42,10 @@ serves-or Leave = inr ((λ e. cc), (λ plan s ring. refl))
 serves-or Exit = inr ((λ e. cc), (λ plan s ring. refl))
 
 -- what is kept of a move other than Serve
-kept_other : (mv : Move) → mv ≢ Serve → (plan : Plan) (s : State) (ring : List Kept) → ring_behind plan s mv ring ≡ with_record ring (kept plan s mv)
+kept_other : (mv : Move) → mv ≢ Serve → (plan : Plan) (s : State) (ring : List Kept) → ring_after plan s mv ring ≡ with_record ring (kept plan s mv)
 kept_other mv other plan s ring = of (serves-or mv)
   where
-    of : (mv ≡ Serve) ⊎ ((mv ≢ Serve) × ((plan : Plan) (s : State) (ring : List Kept) → ring_behind plan s mv ring ≡ with_record ring (kept plan s mv))) → ring_behind plan s mv ring ≡ with_record ring (kept plan s mv)
+    of : (mv ≡ Serve) ⊎ ((mv ≢ Serve) × ((plan : Plan) (s : State) (ring : List Kept) → ring_after plan s mv ring ≡ with_record ring (kept plan s mv))) → ring_after plan s mv ring ≡ with_record ring (kept plan s mv)
     of (inl serves) = absurd (other serves)
     of (inr h) = h.1 plan s ring
 
@@ -64,7 +64,7 @@ made-other mv e core new ring later out after undo stood is free other h put = r
 -- Serve was made, and nothing is kept
 pub made-serve : (e : Event) (core new : Processor) (ring later : List Kept) (out after : Option (List ℕ)) → bar core.plan core.state Serve ≡ None
     → StepsOrFails core new Serve (streams_of (Some []) out) (streams_of (Some []) after) (Ok e) → later ≡ [] → MakesOne Serve e (bench_of core ring out) (bench_of new later after)
-unfolding StepsOrFails ring_behind
+unfolding StepsOrFails ring_after
 made-serve e core new ring later out after free h empty = record {
   allowed = free;
   stood = λ other. absurd (other refl);
@@ -92,8 +92,8 @@ same_some : {X : Type 0} (x y : X) → Some x ≡ Some y → x ≡ y
 same_some x y h = cc
 
 -- the moment after a move that finds nothing left, whatever was written before
-behind_move : (now new : Bench) (mv : Move) → Makes now.core new.core mv (streams_of (Some []) now.output) (streams_of (Some []) new.output) → (added : List ℕ) × ((before : List ℕ) → next now.core.plan (record { state = now.core.state; rest = []; output = before }) mv ≡ record { state = new.core.state; rest = []; output = before ++ added })
-behind_move now new mv m =
+after_move : (now new : Bench) (mv : Move) → Makes now.core new.core mv (streams_of (Some []) now.output) (streams_of (Some []) new.output) → (added : List ℕ) × ((before : List ℕ) → next now.core.plan (record { state = now.core.state; rest = []; output = before }) mv ≡ record { state = new.core.state; rest = []; output = before ++ added })
+after_move now new mv m =
     let plan : Plan = now.core.plan in
     let none : [] ≡ m.later = same_some [] m.later m.leaves.input in
     let P : List ℕ → List ℕ → Type 0 = λ rest later. next plan (record { state = now.core.state; rest = rest; output = [] }) mv ≡ record { state = new.core.state; rest = later; output = m.added } in
@@ -101,7 +101,7 @@ behind_move now new mv m =
       m.added,
       λ before.
           ap (λ (output : List ℕ). next plan (record { state = now.core.state; rest = []; output = output }) mv) (sym (append-nil before))
-          ∙ next-behind plan before (record { state = now.core.state; rest = []; output = [] }) mv
+          ∙ next-after plan before (record { state = now.core.state; rest = []; output = [] }) mv
           ∙ ap (λ (t : Moment). record t { output = before ++ t.output }) blank,
     )
 
@@ -109,20 +109,20 @@ behind_move now new mv m =
 moved_core : (now new : Bench) (mv : Move) → mv ≢ Serve → Makes now.core new.core mv (streams_of (Some []) now.output) (streams_of (Some []) new.output) → new.core ≡ in_state now.core (moved now.core.plan now.core.state mv)
 moved_core now new mv other m =
     let plan : Plan = now.core.plan in
-    let led = (behind_move now new mv m).1 [] in
+    let led = (after_move now new mv m).1 [] in
     let state : new.core.state ≡ moved plan now.core.state mv = ap (λ (t : Moment). t.state) (sym led ∙ next_moved plan (record { state = now.core.state; rest = []; output = [] }) mv other) in
     ap (λ (p : Plan). record { plan = p; state = new.core.state }) m.plan ∙ ap (in_state now.core) state
 
 -- a session stays on its run after a move
 pub makes-stands : (start : Processor) (mv : Move) (e : Event) (now new : Bench) → Stands start now.core now.ring → MakesOne mv e now new → Stands start new.core new.ring
-unfolding ring_behind kept
+unfolding ring_after kept
 makes-stands start mv e now new h m = of (serves-or mv)
   where
-    of : (mv ≡ Serve) ⊎ ((mv ≢ Serve) × ((plan : Plan) (s : State) (ring : List Kept) → ring_behind plan s mv ring ≡ with_record ring (kept plan s mv))) → Stands start new.core new.ring
+    of : (mv ≡ Serve) ⊎ ((mv ≢ Serve) × ((plan : Plan) (s : State) (ring : List Kept) → ring_after plan s mv ring ≡ with_record ring (kept plan s mv))) → Stands start new.core new.ring
     of (inl serves) =
-        let P : Move → Type 0 = λ v. (bar now.core.plan now.core.state v ≡ None) × Makes now.core new.core v (streams_of (Some []) now.output) (streams_of (Some []) new.output) × (new.ring ≡ ring_behind now.core.plan now.core.state v now.ring) in
+        let P : Move → Type 0 = λ v. (bar now.core.plan now.core.state v ≡ None) × Makes now.core new.core v (streams_of (Some []) now.output) (streams_of (Some []) new.output) × (new.ring ≡ ring_after now.core.plan now.core.state v now.ring) in
         let here : P Serve = subst P serves (m.allowed, m.makes, m.ring) in
-        let led = behind_move now new Serve here.1 in
+        let led = after_move now new Serve here.1 in
         subst (Stands start new.core) (sym here.2) (stands-served start now.core new.core now.ring led.0 h here.0 m.makes.plan led.1)
     of (inr (other, is)) =
         let k : Kept = kept now.core.plan now.core.state mv in

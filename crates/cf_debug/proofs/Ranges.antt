@@ -84,15 +84,15 @@ lone_told_few : (told : Option Command) (words : List (List ℕ)) → LoneFew to
 lone_told_few None words few = tt
 lone_told_few (Some command) words few = alone_few words command few
 
-named_few : (name behind : List ℕ) → Few (command_named name behind)
+named_few : (name after : List ℕ) → Few (command_named name after)
 unfolding command_named
-named_few name behind =
+named_few name after =
     pick (bytes_eq name (codes "")) (Ok Nothing) _ tt
-    (pick (bytes_eq name (codes "move")) (move_told (move_in behind)) _ (move_few (move_in behind))
-    (pick (bytes_eq name (codes "auto")) (auto_told (words_of behind)) _ (auto_few (words_of behind))
-    (pick (bytes_eq name (codes "mem")) (memory_told (words_of behind)) _ (memory_few (words_of behind))
-    (pick (bytes_eq name (codes "break")) (stop_told (words_of behind)) _ (stop_few (words_of behind))
-    (lone_told_few (lone_command name) (words_of behind) (lone_few name))))))
+    (pick (bytes_eq name (codes "move")) (move_told (move_in after)) _ (move_few (move_in after))
+    (pick (bytes_eq name (codes "auto")) (auto_told (words_of after)) _ (auto_few (words_of after))
+    (pick (bytes_eq name (codes "mem")) (memory_told (words_of after)) _ (memory_few (words_of after))
+    (pick (bytes_eq name (codes "break")) (stop_told (words_of after)) _ (stop_few (words_of after))
+    (lone_told_few (lone_command name) (words_of after) (lone_few name))))))
 
 -- a command that a line tells asks for few
 pub few-told : (line : List ℕ) (command : Command) → command_in line ≡ Ok command → AsksFew command

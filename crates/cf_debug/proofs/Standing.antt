@@ -22,7 +22,7 @@ use Rattle.cf_core.specs.Undo.{IsAfter}
 use Rattle.cf_core.proofs.Steps.{next_moved}
 use Rattle.cf_run.specs.Headline.{machine_on}
 use Rattle.cf_run.specs.Policies.{IsOpened}
-use Rattle.cf_debug.specs.Rings.{Leads, WasKept, ring_behind, with_record}
+use Rattle.cf_debug.specs.Rings.{Leads, WasKept, ring_after, with_record}
 use Rattle.cf_debug.specs.Standing.{Stands, IsOnRun}
 
 -- Runs --

@@ -82,13 +82,13 @@ lone_told (Some command) words = alone words command
 
 -- the command of this name, with the text after it
 unfoldable pub command_named : List ℕ → List ℕ → Result Command Refusal
-command_named name behind =
+command_named name after =
     if bytes_eq name (codes "") then Ok Nothing
-    else if bytes_eq name (codes "move") then move_told (move_in behind)
-    else if bytes_eq name (codes "auto") then auto_told (words_of behind)
-    else if bytes_eq name (codes "mem") then memory_told (words_of behind)
-    else if bytes_eq name (codes "break") then stop_told (words_of behind)
-    else lone_told (lone_command name) (words_of behind)
+    else if bytes_eq name (codes "move") then move_told (move_in after)
+    else if bytes_eq name (codes "auto") then auto_told (words_of after)
+    else if bytes_eq name (codes "mem") then memory_told (words_of after)
+    else if bytes_eq name (codes "break") then stop_told (words_of after)
+    else lone_told (lone_command name) (words_of after)
 
 -- what a line tells, or the first refusal
 unfoldable pub command_in : List ℕ → Result Command Refusal

@@ -8,7 +8,7 @@ use Rattle.cf_semantics.specs.state.State.{State}
 use Rattle.cf_semantics.specs.claims.Weight.{is_issue}
 use Rattle.cf_sched.specs.Policies.{round_pick, round_on}
 use Rattle.cf_run.specs.Made.{Made, retirement}
-use Rattle.cf_run.specs.Policies.{Chooser, fresh, choice, behind_choice}
+use Rattle.cf_run.specs.Policies.{Chooser, fresh, choice, after_choice}
 use Rattle.cf_run.specs.Reaching.{GoesOn}
 use Rattle.cf_debug.specs.Limits.{most_retired}
 use Rattle.cf_debug.specs.Making.{Bench, MakesOne, FailsOne}
@@ -37,7 +37,7 @@ pick at now = choice round_pick now.core.plan at now.core.state
 
 -- the turn after a move that was made
 abbrev pub next_turn : Turn → Bench → Made → Turn
-next_turn at now made = behind_choice round_on now.core.plan at now.core.state made
+next_turn at now made = after_choice round_on now.core.plan at now.core.state made
 
 -- the run goes on, and the move that is picked was made
 pub record Takes (at : Turn) (made : Made) (now new : Bench) : Type 0 where

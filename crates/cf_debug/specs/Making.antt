@@ -11,7 +11,7 @@ use Rattle.cf_semantics.specs.moves.Kept.{Kept}
 use Rattle.cf_core.specs.Processors.{Processor}
 use Rattle.cf_core.specs.Stepping.{Makes, FailsToWrite}
 use Rattle.cf_core.specs.Undo.{CanStand}
-use Rattle.cf_debug.specs.Rings.{ring_behind}
+use Rattle.cf_debug.specs.Rings.{ring_after}
 
 -- what moves change: the processor, the ring, and what the output tells
 pub record Bench : Type 0 where
@@ -32,7 +32,7 @@ pub record MakesOne (mv : Move) (event : Event) (now new : Bench) : Type 0 where
   pub stood : mv ≢ Serve → CanStand now.core.plan now.core.state
   pub makes : Makes now.core new.core mv (streams_at now) (streams_at new)
   pub is_event : IsEvent now.core.plan now.core.state mv event
-  pub ring : new.ring ≡ ring_behind now.core.plan now.core.state mv now.ring
+  pub ring : new.ring ≡ ring_after now.core.plan now.core.state mv now.ring
 
 -- nothing bars the move, which is Serve, and the output failed its call
 pub record FailsOne (mv : Move) (now new : Bench) : Type 0 where

@@ -16,9 +16,9 @@ abbrev pub with_record : List Kept → Kept → List Kept
 with_record ring k = keep_last most_kept (ring ++ k ∷ [])
 
 -- the ring after a move: what the move writes is kept; but Serve empties it, since its output cannot be taken back
-unfoldable pub ring_behind : Plan → State → Move → List Kept → List Kept
-ring_behind plan s Serve ring = []
-ring_behind plan s mv ring = with_record ring (kept plan s mv)
+unfoldable pub ring_after : Plan → State → Move → List Kept → List Kept
+ring_after plan s Serve ring = []
+ring_after plan s mv ring = with_record ring (kept plan s mv)
 
 -- a move other than Serve was allowed in the state, and this was kept of it
 pub record WasKept (plan : Plan) (s : State) (k : Kept) : Type 0 where

@@ -112,7 +112,7 @@ impl Feed {
     }
 
     /// Whether no byte that was taken is left.
-    #[tactic(auto, using(crate::proofs::Cutting::nothing_behind, crate::proofs::Cutting::something_behind))]
+    #[tactic(auto, using(crate::proofs::Cutting::nothing_after, crate::proofs::Cutting::something_after))]
     fn is_used(&self) -> bool
         ensures yes { result ≡ true → self.now.rest ≡ [] }
         ensures no { result ≡ false → 0 < length self.now.rest }

@@ -57,10 +57,10 @@ fn alone(words: &Words<'_>, command: Command) -> Result<Command, Refusal>
 }
 
 /// What follows `move`: a move, as in a script.
-fn read_moves(behind: &[u8]) -> Result<Command, Refusal>
-    ensures { result ≡ move_told (move_in behind.now) }
+fn read_moves(after: &[u8]) -> Result<Command, Refusal>
+    ensures { result ≡ move_told (move_in after.now) }
 {
-    match read_move(behind) {
+    match read_move(after) {
         Ok(mv) => Ok(Command::Move(mv)),
         Err(kind) => Err(Refusal::Script(kind)),
     }
@@ -127,32 +127,32 @@ fn lone_command(name: &[u8]) -> Option<Command>
 }
 
 /// A command after which no word may follow, with the text after its name.
-fn read_lone(name: &[u8], behind: &[u8]) -> Result<Command, Refusal>
-    ensures { result ≡ lone_told (lone_command name.now) (words_of behind.now) }
+fn read_lone(name: &[u8], after: &[u8]) -> Result<Command, Refusal>
+    ensures { result ≡ lone_told (lone_command name.now) (words_of after.now) }
 {
     match lone_command(name) {
-        Some(command) => alone(&Words::of(behind), command),
+        Some(command) => alone(&Words::of(after), command),
         None => Err(Refusal::UnknownCommand),
     }
 }
 
 /// The command of a name, with the text after it.
 #[tactic(auto, unfolding(crate::specs::Commands::command_named))]
-fn read_named(name: &[u8], behind: &[u8]) -> Result<Command, Refusal>
-    ensures { result ≡ command_named name.now behind.now }
+fn read_named(name: &[u8], after: &[u8]) -> Result<Command, Refusal>
+    ensures { result ≡ command_named name.now after.now }
 {
     if name == b"".as_slice() {
         Ok(Command::Nothing)
     } else if name == b"move".as_slice() {
-        read_moves(behind)
+        read_moves(after)
     } else if name == b"auto".as_slice() {
-        read_auto(Words::of(behind))
+        read_auto(Words::of(after))
     } else if name == b"mem".as_slice() {
-        read_memory(Words::of(behind))
+        read_memory(Words::of(after))
     } else if name == b"break".as_slice() {
-        read_break(Words::of(behind))
+        read_break(Words::of(after))
     } else {
-        read_lone(name, behind)
+        read_lone(name, after)
     }
 }
 
@@ -165,6 +165,6 @@ pub(crate) fn read_command(line: &[u8]) -> Result<Command, Refusal>
     if line.len() > 256 {
         return Err(Refusal::TooLong);
     }
-    let (name, behind) = split_name(line);
-    read_named(name, behind)
+    let (name, after) = split_name(line);
+    read_named(name, after)
 }

@@ -23,10 +23,10 @@ lines-more f a b page next whole h e k =
     rw e (append_assoc page (f a) _ ∙ ap (λ (l : List ℕ). page ++ l) (sym (lines-next f a b h)) ∙ k)
 
 -- the same where another text follows the lines
-pub lines-before : (f : ℕ → List ℕ) (a b : ℕ) (text behind : List ℕ) → a < b → text ≡ f a
-    → flat_map f (range_with_len a (b - a)) ++ behind ≡ text ++ (flat_map f (range_with_len (a + 1) (b - (a + 1))) ++ behind)
-lines-before f a b text behind h e =
-    rw (e, lines-next f a b h) (append_assoc (f a) _ behind)
+pub lines-before : (f : ℕ → List ℕ) (a b : ℕ) (text after : List ℕ) → a < b → text ≡ f a
+    → flat_map f (range_with_len a (b - a)) ++ after ≡ text ++ (flat_map f (range_with_len (a + 1) (b - (a + 1))) ++ after)
+lines-before f a b text after h e =
+    rw (e, lines-next f a b h) (append_assoc (f a) _ after)
 
 -- some draws and then more
 after-more : (m n x : ℕ) → state_after (m + n) x ≡ state_after n (state_after m x)

@@ -14,8 +14,8 @@ use Rattle.cf_semantics.specs.moves.Candidates.{candidates, counted_from, held_b
 use Rattle.cf_semantics.specs.state.State.{State}
 use Rattle.cf_semantics.specs.claims.Weight.{is_issue}
 use Rattle.cf_index.specs.Allowed.{all_entering, all_leaving, all_passing, allowed_others, is_allowed, withheld}
-use Rattle.cf_index.specs.Order.{first_behind, kind_place, stands_behind}
-use Rattle.cf_index.proofs.Behinds.{found_behind, found_candidate, found_held, found_second, entering_none, no_issue}
+use Rattle.cf_index.specs.Order.{first_after, kind_place, stands_after}
+use Rattle.cf_index.proofs.FirstsAfter.{found_after, found_candidate, found_held, found_second, entering_none, no_issue}
 use Rattle.cf_index.proofs.Filled.{all_chosen}
 use Rattle.cf_index.proofs.Held.{others_parts}
 use Rattle.cf_index.proofs.Passed.{later}
@@ -129,9 +129,9 @@ first_free plan s held (Some m) e next taken wait first = rw (e, in_parts plan s
 -- After a move --
 
 -- the first of all comes after an Issue, where it is not one itself
-pub behind_issue : (xs : List Move) (last m : Move) → Some m ≡ slice_get xs 0 → stands_behind last m ≡ true → Some m ≡ slice_get xs (first_behind (Some last) xs)
-behind_issue [] last m e behind = absurd (cc)
-behind_issue (x ∷ xs) last m e behind = found_behind last (x ∷ xs) m (let is : x ≡ m = cc in rw (is, behind) refl)
+pub after_issue : (xs : List Move) (last m : Move) → Some m ≡ slice_get xs 0 → stands_after last m ≡ true → Some m ≡ slice_get xs (first_after (Some last) xs)
+after_issue [] last m e after = absurd (cc)
+after_issue (x ∷ xs) last m e after = found_after last (x ∷ xs) m (let is : x ≡ m = cc in rw (is, after) refl)
 
 other_kind : (m : Move) → is_issue m ≡ false → 0 < kind_place m
 other_kind (Issue g) e = absurd (cc)
@@ -149,9 +149,9 @@ other_kind Leave e = omega arith
 other_kind Exit e = omega arith
 other_kind Serve e = omega arith
 
-pub unissued : (xs : List Move) (last : Move) (o : Option Move) → kind_place last ≡ 0 → IfSome o (λ next. Some next ≡ slice_get xs 0) → IfSome o (λ next. is_issue next ≡ false) → IfSome o (λ next. Some next ≡ slice_get xs (first_behind (Some last) xs))
+pub unissued : (xs : List Move) (last : Move) (o : Option Move) → kind_place last ≡ 0 → IfSome o (λ next. Some next ≡ slice_get xs 0) → IfSome o (λ next. is_issue next ≡ false) → IfSome o (λ next. Some next ≡ slice_get xs (first_after (Some last) xs))
 unissued xs last None issue first other = tt
-unissued xs last (Some m) issue first other = behind_issue xs last m first (later last m (let behind = other_kind m other in omega (arith, issue, behind)))
+unissued xs last (Some m) issue first other = after_issue xs last m first (later last m (let after = other_kind m other in omega (arith, issue, after)))
 
 -- where none comes after, it is the first of all
 past_end : {X : Type 0} (xs : List X) (k : ℕ) → slice_get xs k ≡ None → length xs ≤ k
@@ -159,10 +159,10 @@ past_end [] k e = omega arith
 past_end (x ∷ xs) zero e = absurd (cc)
 past_end (x ∷ xs) (suc k) e = let h = past_end xs k e in omega arith
 
-none_behind : (last : Move) (xs : List Move) → find (stands_behind last) xs ≡ None → first_behind (Some last) xs ≡ 0
-unfolding first_behind
-none_behind last xs e =
-    let p = stands_behind last in
+none_after : (last : Move) (xs : List Move) → find (stands_after last) xs ≡ None → first_after (Some last) xs ≡ 0
+unfolding first_after
+none_after last xs e =
+    let p = stands_after last in
     let far = past_end xs (position_or_len p xs) (sym (find_at p xs) ∙ e) in
     let t : nat_lt (position_or_len p xs) (length xs) ≡ false = grind (arith, nat_tests) in
     rw t refl
@@ -185,18 +185,18 @@ none_withheld p true xs e = by (nat_lt 0 (length (other_moves xs)))
     by true = none_chosen p (λ mv. not (is_issue mv)) xs e
     by false = e
 
-pub wrapped : (plan : Plan) (s : State) (last : Move) (held : Bool) (o r : Option Move) → 1 ≤ kind_place last → o ≡ find (stands_behind last) (filter (is_allowed plan s) (all_passing plan) ++ (filter (is_allowed plan s) (slides_from 0 plan.sidings) ++ filter (is_allowed plan s) (all_leaving plan))) → o ≡ None →
-    IfSome r (λ next. Some next ≡ slice_get (withheld held (candidates plan s)) 0) → IfSome r (λ next. Some next ≡ slice_get (withheld held (candidates plan s)) (first_behind (Some last) (withheld held (candidates plan s))))
+pub wrapped : (plan : Plan) (s : State) (last : Move) (held : Bool) (o r : Option Move) → 1 ≤ kind_place last → o ≡ find (stands_after last) (filter (is_allowed plan s) (all_passing plan) ++ (filter (is_allowed plan s) (slides_from 0 plan.sidings) ++ filter (is_allowed plan s) (all_leaving plan))) → o ≡ None →
+    IfSome r (λ next. Some next ≡ slice_get (withheld held (candidates plan s)) 0) → IfSome r (λ next. Some next ≡ slice_get (withheld held (candidates plan s)) (first_after (Some last) (withheld held (candidates plan s))))
 unfolding rest_of
-wrapped plan s last held o r behind e none first =
-    let p = stands_behind last in
-    let nowhere : find p (candidates plan s) ≡ None = ap (find p) (in_parts plan s) ∙ found_second p (filter (is_allowed plan s) all_entering) (rest_of plan s) (entering_none last (is_allowed plan s) behind) ∙ (sym e ∙ none) in
-    let zero_is = none_behind last (withheld held (candidates plan s)) (none_withheld p held (candidates plan s) nowhere) in
+wrapped plan s last held o r after e none first =
+    let p = stands_after last in
+    let nowhere : find p (candidates plan s) ≡ None = ap (find p) (in_parts plan s) ∙ found_second p (filter (is_allowed plan s) all_entering) (rest_of plan s) (entering_none last (is_allowed plan s) after) ∙ (sym e ∙ none) in
+    let zero_is = none_after last (withheld held (candidates plan s)) (none_withheld p held (candidates plan s) nowhere) in
     rw zero_is first
 
-pub found_soon : (plan : Plan) (s : State) (last m : Move) (held : Bool) (o : Option Move) → 1 ≤ kind_place last → o ≡ find (stands_behind last) (filter (is_allowed plan s) (all_passing plan) ++ (filter (is_allowed plan s) (slides_from 0 plan.sidings) ++ filter (is_allowed plan s) (all_leaving plan))) → o ≡ Some m →
-    Some m ≡ slice_get (withheld held (candidates plan s)) (first_behind (Some last) (withheld held (candidates plan s)))
-found_soon plan s last m true o behind e is = found_behind last (held_back (candidates plan s)) m (found_held (stands_behind last) (candidates plan s) m (λ mv f. no_issue last mv behind f) (found_candidate plan s last m behind (sym e ∙ is)))
-found_soon plan s last m false o behind e is = found_behind last (candidates plan s) m (found_candidate plan s last m behind (sym e ∙ is))
+pub found_soon : (plan : Plan) (s : State) (last m : Move) (held : Bool) (o : Option Move) → 1 ≤ kind_place last → o ≡ find (stands_after last) (filter (is_allowed plan s) (all_passing plan) ++ (filter (is_allowed plan s) (slides_from 0 plan.sidings) ++ filter (is_allowed plan s) (all_leaving plan))) → o ≡ Some m →
+    Some m ≡ slice_get (withheld held (candidates plan s)) (first_after (Some last) (withheld held (candidates plan s)))
+found_soon plan s last m true o after e is = found_after last (held_back (candidates plan s)) m (found_held (stands_after last) (candidates plan s) m (λ mv f. no_issue last mv after f) (found_candidate plan s last m after (sym e ∙ is)))
+found_soon plan s last m false o after e is = found_after last (candidates plan s) m (found_candidate plan s last m after (sym e ∙ is))
 
 pub ruleset firsts = (first_held, first_issue, first_free)

@@ -53,8 +53,8 @@ others_leaving l =
     others_parts _ _ (others_flag l.exit Exit refl) (others_flag l.serve Serve refl))))
 
 -- what does not enter
-pub others_behind : (p : Passing) (w : ℕ) (l : Leaving) → other_moves (passing_moves p ++ (slides_of w ++ leaving_moves l)) ≡ passing_moves p ++ (slides_of w ++ leaving_moves l)
-others_behind p w l = others_parts _ _ (others_passing p) (others_parts _ _ (others_slides w) (others_leaving l))
+pub others_after : (p : Passing) (w : ℕ) (l : Leaving) → other_moves (passing_moves p ++ (slides_of w ++ leaving_moves l)) ≡ passing_moves p ++ (slides_of w ++ leaving_moves l)
+others_after p w l = others_parts _ _ (others_passing p) (others_parts _ _ (others_slides w) (others_leaving l))
 
 -- the moves that enter are held back where others are there
 held_others : (es others rest : List Move) → others ≡ other_moves es → other_moves rest ≡ rest → 0 < length others + length rest → others ++ rest ≡ held_back (es ++ rest)

@@ -16,7 +16,7 @@ pub mod SiteWords
 pub mod UsedSites
 pub mod UsedCells
 pub mod SharedSites
-pub mod Behinds
+pub mod FirstsAfter
 pub mod There
 pub mod Independence
 pub mod Ranks

@@ -26,7 +26,7 @@ beyond_by [] ys j = let e : 0 + j ≡ j = omega arith in rw e refl
 beyond_by (x ∷ xs) ys j = let e : suc (length xs) + j ≡ suc (length xs + j) = omega arith in rw e (beyond_by xs ys j)
 
 pub beyond : {X : Type 0} (xs ys : List X) (n i : ℕ) (x : X) → n ≡ length xs → n ≤ i → Some x ≡ slice_get ys (i - n) → Some x ≡ slice_get (xs ++ ys) i
-beyond xs ys n i x e behind at = at ∙ beyond_by xs ys (i - n) ∙ ap (λ (k : ℕ). slice_get (xs ++ ys) k) (omega (arith, e))
+beyond xs ys n i x e after at = at ∙ beyond_by xs ys (i - n) ∙ ap (λ (k : ℕ). slice_get (xs ++ ys) k) (omega (arith, e))
 
 -- a move of a word
 pub of_word : (kind : ℕ → Move) (w k i : ℕ) → Some k ≡ slice_get (places 64 w) i → Some (kind (k + 1)) ≡ slice_get (at_word kind w) i
@@ -39,7 +39,7 @@ in_word kind w k i ys e = here (at_word kind w) ys i (kind (k + 1)) (of_word kin
 
 -- a move after those of a word
 pub past_word : (kind : ℕ → Move) (w n i : ℕ) (x : Move) (ys : List Move) → n ≡ length (places 64 w) → n ≤ i → Some x ≡ slice_get ys (i - n) → Some x ≡ slice_get (at_word kind w ++ ys) i
-past_word kind w n i x ys e behind at = beyond (at_word kind w) ys n i x (e ∙ sym (length-at_word kind w)) behind at
+past_word kind w n i x ys e after at = beyond (at_word kind w) ys n i x (e ∙ sym (length-at_word kind w)) after at
 
 -- how many moves within the sidings there are
 pub length-slides_of : (w : ℕ) → length (slides_of w) ≡ length (places 64 w)
@@ -71,7 +71,7 @@ length_flag false mv = refl
 
 -- a move after that of a flag
 pub past_flag : (b : Bool) (mv : Move) (i : ℕ) (x : Move) (ys : List Move) → bool_byte b ≤ i → Some x ≡ slice_get ys (i - bool_byte b) → Some x ≡ slice_get (flagged b mv ++ ys) i
-past_flag b mv i x ys behind at = beyond (flagged b mv) ys (bool_byte b) i x (length_flag b mv) behind at
+past_flag b mv i x ys after at = beyond (flagged b mv) ys (bool_byte b) i x (length_flag b mv) after at
 
 -- the move of a flag
 pub at_flag : (b : Bool) (mv : Move) (i : ℕ) (ys : List Move) → i < bool_byte b → Some mv ≡ slice_get (flagged b mv ++ ys) i
@@ -87,4 +87,4 @@ only_flag false mv i below = absurd (omega arith)
 
 -- what is left of the place of a move after the first part
 pub rest_below : {X : Type 0} (xs ys : List X) (n i : ℕ) → n ≡ length xs → n ≤ i → i < length (xs ++ ys) → i - n < length ys
-rest_below xs ys n i e behind below = let l = rw (length-append xs ys) at below in omega arith
+rest_below xs ys n i e after below = let l = rw (length-append xs ys) at below in omega arith

@@ -7,7 +7,7 @@ use Rattle.cf_index.specs.declared.passing.Passing.{Passing}
 use Rattle.cf_index.specs.declared.leaving.Leaving.{Leaving}
 use Rattle.cf_index.specs.Places.{places}
 use Rattle.cf_index.specs.Listed.{entering_moves, passing_moves, slides_of, leaving_moves}
-use Rattle.cf_index.specs.Order.{kind_place, passed, first_behind}
+use Rattle.cf_index.specs.Order.{kind_place, passed, first_after}
 use Rattle.cf_index.proofs.Parts.{length-slides_of}
 use Rattle.cf_index.proofs.Passed.{passed_all, passed_part, both_none}
 use Rattle.cf_index.proofs.PassedStages.{passing_none, passing_all}
@@ -26,26 +26,26 @@ passed_entering e p w l last before =
 
 -- by a move in the stages
 pub passed_passing : (e : Entering) (p : Passing) (w : ℕ) (l : Leaving) (last : Move) → 1 < kind_place last → kind_place last < 8 → passed last (whole e p w l) ≡ length (entering_moves e) + passed last (passing_moves p)
-passed_passing e p w l last behind before =
+passed_passing e p w l last after before =
     passed_all last (entering_moves e) _ (entering_all e last (omega arith)) ∙ ap (λ n. length (entering_moves e) + n) (
     passed_part last (passing_moves p) _ (both_none last _ _ (slides_none w last before) (leaving_none l last (omega arith))))
 
 -- by a move within the sidings
 pub passed_sliding : (e : Entering) (p : Passing) (w : ℕ) (l : Leaving) (last : Move) → 7 < kind_place last → kind_place last < 9 → passed last (whole e p w l) ≡ length (entering_moves e) + (length (passing_moves p) + passed last (slides_of w))
-passed_sliding e p w l last behind before =
+passed_sliding e p w l last after before =
     passed_all last (entering_moves e) _ (entering_all e last (omega arith)) ∙ ap (λ n. length (entering_moves e) + n) (
-    passed_all last (passing_moves p) _ (passing_all p last behind) ∙ ap (λ n. length (passing_moves p) + n) (
+    passed_all last (passing_moves p) _ (passing_all p last after) ∙ ap (λ n. length (passing_moves p) + n) (
     passed_part last (slides_of w) _ (leaving_none l last before)))
 
 -- by a move that leaves
 pub passed_leaving : (e : Entering) (p : Passing) (w : ℕ) (l : Leaving) (last : Move) → 8 < kind_place last → passed last (whole e p w l) ≡ length (entering_moves e) + (length (passing_moves p) + (length (places 64 w) + passed last (leaving_moves l)))
-passed_leaving e p w l last behind =
+passed_leaving e p w l last after =
     passed_all last (entering_moves e) _ (entering_all e last (omega arith)) ∙ ap (λ n. length (entering_moves e) + n) (
     passed_all last (passing_moves p) _ (passing_all p last (omega arith)) ∙ ap (λ n. length (passing_moves p) + n) (
-    passed_all last (slides_of w) _ (slides_all w last behind) ∙ rw (length-slides_of w) refl))
+    passed_all last (slides_of w) _ (slides_all w last after) ∙ rw (length-slides_of w) refl))
 
 -- where there is no last move the first comes after it
-pub no_last : (moves : List Move) → 0 ≡ first_behind None moves
-unfolding first_behind
+pub no_last : (moves : List Move) → 0 ≡ first_after None moves
+unfolding first_after
 no_last [] = refl
 no_last (mv ∷ moves) = let e : nat_lt 0 (length (mv ∷ moves)) ≡ true = grind (arith, nat_tests) in rw e refl

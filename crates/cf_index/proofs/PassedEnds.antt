@@ -12,21 +12,21 @@ use Rattle.cf_index.specs.declared.entering.Entering.{Entering}
 use Rattle.cf_index.specs.declared.leaving.Leaving.{Leaving}
 use Rattle.cf_index.specs.Places.{places}
 use Rattle.cf_index.specs.Listed.{flagged, slide_at, slides_of, entering_moves, leaving_moves}
-use Rattle.cf_index.specs.Order.{kind_place, below_or, stands_behind, passed}
+use Rattle.cf_index.specs.Order.{kind_place, below_or, stands_after, passed}
 use Rattle.cf_index.proofs.Parts.{length_flag}
 use Rattle.cf_index.proofs.Passed.{earlier, later, map_all, map_none, map_part, ascending, passed_all, passed_part, step_all, step_part, word_all, word_none, flag_all, flag_none, both_none, both_all, up_to}
 
 -- Emit does not come after itself, nor after a move of a later kind
-not_emit : (last : Move) → 1 ≤ kind_place last → stands_behind last Emit ≡ false
-not_emit last behind = grind (arith, nat_tests)
+not_emit : (last : Move) → 1 ≤ kind_place last → stands_after last Emit ≡ false
+not_emit last after = grind (arith, nat_tests)
 
 -- all that enter, by Emit or a move of a later kind
 pub entering_all : (e : Entering) (last : Move) → 1 ≤ kind_place last → passed last (entering_moves e) ≡ length (entering_moves e)
 unfolding entering_moves
-entering_all e last behind =
+entering_all e last after =
     both_all last _ _ (flag_all last e.next (Issue Next) (earlier last (Issue Next) (omega arith))) (
     both_all last _ _ (flag_all last e.taken (Issue Taken) (earlier last (Issue Taken) (omega arith))) (
-    both_all last _ _ (flag_all last e.wait (Issue Wait) (earlier last (Issue Wait) (omega arith))) (flag_all last e.emit Emit (not_emit last behind))))
+    both_all last _ _ (flag_all last e.wait (Issue Wait) (earlier last (Issue Wait) (omega arith))) (flag_all last e.emit Emit (not_emit last after))))
 
 -- the cells of a siding that do not come after a cell: as many as up to it, of 8
 abbrev cells_up_to : ℕ → ℕ
@@ -46,7 +46,7 @@ slides_none w last before = map_none last slide_at (places 64 w) (λ j. later la
 
 pub slides_all : (w : ℕ) (last : Move) → 8 < kind_place last → passed last (slides_of w) ≡ length (slides_of w)
 unfolding slides_of
-slides_all w last behind = map_all last slide_at (places 64 w) (λ j. earlier last (slide_at j) (omega arith))
+slides_all w last after = map_all last slide_at (places 64 w) (λ j. earlier last (slide_at j) (omega arith))
 
 -- none of those that leave, by a move of an earlier kind
 pub leaving_none : (l : Leaving) (last : Move) → kind_place last < 9 → passed last (leaving_moves l) ≡ 0
@@ -67,11 +67,11 @@ enters_or_passes Serve access recover leave exit serve = absurd (serve refl)
 enters_or_passes last access recover leave exit serve = omega arith
 
 -- a flag's move that is passed, before others
-flag_step : (last : Move) (b : Bool) (mv : Move) (ys : List Move) → stands_behind last mv ≡ false → passed last (flagged b mv ++ ys) ≡ bool_byte b + passed last ys
+flag_step : (last : Move) (b : Bool) (mv : Move) (ys : List Move) → stands_after last mv ≡ false → passed last (flagged b mv ++ ys) ≡ bool_byte b + passed last ys
 flag_step last b mv ys before = passed_all last (flagged b mv) ys (flag_all last b mv before) ∙ rw (length_flag b mv) refl
 
 -- and before others of which none is passed
-flag_last : (last : Move) (b : Bool) (mv : Move) (ys : List Move) → stands_behind last mv ≡ false → passed last ys ≡ 0 → passed last (flagged b mv ++ ys) ≡ bool_byte b
+flag_last : (last : Move) (b : Bool) (mv : Move) (ys : List Move) → stands_after last mv ≡ false → passed last ys ≡ 0 → passed last (flagged b mv ++ ys) ≡ bool_byte b
 flag_last last b mv ys before none = passed_part last (flagged b mv) ys none ∙ flag_all last b mv before ∙ sym (length_flag b mv)
 
 pub passed_access : (l : Leaving) → passed Access (leaving_moves l) ≡ bool_byte l.access

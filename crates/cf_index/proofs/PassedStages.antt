@@ -63,7 +63,7 @@ passing_none p last before =
 -- all of them, by a move of a later kind
 pub passing_all : (p : Passing) (last : Move) → 7 < kind_place last → passed last (passing_moves p) ≡ length (passing_moves p)
 unfolding passing_moves
-passing_all p last behind =
+passing_all p last after =
     both_all last _ _ (word_all last Climb p.climb (λ k. earlier last (Climb k) (omega arith))) (both_all last _ _ (word_all last Fall p.fall (λ k. earlier last (Fall k) (omega arith))) (both_all last _ _ (word_all last Meet p.meet (λ k. earlier last (Meet k) (omega arith))) (both_all last _ _ (word_all last Execute p.execute (λ k. earlier last (Execute k) (omega arith))) (both_all last _ _ (word_all last Send p.send (λ k. earlier last (Send k) (omega arith))) (word_all last Launch p.launch (λ k. earlier last (Launch k) (omega arith)))))))
 
 pub ruleset passing = (passed_climb, passed_fall, passed_meet, passed_execute, passed_send, passed_launch)

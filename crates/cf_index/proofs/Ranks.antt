@@ -17,10 +17,10 @@ use Rattle.cf_semantics.specs.state.State.{State}
 use Rattle.cf_index.specs.declared.rank.Rank.{Rank}
 use Rattle.cf_index.specs.Allowed.{all_leaving, all_passing, is_allowed}
 use Rattle.cf_index.specs.Listed.{at_word, slides_of}
-use Rattle.cf_index.specs.Order.{kind_place, slide_place, stands_behind}
+use Rattle.cf_index.specs.Order.{kind_place, slide_place, stands_after}
 use Rattle.cf_index.specs.Places.{places}
 use Rattle.cf_index.specs.Ranks.{is_past, rank_of}
-use Rattle.cf_index.proofs.Behinds.{found_first, found_second}
+use Rattle.cf_index.proofs.FirstsAfter.{found_first, found_second}
 use Rattle.cf_index.proofs.Parts.{of_slides, slides_of-zero}
 use Rattle.cf_index.proofs.Places.{lowest}
 
@@ -29,7 +29,7 @@ pub sooner : (r : Rank) (mv : Move) → kind_place mv < r.kind → is_past r mv 
 sooner r mv before = grind (arith, nat_tests)
 
 pub later : (r : Rank) (mv : Move) → r.kind < kind_place mv → is_past r mv ≡ true
-later r mv behind = grind (arith, nat_tests)
+later r mv after = grind (arith, nat_tests)
 
 -- a stage above number i comes after it
 pub above : (i k : ℕ) → not (nat_lt k i) ≡ nat_lt i (k + 1)
@@ -83,8 +83,8 @@ all_step p true x xs e rest = rw e refl
 all_step p false x xs e rest = rest
 
 all_map : (p q : Move → Bool) (f : ℕ → Move) (ks : List ℕ) → ((k : ℕ) → p (f k) ≡ true) → find p (filter q (map f ks)) ≡ slice_get (filter q (map f ks)) 0
-all_map p q f [] behind = refl
-all_map p q f (k ∷ ks) behind = all_step p (q (f k)) (f k) (filter q (map f ks)) (behind k) (all_map p q f ks behind)
+all_map p q f [] after = refl
+all_map p q f (k ∷ ks) after = all_step p (q (f k)) (f k) (filter q (map f ks)) (after k) (all_map p q f ks after)
 
 both_step : (p : Move → Bool) (x : Move) (xs ys : List Move) (b : Bool) → p x ≡ b → cond b (Some x) (find p xs) ≡ Some x → cond b (Some x) (find p (xs ++ ys)) ≡ Some x
 both_step p x xs ys true e at = refl
@@ -157,7 +157,7 @@ late_slides plan s r late = sym (none_sliding r (is_allowed plan s) 0 plan.sidin
 -- Kinds that have a single move --
 
 pub flag_here : (r : Rank) (q : Move → Bool) (mv : Move) (xs : List Move) → r.kind < kind_place mv → q mv ≡ true → Some mv ≡ find (is_past r) (filter q (mv ∷ xs))
-flag_here r q mv xs behind free = rw (free, later r mv behind) refl
+flag_here r q mv xs after free = rw (free, later r mv after) refl
 
 pub flag_barred : (r : Rank) (q : Move → Bool) (mv : Move) (xs : List Move) → q mv ≡ false → find (is_past r) (filter q xs) ≡ find (is_past r) (filter q (mv ∷ xs))
 flag_barred r q mv xs barred = rw barred refl
@@ -172,17 +172,17 @@ flag_late r q mv xs late = late_step (is_past r) (q mv) mv (filter q xs) late
 -- The rank of a move --
 
 -- what comes after it comes after the move, where the move is neither within the sidings nor an Issue
-same_past : (last mv : Move) → 0 < kind_place last → kind_place last ≢ slide_place → is_past (rank_of last) mv ≡ stands_behind last mv
+same_past : (last mv : Move) → 0 < kind_place last → kind_place last ≢ slide_place → is_past (rank_of last) mv ≡ stands_after last mv
 same_past last mv some other = grind (arith, nat_tests)
 
 same_find : (p q : Move → Bool) (xs : List Move) → ((mv : Move) → p mv ≡ q mv) → find p xs ≡ find q xs
 same_find p q [] same = refl
 same_find p q (x ∷ xs) same = rw (same x, same_find p q xs same) refl
 
-pub found_past : (last : Move) (xs : List Move) → 0 < kind_place last → kind_place last ≢ slide_place → find (is_past (rank_of last)) xs ≡ find (stands_behind last) xs
-found_past last xs some other = same_find (is_past (rank_of last)) (stands_behind last) xs (λ mv. same_past last mv some other)
+pub found_past : (last : Move) (xs : List Move) → 0 < kind_place last → kind_place last ≢ slide_place → find (is_past (rank_of last)) xs ≡ find (stands_after last) xs
+found_past last xs some other = same_find (is_past (rank_of last)) (stands_after last) xs (λ mv. same_past last mv some other)
 
-pub found_rank : (r : Rank) (last : Move) (xs : List Move) (o : Option Move) → r ≡ rank_of last → 0 < kind_place last → kind_place last ≢ slide_place → o ≡ find (is_past r) xs → o ≡ find (stands_behind last) xs
+pub found_rank : (r : Rank) (last : Move) (xs : List Move) (o : Option Move) → r ≡ rank_of last → 0 < kind_place last → kind_place last ≢ slide_place → o ≡ find (is_past r) xs → o ≡ find (stands_after last) xs
 found_rank r last xs o stands some other e = e ∙ ap (λ (q : Rank). find (is_past q) xs) stands ∙ found_past last xs some other
 
 -- what is found in the first part, or else in the second

@@ -23,13 +23,13 @@ places_next : (w : ℕ) → 0 < w → w < 2 ^ 64 → places 64 w ≡ trailing_ze
 places_next w some small = rw (cleared 64 w some small) (first_and_rest (places 64 w) (trailing_zeros w64 w) (lowest w some small))
 
 -- the lowest move is shown, and then the others
-pub shown_next : {V : Type 0} (behind : V → Move → V) (kind : Spread) (v : V) (w : ℕ) → 0 < w → w < 2 ^ 64 →
-    fold behind (behind v (numbered kind (trailing_zeros w64 w))) (map (numbered kind) (places 64 (bit_and w (w - 1)))) ≡ fold behind v (map (numbered kind) (places 64 w))
-shown_next behind kind v w some small = rw (places_next w some small) refl
+pub shown_next : {V : Type 0} (after : V → Move → V) (kind : Spread) (v : V) (w : ℕ) → 0 < w → w < 2 ^ 64 →
+    fold after (after v (numbered kind (trailing_zeros w64 w))) (map (numbered kind) (places 64 (bit_and w (w - 1)))) ≡ fold after v (map (numbered kind) (places 64 w))
+shown_next after kind v w some small = rw (places_next w some small) refl
 
 -- of a word without a bit no move is shown
-pub shown_none : {V : Type 0} (behind : V → Move → V) (kind : Spread) (v : V) → fold behind v (map (numbered kind) (places 64 0)) ≡ v
-shown_none behind kind v = rw (places_zero 64) refl
+pub shown_none : {V : Type 0} (after : V → Move → V) (kind : Spread) (v : V) → fold after v (map (numbered kind) (places 64 0)) ≡ v
+shown_none after kind v = rw (places_zero 64) refl
 
 -- the lowest number is within the word
 pub lowest_within : (w : ℕ) → 0 < w → w < 2 ^ 64 → trailing_zeros w64 w < 64

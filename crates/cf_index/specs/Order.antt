@@ -58,18 +58,18 @@ abbrev pub below_or : ℕ → ℕ → Bool → Bool
 below_or a b rest = nat_lt a b || (nat_eq a b && rest)
 
 -- the second move comes after the first
-abbrev pub stands_behind : Move → Move → Bool
-stands_behind a b = below_or (kind_place a) (kind_place b) (below_or (place a) (place b) (nat_lt (cell_place a) (cell_place b)))
+abbrev pub stands_after : Move → Move → Bool
+stands_after a b = below_or (kind_place a) (kind_place b) (below_or (place a) (place b) (nat_lt (cell_place a) (cell_place b)))
 
 -- the move comes after the last one, if there was one
-abbrev pub is_behind : Option Move → Move → Bool
-is_behind None mv = true
-is_behind (Some last) mv = stands_behind last mv
+abbrev pub is_after : Option Move → Move → Bool
+is_after None mv = true
+is_after (Some last) mv = stands_after last mv
 
 -- how many of the moves come before the first after the last one
 unfoldable pub passed : Move → List Move → ℕ
-passed last moves = prefix_len (λ mv. not (stands_behind last mv)) moves
+passed last moves = prefix_len (λ mv. not (stands_after last mv)) moves
 
 -- the place in the list of the first move after the last one, and that of the first of all where none comes after it
-unfoldable pub first_behind : Option Move → List Move → ℕ
-first_behind last moves = on (position (is_behind last) moves) 0 (λ i. i)
+unfoldable pub first_after : Option Move → List Move → ℕ
+first_after last moves = on (position (is_after last) moves) 0 (λ i. i)

@@ -19,7 +19,7 @@ fn next_launch(core: &Core, masks: &Masks, last: Rank) -> Option<Move>
     requires { masks.now ≡ masks_of core.now.plan core.now.state }
     ensures { result ≡ find (is_past last) (launch_on core.now.plan core.now.state) }
 {
-    match lowest(last.behind(LAUNCH, launches(core, masks))) {
+    match lowest(last.after(LAUNCH, launches(core, masks))) {
         Some(k) => Some(Move::Launch(k + 1)),
         None => None,
     }
@@ -31,7 +31,7 @@ fn next_send(core: &Core, masks: &Masks, last: Rank) -> Option<Move>
     requires { masks.now ≡ masks_of core.now.plan core.now.state }
     ensures { result ≡ find (is_past last) (send_on core.now.plan core.now.state) }
 {
-    match lowest(last.behind(SEND, sends(core, masks))) {
+    match lowest(last.after(SEND, sends(core, masks))) {
         Some(k) => Some(Move::Send(k + 1)),
         None => next_launch(core, masks, last),
     }
@@ -44,7 +44,7 @@ fn next_execute(core: &Core, last: Rank) -> Option<Move>
     ensures { result ≡ find (is_past last) (execute_on core.now.plan core.now.state) }
 {
     let masks = core.masks();
-    match lowest(last.behind(EXECUTE, executes(core, &masks))) {
+    match lowest(last.after(EXECUTE, executes(core, &masks))) {
         Some(k) => Some(Move::Execute(k + 1)),
         None => next_send(core, &masks, last),
     }
@@ -56,7 +56,7 @@ fn next_meet(core: &Core, masks: &Masks, last: Rank) -> Option<Move>
     requires { masks.now ≡ masks_of core.now.plan core.now.state }
     ensures { result ≡ find (is_past last) (meet_on core.now.plan core.now.state) }
 {
-    match lowest(last.behind(MEET, meets(core, masks))) {
+    match lowest(last.after(MEET, meets(core, masks))) {
         Some(k) => Some(Move::Meet(k + 1)),
         None => next_execute(core, last),
     }
@@ -68,7 +68,7 @@ fn next_fall(core: &Core, masks: &Masks, last: Rank) -> Option<Move>
     requires { masks.now ≡ masks_of core.now.plan core.now.state }
     ensures { result ≡ find (is_past last) (fall_on core.now.plan core.now.state) }
 {
-    match lowest(last.behind(FALL, falls(core, masks))) {
+    match lowest(last.after(FALL, falls(core, masks))) {
         Some(k) => Some(Move::Fall(k + 1)),
         None => next_meet(core, masks, last),
     }
@@ -80,7 +80,7 @@ fn next_climb(core: &Core, masks: &Masks, last: Rank) -> Option<Move>
     requires { masks.now ≡ masks_of core.now.plan core.now.state }
     ensures { result ≡ find (is_past last) (climb_on core.now.plan core.now.state) }
 {
-    match lowest(last.behind(CLIMB, climbs(core, masks))) {
+    match lowest(last.after(CLIMB, climbs(core, masks))) {
         Some(k) => Some(Move::Climb(k + 1)),
         None => next_fall(core, masks, last),
     }

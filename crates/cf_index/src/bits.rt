@@ -31,7 +31,7 @@ pub(crate) fn count_below(word: u64, k: usize) -> usize
 
 /// The lowest of its numbers, if it has one.
 #[inline(always)]
-#[tactic(auto, using(crate::proofs::Behinds::lowest_place, crate::proofs::Behinds::no_place))]
+#[tactic(auto, using(crate::proofs::FirstsAfter::lowest_place, crate::proofs::FirstsAfter::no_place))]
 pub(crate) fn lowest(word: u32) -> Option<u32>
     ensures number { result ≡ slice_get (places 64 word) 0 }
     ensures within { IfSome result (λ k. k < 64) }

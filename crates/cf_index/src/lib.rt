@@ -1,8 +1,8 @@
 //! The moves that are allowed, counted and picked by their place.
 #![tactic(auto)]
 
+mod after;
 mod ahead;
-mod behind;
 mod bits;
 mod candidates;
 mod entering;

@@ -60,7 +60,7 @@ fn next_recover(core: &Core, masks: &Masks, last: Rank) -> Option<Move>
     ensures { result ≡ find (is_past last) (filter (is_allowed core.now.plan core.now.state) (at_stages core.now.plan mv.Recover ++ mv.Leave ∷ mv.Exit ∷ mv.Serve ∷ [])) }
 {
     let _stages = stages(core);
-    match lowest(last.behind(RECOVER, masks.recover)) {
+    match lowest(last.after(RECOVER, masks.recover)) {
         Some(k) => Some(Move::Recover(k + 1)),
         None => next_leave(core, last),
     }

@@ -125,7 +125,7 @@ impl Rank {
     /// The stages of the word at which the move of this kind comes after the rank.
     #[inline(always)]
     #[tactic(auto, using(crate::proofs::Ranks::above))]
-    pub(crate) fn behind(self, kind: u32, word: u32) -> u32
+    pub(crate) fn after(self, kind: u32, word: u32) -> u32
         ensures { (k : ℕ) → has_bit result k ≡ (has_bit word k && below_or self.kind kind (nat_lt self.place (k + 1))) }
     {
         if self.kind < kind {

@@ -5,7 +5,7 @@ ghost use Rattle.cf_bind.specs.declared.moves.Move.{Move as Step};
 ghost use Rattle.cf_semantics.specs.moves.Candidates.{candidates, slides_from};
 ghost use Rattle.cf_semantics.specs.claims.Weight.{is_issue};
 ghost use Rattle.cf_index.specs.Allowed.{all_leaving, all_passing, allowed_others, is_allowed, withheld};
-ghost use Rattle.cf_index.specs.Order.{first_behind, slide_place};
+ghost use Rattle.cf_index.specs.Order.{first_after, slide_place};
 ghost use Rattle.cf_index.specs.Ranks.{is_past, rank_of};
 
 use crate::ahead::next_passing;
@@ -87,7 +87,7 @@ impl Candidates {
     #[inline(always)]
     pub fn soon(core: &Core, last: Rank, held: bool) -> Option<Move>
         ensures next { (mv : Step) → last ≡ rank_of mv → IfSome result (λ next. Some next ≡ slice_get (withheld held (candidates core.now.plan core.now.state))
-            (first_behind (Some mv) (withheld held (candidates core.now.plan core.now.state)))) }
+            (first_after (Some mv) (withheld held (candidates core.now.plan core.now.state)))) }
         ensures slide { last.kind ≡ slide_place → result ≡ None }
     {
         if !goes_on(core) || last.kind == SLIDE {

@@ -23,11 +23,11 @@ use cf_core::{Core, Masks};
 /// What is shown moves, one after another. What it is after a move depends only on what it was and on the move.
 pub trait Visitor {
     /// The visitor after a move.
-    ghost behind: { Self → Step → Self };
+    ghost after: { Self → Step → Self };
 
     /// It is shown a move.
     fn visit(&mut self, mv: Move)
-        ensures { self.new ≡ behind self.old mv };
+        ensures { self.new ≡ after self.old mv };
 }
 
 /// The kinds of moves for which there is a word: a move at each stage, or at each cell of the sidings.
@@ -66,7 +66,7 @@ impl Spread {
 /// Shows a move where it is there.
 #[inline(always)]
 fn visit_if<V: Visitor>(visitor: &mut V, there: bool, mv: Move)
-    ensures { visitor.new ≡ fold V.behind visitor.old (flagged there mv) }
+    ensures { visitor.new ≡ fold V.after visitor.old (flagged there mv) }
 {
     if there {
         visitor.visit(mv);
@@ -77,7 +77,7 @@ fn visit_if<V: Visitor>(visitor: &mut V, there: bool, mv: Move)
 #[inline(always)]
 #[tactic(auto, using(crate::proofs::Shown::shown_next, crate::proofs::Shown::shown_none, crate::proofs::Shown::lowest_within, crate::proofs::Shown::less_word))]
 fn visit_word<V: Visitor>(visitor: &mut V, kind: Spread, word: u64)
-    ensures { visitor.new ≡ fold V.behind visitor.old (map (numbered kind) (places 64 word)) }
+    ensures { visitor.new ≡ fold V.after visitor.old (map (numbered kind) (places 64 word)) }
 {
     let mut rest = word;
     while rest != 0 {
@@ -91,7 +91,7 @@ impl Entering {
     #[inline(always)]
     #[tactic(auto, using(crate::proofs::Shown::shown_parts), unfolding(crate::specs::Listed::entering_moves))]
     fn visit<V: Visitor>(&self, visitor: &mut V)
-        ensures { visitor.new ≡ fold V.behind visitor.old (entering_moves self.now) }
+        ensures { visitor.new ≡ fold V.after visitor.old (entering_moves self.now) }
     {
         visit_if(visitor, self.next, Move::Issue(Guess::Next));
         visit_if(visitor, self.taken, Move::Issue(Guess::Taken));
@@ -105,7 +105,7 @@ impl Passing {
     #[inline(always)]
     #[tactic(auto, using(crate::proofs::Shown::shown_parts), unfolding(crate::specs::Listed::passing_moves, crate::specs::Listed::at_word))]
     fn visit<V: Visitor>(&self, visitor: &mut V)
-        ensures { visitor.new ≡ fold V.behind visitor.old (passing_moves self.now) }
+        ensures { visitor.new ≡ fold V.after visitor.old (passing_moves self.now) }
     {
         visit_word(visitor, Spread::Climb, self.climb as u64);
         visit_word(visitor, Spread::Fall, self.fall as u64);
@@ -121,7 +121,7 @@ impl Leaving {
     #[inline(always)]
     #[tactic(auto, using(crate::proofs::Shown::shown_parts), unfolding(crate::specs::Listed::leaving_moves, crate::specs::Listed::at_word))]
     fn visit<V: Visitor>(&self, visitor: &mut V)
-        ensures { visitor.new ≡ fold V.behind visitor.old (leaving_moves self.now) }
+        ensures { visitor.new ≡ fold V.after visitor.old (leaving_moves self.now) }
     {
         visit_if(visitor, self.access, Move::Access);
         visit_word(visitor, Spread::Recover, self.recover as u64);
@@ -136,7 +136,7 @@ impl Candidates {
     #[inline(always)]
     #[tactic(auto, using(crate::proofs::Shown::shown_parts), unfolding(crate::specs::Listed::slides_of))]
     pub fn visit<V: Visitor>(&self, visitor: &mut V)
-        ensures { visitor.new ≡ fold V.behind visitor.old self.now }
+        ensures { visitor.new ≡ fold V.after visitor.old self.now }
     {
         self.entering.visit(visitor);
         self.passing.visit(visitor);
@@ -149,7 +149,7 @@ impl Candidates {
 #[inline(always)]
 #[tactic(auto, using(crate::proofs::Others::emit_chosen))]
 fn visit_emit<V: Visitor>(core: &Core, visitor: &mut V)
-    ensures { visitor.new ≡ fold V.behind visitor.old (filter (is_allowed core.now.plan core.now.state) (mv.Emit ∷ [])) }
+    ensures { visitor.new ≡ fold V.after visitor.old (filter (is_allowed core.now.plan core.now.state) (mv.Emit ∷ [])) }
 {
     visit_if(visitor, core.may_emit(), Move::Emit);
 }
@@ -158,7 +158,7 @@ fn visit_emit<V: Visitor>(core: &Core, visitor: &mut V)
 #[inline(always)]
 fn visit_passing<V: Visitor>(core: &Core, masks: &Masks, visitor: &mut V)
     requires { masks.now ≡ masks_of core.now.plan core.now.state }
-    ensures shown { visitor.new ≡ fold V.behind visitor.old (filter (is_allowed core.now.plan core.now.state) (all_passing core.now.plan)) }
+    ensures shown { visitor.new ≡ fold V.after visitor.old (filter (is_allowed core.now.plan core.now.state) (all_passing core.now.plan)) }
     ensures few { length (filter (is_allowed core.now.plan core.now.state) (all_passing core.now.plan)) ≤ most_passing }
 {
     let passing = passing(core, masks);
@@ -170,7 +170,7 @@ fn visit_passing<V: Visitor>(core: &Core, masks: &Masks, visitor: &mut V)
 #[inline(always)]
 #[tactic(auto, using(crate::proofs::Parts::lengths), unfolding(crate::specs::Listed::slides_of))]
 fn visit_slides<V: Visitor>(core: &Core, visitor: &mut V)
-    ensures shown { visitor.new ≡ fold V.behind visitor.old (filter (is_allowed core.now.plan core.now.state) (slides_from 0 core.now.plan.sidings)) }
+    ensures shown { visitor.new ≡ fold V.after visitor.old (filter (is_allowed core.now.plan core.now.state) (slides_from 0 core.now.plan.sidings)) }
     ensures few { length (filter (is_allowed core.now.plan core.now.state) (slides_from 0 core.now.plan.sidings)) ≤ most_of_kind }
 {
     let slides = slides(core);
@@ -182,7 +182,7 @@ fn visit_slides<V: Visitor>(core: &Core, visitor: &mut V)
 #[inline(always)]
 fn visit_leaving<V: Visitor>(core: &Core, masks: &Masks, visitor: &mut V)
     requires { masks.now ≡ masks_of core.now.plan core.now.state }
-    ensures shown { visitor.new ≡ fold V.behind visitor.old (filter (is_allowed core.now.plan core.now.state) (all_leaving core.now.plan)) }
+    ensures shown { visitor.new ≡ fold V.after visitor.old (filter (is_allowed core.now.plan core.now.state) (all_leaving core.now.plan)) }
     ensures few { length (filter (is_allowed core.now.plan core.now.state) (all_leaving core.now.plan)) ≤ most_leaving }
 {
     let leaving = leaving(core, masks);
@@ -195,7 +195,7 @@ impl Candidates {
     #[inline(always)]
     #[tactic(auto, using(crate::proofs::Shown::shown_parts, crate::proofs::Others::few_parts))]
     pub fn visit_others<V: Visitor>(core: &Core, visitor: &mut V)
-        ensures shown { visitor.new ≡ fold V.behind visitor.old (allowed_others core.now.plan core.now.state) }
+        ensures shown { visitor.new ≡ fold V.after visitor.old (allowed_others core.now.plan core.now.state) }
         ensures few { length (allowed_others core.now.plan core.now.state) ≤ most_others }
     {
         let masks = core.masks();

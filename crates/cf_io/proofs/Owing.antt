@@ -42,18 +42,18 @@ pub owes-all : (told : Option (List ℕ)) (whole : List ℕ) → Owes told told 
 owes-all told whole = record { done = []; told = writes-nothing told; parts = refl }
 
 -- the next text was put
-pub owes-next : (a b c : Option (List ℕ)) (rest next behind whole : List ℕ) → Owes a b rest whole → rest ≡ next ++ behind → Writes b c next → Owes a c behind whole
-owes-next a b c rest next behind whole o e h = record {
+pub owes-next : (a b c : Option (List ℕ)) (rest next after whole : List ℕ) → Owes a b rest whole → rest ≡ next ++ after → Writes b c next → Owes a c after whole
+owes-next a b c rest next after whole o e h = record {
   done = o.done ++ next;
   told = writes-again a b c o.done next o.told h;
-  parts = append_assoc o.done next behind ∙ ap (λ (l : List ℕ). o.done ++ l) (sym e) ∙ o.parts;
+  parts = append_assoc o.done next after ∙ ap (λ (l : List ℕ). o.done ++ l) (sym e) ∙ o.parts;
 }
 
 -- a front of it was put
-pub owes-front : (a b c : Option (List ℕ)) (rest next behind whole : List ℕ) → Owes a b rest whole → rest ≡ next ++ behind → WritesFront b c next → WritesFront a c whole
-owes-front a b c rest next behind whole o e h =
+pub owes-front : (a b c : Option (List ℕ)) (rest next after whole : List ℕ) → Owes a b rest whole → rest ≡ next ++ after → WritesFront b c next → WritesFront a c whole
+owes-front a b c rest next after whole o e h =
     subst (λ (l : List ℕ). WritesFront a c l) (ap (λ (l : List ℕ). o.done ++ l) (sym e) ∙ o.parts)
-    (front-again a b c o.done (next ++ behind) o.told (front-first b c next behind h))
+    (front-again a b c o.done (next ++ after) o.told (front-first b c next after h))
 
 -- nothing is owed any more
 pub owes-none : (a b : Option (List ℕ)) (rest whole : List ℕ) → Owes a b rest whole → rest ≡ [] → Writes a b whole
@@ -70,11 +70,11 @@ on-any : {E : Type 0} (P : Type 0) (s : Result (Unit {0}) E) → P → OnErr s P
 on-any P (Ok u) h = tt
 on-any P (Err e) h = h
 
-pub err-owes : {E : Type 0} (a b c : Option (List ℕ)) (rest next behind whole : List ℕ) (r s : Result (Unit {0}) E) (e : E)
-    → r ≡ Err e → Owes a b rest whole → rest ≡ next ++ behind → OnErr r (WritesFront b c next) → OnErr s (WritesFront a c whole)
-err-owes a b c rest next behind whole r s e fails o parts h =
+pub err-owes : {E : Type 0} (a b c : Option (List ℕ)) (rest next after whole : List ℕ) (r s : Result (Unit {0}) E) (e : E)
+    → r ≡ Err e → Owes a b rest whole → rest ≡ next ++ after → OnErr r (WritesFront b c next) → OnErr s (WritesFront a c whole)
+err-owes a b c rest next after whole r s e fails o parts h =
     let front : WritesFront b c next = subst (λ q. OnErr q (WritesFront b c next)) fails h in
-    on-any (WritesFront a c whole) s (owes-front a b c rest next behind whole o parts front)
+    on-any (WritesFront a c whole) s (owes-front a b c rest next after whole o parts front)
 
 pub ruleset owing = (writes-nothing, writes-again, front-first, front-again)
 

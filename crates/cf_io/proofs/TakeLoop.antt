@@ -18,9 +18,9 @@ pub record HasTaken (left after : Option (List ℕ)) (into new : List ℕ) (done
 rest_written : (i : ℕ) (slice piece : List ℕ) → i ≤ length slice →
     put_mid i (length slice - i) slice piece ≡ take i slice ++ piece
 rest_written i slice piece within =
-    let nothing_behind : drop (length slice - i) (drop i slice) ≡ [] =
+    let nothing_after : drop (length slice - i) (drop i slice) ≡ [] =
     drop_of_length-le (drop i slice) {i = length slice - i} (omega (arith, length-drop i slice)) in
-    rw (nothing_behind, append-nil) refl
+    rw (nothing_after, append-nil) refl
 
 -- it keeps the slice's length
 pub length-put_mid : (i : ℕ) (slice piece : List ℕ) → i ≤ length slice →

@@ -57,10 +57,10 @@ nothing false = refl
 -- the stages that are listed, by whether the first class is the one that is looked for
 listed_by : (c d : Class) (same more : Bool) (mine stages : List ℕ) (rest : List (Class × List ℤ)) → same_class c d ≡ same → (same ≡ true → mine ≡ stages) → stages_in (find (λ unit. same_class c unit.0) rest) ≡ cond more (map (λ n. pos n) mine) []
     → stages_in (find (λ unit. same_class c unit.0) (unit_for d stages ++ rest)) ≡ cond (same || more) (map (λ n. pos n) mine) []
-listed_by c d true more mine [] rest e equal behind = let none = equal refl in rw none (rw none at behind ∙ nothing more)
-listed_by c d false more mine [] rest e equal behind = behind
-listed_by c d true more mine (i ∷ is) rest e equal behind = let all = equal refl in rw (e, all) refl
-listed_by c d false more mine (i ∷ is) rest e equal behind = rw e behind
+listed_by c d true more mine [] rest e equal after = let none = equal refl in rw none (rw none at after ∙ nothing more)
+listed_by c d false more mine [] rest e equal after = after
+listed_by c d true more mine (i ∷ is) rest e equal after = let all = equal refl in rw (e, all) refl
+listed_by c d false more mine (i ∷ is) rest e equal after = rw e after
 
 listed_among : (stages : Class → List ℕ) (c : Class) (cs : List Class) → stages_in (find (λ unit. same_class c unit.0) (units_for stages cs)) ≡ cond (names cs c) (map (λ n. pos n) (stages c)) []
 listed_among stages c [] = refl
@@ -155,13 +155,13 @@ entry_times c d [] rest = none_more (same_class c d) (times (map (λ unit. unit.
 entry_times c d (i ∷ is) rest = times_cons d (map (λ unit. unit.0) rest) c
 
 times_step : (same : Bool) (mine here t r n : ℕ) → (same ≡ true → mine ≡ here) → cond same 1 0 + t ≡ n → n ≤ 1 → r ≡ cond (nat_lt 0 t) mine 0 → cond same here 0 + r ≡ cond (nat_lt 0 n) mine 0
-times_step true mine here t r n equal e one behind =
+times_step true mine here t r n equal e one after =
     let none : t ≡ 0 = omega arith in
     let some : n ≡ 1 = omega arith in
     let all = equal refl in
-    let gone = rw none at behind in
+    let gone = rw none at after in
     rw some (omega arith)
-times_step false mine here t r n equal e one behind = let same : t ≡ n = omega arith in let b = rw same at behind in omega arith
+times_step false mine here t r n equal e one after = let same : t ≡ n = omega arith in let b = rw same at after in omega arith
 
 units_times : (stages : Class → List ℕ) (c : Class) (cs : List Class) (n : ℕ) → times cs c ≡ n → n ≤ 1 → times (map (λ unit. unit.0) (units_for stages cs)) c ≡ cond (nat_lt 0 n) (unit_homes (stages c)) 0
 units_times stages c [] n e one = let z : n ≡ 0 = sym e ∙ times_nil c in rw z (times_nil c)
@@ -252,15 +252,15 @@ within_test least most n low high = grind (arith, nat_tests)
 
 -- the entries are acceptable
 entry_right : (n : ℕ) (c : Class) (stages : List ℕ) (rest : List (Class × List ℤ)) → (0 < length stages → c ≢ Memory) → All (λ i. (1 ≤ i) × (i ≤ n)) stages → All (IsUnit n) rest → All (IsUnit n) (unit_for c stages ++ rest)
-entry_right n c [] rest off all behind = behind
-entry_right n c (i ∷ is) rest off all behind =
+entry_right n c [] rest off all after = after
+entry_right n c (i ∷ is) rest off all after =
     All-cons (IsUnit n) (c, map (λ m. pos m) (i ∷ is)) rest
     (record {
       beside_memory = off (omega arith);
       some = omega arith;
       stages = All-map (λ z. is_within 1 n z ≡ true) (λ m. pos m) (i ∷ is) (λ k d within. within_test 1 n _ (all k d within).0 (all k d within).1);
     })
-    behind
+    after
 
 no_memory : (plan : Plan) → IsAccepted plan → (c : Class) → 0 < length (stages_of plan c) → c ≢ Memory
 no_memory plan a c some = λ e. let none : stages_of plan c ≡ [] = ap (stages_of plan) e ∙ a.memory in let gone = rw none at some in absurd (omega arith)

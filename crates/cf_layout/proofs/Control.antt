@@ -32,15 +32,15 @@ found_plan [] c small = refl
 found_plan (siding ∷ sidings) c small = found_step (serves (siding_plan siding) c) (names siding.classes c) siding (find (λ s. names s.classes c) sidings) (find (λ s. serves s c) (map siding_plan sidings)) (serves_named siding c small) (found_plan sidings c small)
 
 -- past its end a list has nothing
-behind_end : (sidings : List SidingPlan) (k : ℕ) → length sidings ≤ k → slice_get sidings k ≡ None
-behind_end [] k behind = refl
-behind_end (siding ∷ sidings) zero behind = absurd (omega arith)
-behind_end (siding ∷ sidings) (suc k) behind = behind_end sidings k (omega arith)
+after_end : (sidings : List SidingPlan) (k : ℕ) → length sidings ≤ k → slice_get sidings k ≡ None
+after_end [] k after = refl
+after_end (siding ∷ sidings) zero after = absurd (omega arith)
+after_end (siding ∷ sidings) (suc k) after = after_end sidings k (omega arith)
 
 -- the number of what is found, by whether there is one
 position_by : (sidings : List SidingPlan) (siding : SidingPlan) (k : ℕ) (within : Bool) → nat_lt k (length sidings) ≡ within → slice_get sidings k ≡ Some siding → unwrap_or (slice_get sidings (unwrap_or (cond within (Some k) None) 0)) no_siding ≡ siding
 position_by sidings siding k true e at = rw at refl
-position_by sidings siding k false e at = let none = behind_end sidings k (grind (arith, nat_tests)) in cc
+position_by sidings siding k false e at = let none = after_end sidings k (grind (arith, nat_tests)) in cc
 
 -- where something is found its number gives it
 position_gives : (test : SidingPlan → Bool) (sidings : List SidingPlan) (siding : SidingPlan) → find test sidings ≡ Some siding → unwrap_or (slice_get sidings (unwrap_or (position test sidings) 0)) no_siding ≡ siding

@@ -82,16 +82,16 @@ unserved plan [] c high all = refl
 unserved plan (s ∷ ss) c high all = let off = unnamed s.classes c high (all 0 s (omega arith)).computed in rw off (unserved plan ss c high (All-tail (IsSiding plan) s ss all))
 
 -- at a place after the lists there are no stages
-behind_end : (units : List (List ℕ)) (place : ℕ) → length units ≤ place → unwrap_or (slice_get units place) [] ≡ []
-behind_end [] place behind = refl
-behind_end (stages ∷ units) zero behind = absurd (omega arith)
-behind_end (stages ∷ units) (suc place) behind = behind_end units place (omega arith)
+after_end : (units : List (List ℕ)) (place : ℕ) → length units ≤ place → unwrap_or (slice_get units place) [] ≡ []
+after_end [] place after = refl
+after_end (stages ∷ units) zero after = absurd (omega arith)
+after_end (stages ∷ units) (suc place) after = after_end units place (omega arith)
 
 -- a class that is not computed has no home
 no_home : (plan : Plan) → IsAccepted plan → (c : Class) → 9 ≤ place_of c → homes plan c ≤ 1
 unfolding homes stages_of
 no_home plan a c high =
-    let s = behind_end plan.units (place_of c) (omega (arith, a.classes)) in
+    let s = after_end plan.units (place_of c) (omega (arith, a.classes)) in
     let n = unserved plan plan.sidings c high a.sidings in
     rw (s, n) (omega arith)
 

@@ -25,14 +25,14 @@ AreBelow bound (x ∷ xs) = (x < bound) × AreBelow bound xs
 rises_tail : (x : ℕ) (xs : List ℕ) → IsStrictlyIncreasing (x ∷ xs) → IsStrictlyIncreasing xs
 rises_tail x xs rise = λ k below. let e : suc k + 1 ≡ suc (k + 1) = omega arith in let more = rise (suc k) (omega arith) in rw e at more
 
-rises_behind : (x : ℕ) (xs : List ℕ) → IsStrictlyIncreasing (x ∷ xs) → Rises (suc x) xs
-rises_behind x [] rise = tt
-rises_behind x (y ∷ ys) rise = let more : x < y = rise 0 (omega arith) in (omega arith, rises_behind y ys (rises_tail x (y ∷ ys) rise))
+rises_after : (x : ℕ) (xs : List ℕ) → IsStrictlyIncreasing (x ∷ xs) → Rises (suc x) xs
+rises_after x [] rise = tt
+rises_after x (y ∷ ys) rise = let more : x < y = rise 0 (omega arith) in (omega arith, rises_after y ys (rises_tail x (y ∷ ys) rise))
 
 -- numbers that ascend, none of which is below a bound, ascend from that bound on
 pub rises_from : (k : ℕ) (xs : List ℕ) → IsStrictlyIncreasing xs → All (λ x. k ≤ x) xs → Rises k xs
 rises_from k [] rise low = tt
-rises_from k (x ∷ xs) rise low = (low 0 0 (omega arith), rises_behind x xs rise)
+rises_from k (x ∷ xs) rise low = (low 0 0 (omega arith), rises_after x xs rise)
 
 below_from : (bound : ℕ) (xs : List ℕ) → All (λ x. x < bound) xs → AreBelow bound xs
 below_from bound [] all = tt

@@ -14,10 +14,10 @@ at_place (stages ∷ units) zero within = refl
 at_place (stages ∷ units) (suc place) within = at_place units place (omega arith)
 
 -- past its end there are no stages
-behind_end : (units : List (List ℕ)) (place : ℕ) → length units ≤ place → unwrap_or (slice_get units place) [] ≡ []
-behind_end [] place behind = refl
-behind_end (stages ∷ units) zero behind = absurd (omega arith)
-behind_end (stages ∷ units) (suc place) behind = behind_end units place (omega arith)
+after_end : (units : List (List ℕ)) (place : ℕ) → length units ≤ place → unwrap_or (slice_get units place) [] ≡ []
+after_end [] place after = refl
+after_end (stages ∷ units) zero after = absurd (omega arith)
+after_end (stages ∷ units) (suc place) after = after_end units place (omega arith)
 
 -- the stages of a class that has a place
 pub stages_within : (plan : Plan) (c : Class) (d : List ℕ) → place_of c < length plan.units → stages_of plan c ≡ get_or plan.units (place_of c) d
@@ -27,7 +27,7 @@ stages_within plan c d within = at_place plan.units (place_of c) within ∙ get_
 -- and of one that has no place
 pub stages_without : (plan : Plan) (c : Class) → length plan.units ≤ place_of c → stages_of plan c ≡ []
 unfolding stages_of
-stages_without plan c behind = behind_end plan.units (place_of c) behind
+stages_without plan c after = after_end plan.units (place_of c) after
 
 -- an element that passes is kept, and found
 kept_here : {X : Type 0} (passes : Bool) (x : X) (kept : List X) (before n : ℕ) → nat_lt 0 (length kept) ≡ nat_lt before n → nat_lt 0 (length (cond passes (x ∷ kept) kept)) ≡ nat_lt (cond (not passes) (1 + before) 0) (suc n)

@@ -101,9 +101,9 @@ found_in test [] y e = cc
 found_in test (x ∷ xs) y e = found_here test (test x) x y xs refl e (λ later. found_in test xs y later)
 
 -- an element after others is in the list
-behind : {X : Type 0} (P : X → Type 0) (before : List X) (x : X) (rest : List X) → P x → Any P (before ++ x ∷ rest)
-behind P [] x rest p = (0, x, omega arith, refl, p)
-behind P (y ∷ ys) x rest p = let b = behind P ys x rest p in (suc b.0, b.1, omega arith, b.3, b.4)
+after : {X : Type 0} (P : X → Type 0) (before : List X) (x : X) (rest : List X) → P x → Any P (before ++ x ∷ rest)
+after P [] x rest p = (0, x, omega arith, refl, p)
+after P (y ∷ ys) x rest p = let b = after P ys x rest p in (suc b.0, b.1, omega arith, b.3, b.4)
 
 -- the list stays the same when an element is moved over to those before it
 taken : {X : Type 0} (before : List X) (x : X) (rest : List X) → (before ++ x ∷ []) ++ rest ≡ before ++ x ∷ rest
@@ -134,14 +134,14 @@ unfolding Says
 says_outside parts before unit rest whole None e = tt
 says_outside parts before unit rest whole (Some z) e =
     let f = found_in (λ stage. not (is_within 1 (natural parts.stages) stage)) unit.1 z e in
-    (not_on _ f.0, inl (rw whole (behind (λ (u : Class × List ℤ). (u.0 ≡ unit.0) × Contains u.1 z) before unit rest (refl, f.1))))
+    (not_on _ f.0, inl (rw whole (after (λ (u : Class × List ℤ). (u.0 ≡ unit.0) × Contains u.1 z) before unit rest (refl, f.1))))
 
 -- a unit
 says_unit : (parts : Parts) (before : List (Class × List ℤ)) (unit : Class × List ℤ) (rest : List (Class × List ℤ)) → parts.units ≡ before ++ unit ∷ rest → Says parts (unit_refusal (natural parts.stages) before unit)
 unfolding unit_refusal
 says_unit parts before unit rest whole =
     says_first parts _ _ (says_unless parts (not (same_class unit.0 Memory)) MemoryNotSiding (λ off. rw whole (memory_unit before unit rest (same_true unit.0 Memory (not_off _ off)))))
-    (says_first parts _ _ (says_unless parts (nat_lt 0 (length unit.1)) (EmptyUnit unit.0) (λ off. rw whole (behind (λ (u : Class × List ℤ). (u.0 ≡ unit.0) × (length u.1 ≡ 0)) before unit rest (refl, nothing _ off))))
+    (says_first parts _ _ (says_unless parts (nat_lt 0 (length unit.1)) (EmptyUnit unit.0) (λ off. rw whole (after (λ (u : Class × List ℤ). (u.0 ≡ unit.0) × (length u.1 ≡ 0)) before unit rest (refl, nothing _ off))))
     (says_first parts _ _ (says_outside parts before unit rest whole (find (λ stage. not (is_within 1 (natural parts.stages) stage)) unit.1) refl)
     (says_unless parts (not (is_unit before unit.0)) (ClassTwice unit.0) (λ off. unit_more_often parts before unit rest whole (not_off _ off)))))
 
@@ -153,7 +153,7 @@ says_units parts before (unit ∷ units) whole = says_first parts _ _ (says_unit
 
 -- a siding in the list, with what holds of it
 sided : (P : asked.Siding → Type 0) (parts : Parts) (before : List asked.Siding) (siding : asked.Siding) (rest : List asked.Siding) → parts.sidings ≡ before ++ siding ∷ rest → P siding → Any P parts.sidings
-sided P parts before siding rest whole p = rw whole (behind P before siding rest p)
+sided P parts before siding rest whole p = rw whole (after P before siding rest p)
 
 -- the cells and the stages of a siding with a first class
 says_stages : (parts : Parts) (before : List asked.Siding) (siding : asked.Siding) (rest : List asked.Siding) (first : Class) → parts.sidings ≡ before ++ siding ∷ rest → Contains siding.classes first → Says parts (stages_refusal (natural parts.stages) siding first)

@@ -145,10 +145,10 @@ siding_pass n units before siding s once = filled_pass n (λ c. is_unit units c 
 once_here : (t r : ℕ) (w : Bool) → t + r + cond w 1 0 ≤ 1 → t + cond w 1 0 ≤ 1
 once_here t r w le = omega arith
 
-once_behind : (t r : ℕ) (w some : Bool) → nat_lt 0 t ≡ some → t + r + cond w 1 0 ≤ 1 → r + cond (w || some) 1 0 ≤ 1
-once_behind t r true some e le = omega arith
-once_behind t r false true e le = let more : 0 < t = grind (arith, nat_tests) in omega arith
-once_behind t r false false e le = omega arith
+once_after : (t r : ℕ) (w some : Bool) → nat_lt 0 t ≡ some → t + r + cond w 1 0 ≤ 1 → r + cond (w || some) 1 0 ≤ 1
+once_after t r true some e le = omega arith
+once_after t r false true e le = let more : 0 < t = grind (arith, nat_tests) in omega arith
+once_after t r false false e le = omega arith
 
 -- all sidings
 sidings_pass : (n : ℕ) (units : List (Class × List ℤ)) (before sidings : List asked.Siding) → All (IsSiding n) sidings → ((c : Class) → times (sided_classes sidings) c + cond (is_unit units c || is_sided before c) 1 0 ≤ 1) → sidings_refusal n units before sidings ≡ None
@@ -156,7 +156,7 @@ sidings_pass n units before [] all once = refl
 sidings_pass n units before (siding ∷ sidings) all once =
     let split = λ (c : Class). rw (times_append siding.classes (sided_classes sidings) c) at (once c) in
     both _ _ (siding_pass n units before siding (all 0 siding (omega arith)) (λ c. once_here _ (times (sided_classes sidings) c) _ (split c)))
-    (sidings_pass n units (before ++ siding ∷ []) sidings (All-tail (IsSiding n) siding sidings all) (λ c. rw (sided_more units before siding c) (once_behind (times siding.classes c) _ _ _ refl (split c))))
+    (sidings_pass n units (before ++ siding ∷ []) sidings (All-tail (IsSiding n) siding sidings all) (λ c. rw (sided_more units before siding c) (once_after (times siding.classes c) _ _ _ refl (split c))))
 
 -- what is missing
 missing_pass : (parts : Parts) → IsAcceptable parts → missing_refusal parts ≡ None

@@ -164,7 +164,7 @@ computed_or Free = inr (refl, omega arith)
 pub class_in : (w : ℕ) (c : Class) → w < 2 ^ 9 → names (classes_of_word w) c ≡ has_bit w (place_of c)
 class_in w c small = let e = any_class w c in elim (computed_or c) [
   | inl in_order ↦ rw in_order at e ∙ and-true (has_bit w (place_of c))
-  | inr behind ↦ let h = high_bit w (place_of c) small behind.1 in rw (behind.0, h) at e ∙ sym h
+  | inr after ↦ let h = high_bit w (place_of c) small after.1 in rw (after.0, h) at e ∙ sym h
 ]
 
 -- the word 0 has no stage
@@ -219,4 +219,4 @@ class_listed w i d xs list before all within e so_far = rw (e, append_assoc, ←
 -- a list of all classes
 pub classes_listed : (w i : ℕ) (xs list : List Class) → length xs ≤ i → list ++ members place_of (drop i xs) w ≡ members place_of xs w → list ≡ members place_of xs w
 unfolding members
-classes_listed w i xs list behind e = rw (drop_all i xs behind, append-nil) at e
+classes_listed w i xs list after e = rw (drop_all i xs after, append-nil) at e

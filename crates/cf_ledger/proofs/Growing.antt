@@ -10,46 +10,46 @@ use Rattle.cf_bind.specs.declared.moves.Move.TheVariants.{Issue, Emit, Climb, Fa
 use Rattle.cf_index.specs.Order.{kind_place}
 use Rattle.cf_timed.specs.Chains.{sum_of_delays}
 use Rattle.cf_timed.specs.Delays.{AreDelays, delay}
-use Rattle.cf_timed.specs.Times.{Done, done_behind, greatest_time, times, times_behind}
+use Rattle.cf_timed.specs.Times.{Done, done_after, greatest_time, times, times_after}
 use Rattle.cf_timed.proofs.Simulated.{all_time, delay_few, time_few}
 use Rattle.cf_ledger.specs.Breakdowns.{busy, chain_to, kinds, leads_to, of_kind}
 use Rattle.cf_ledger.specs.Ledgers.{one_more, plus, plus_if}
 use Rattle.cf_ledger.proofs.Numbered.{numbered_at, numbered_set}
 
 -- the times of moves and one more
-behind_more : (plan : Plan) (delays : List ℕ) (earlier : List Done) (moves : List Move) (mv : Move) → times_behind plan delays earlier (moves ++ mv ∷ []) ≡ done_behind plan delays (times_behind plan delays earlier moves) mv ∷ times_behind plan delays earlier moves
-behind_more plan delays earlier [] mv = refl
-behind_more plan delays earlier (m ∷ moves) mv = behind_more plan delays (done_behind plan delays earlier m ∷ earlier) moves mv
+after_more : (plan : Plan) (delays : List ℕ) (earlier : List Done) (moves : List Move) (mv : Move) → times_after plan delays earlier (moves ++ mv ∷ []) ≡ done_after plan delays (times_after plan delays earlier moves) mv ∷ times_after plan delays earlier moves
+after_more plan delays earlier [] mv = refl
+after_more plan delays earlier (m ∷ moves) mv = after_more plan delays (done_after plan delays earlier m ∷ earlier) moves mv
 
-pub times_more : (plan : Plan) (delays : List ℕ) (moves : List Move) (mv : Move) → times plan delays (moves ++ mv ∷ []) ≡ done_behind plan delays (times plan delays moves) mv ∷ times plan delays moves
+pub times_more : (plan : Plan) (delays : List ℕ) (moves : List Move) (mv : Move) → times plan delays (moves ++ mv ∷ []) ≡ done_after plan delays (times plan delays moves) mv ∷ times plan delays moves
 unfolding times
-times_more plan delays moves mv = behind_more plan delays [] moves mv
+times_more plan delays moves mv = after_more plan delays [] moves mv
 
 pub times_none : (plan : Plan) (delays : List ℕ) → times plan delays [] ≡ []
 unfolding times
 times_none plan delays = refl
 
 -- there is one for each move
-behind_length : (plan : Plan) (delays : List ℕ) (earlier : List Done) (moves : List Move) → length (times_behind plan delays earlier moves) ≡ length earlier + length moves
-behind_length plan delays earlier [] = omega arith
-behind_length plan delays earlier (mv ∷ moves) = let r = behind_length plan delays (done_behind plan delays earlier mv ∷ earlier) moves in omega (arith, r)
+after_length : (plan : Plan) (delays : List ℕ) (earlier : List Done) (moves : List Move) → length (times_after plan delays earlier moves) ≡ length earlier + length moves
+after_length plan delays earlier [] = omega arith
+after_length plan delays earlier (mv ∷ moves) = let r = after_length plan delays (done_after plan delays earlier mv ∷ earlier) moves in omega (arith, r)
 
 pub times_length : (plan : Plan) (delays : List ℕ) (moves : List Move) → length (times plan delays moves) ≡ length moves
 unfolding times
-times_length plan delays moves = let r = behind_length plan delays [] moves in omega (arith, r)
+times_length plan delays moves = let r = after_length plan delays [] moves in omega (arith, r)
 
 -- they are small
-behind_few : (plan : Plan) (delays : List ℕ) (earlier : List Done) (moves : List Move) → AreDelays delays → greatest_time (times_behind plan delays earlier moves) ≤ greatest_time earlier + 1000 * length moves
-behind_few plan delays earlier [] h = omega arith
-behind_few plan delays earlier (mv ∷ moves) h =
-    let r = behind_few plan delays (done_behind plan delays earlier mv ∷ earlier) moves h in
-    let a = all_time (done_behind plan delays earlier mv) earlier in
+after_few : (plan : Plan) (delays : List ℕ) (earlier : List Done) (moves : List Move) → AreDelays delays → greatest_time (times_after plan delays earlier moves) ≤ greatest_time earlier + 1000 * length moves
+after_few plan delays earlier [] h = omega arith
+after_few plan delays earlier (mv ∷ moves) h =
+    let r = after_few plan delays (done_after plan delays earlier mv ∷ earlier) moves h in
+    let a = all_time (done_after plan delays earlier mv) earlier in
     let t = time_few plan delays earlier mv h in
     omega (arith, r, a, t)
 
 pub times_few : (plan : Plan) (delays : List ℕ) (moves : List Move) → AreDelays delays → greatest_time (times plan delays moves) ≤ 1000 * length moves
 unfolding times greatest_time
-times_few plan delays moves h = let r = behind_few plan delays [] moves h in omega (arith, r)
+times_few plan delays moves h = let r = after_few plan delays [] moves h in omega (arith, r)
 
 -- sums of delays
 sum_more : (delays : List ℕ) (front back : List Move) → sum_of_delays delays (front ++ back) ≡ sum_of_delays delays front + sum_of_delays delays back

@@ -10,7 +10,7 @@ use Rattle.cf_semantics.specs.moves.Sites.{Site, among}
 use Rattle.cf_index.specs.Sites.{shares, used, uses_place}
 use Rattle.cf_timed.specs.Chains.{sum_of_delays}
 use Rattle.cf_timed.specs.Delays.{AreDelays, delay}
-use Rattle.cf_timed.specs.Times.{Done, done_behind, greatest_time, time_behind, times}
+use Rattle.cf_timed.specs.Times.{Done, done_after, greatest_time, time_after, times}
 use Rattle.cf_timed.proofs.Chaining.{always}
 use Rattle.cf_timed.proofs.Following.{AreKept, IsKept, no_later}
 use Rattle.cf_timed.proofs.Greatest.{greatest_where}
@@ -21,7 +21,7 @@ use Rattle.cf_ledger.specs.declared.ledger.Ledger.{Ledger}
 use Rattle.cf_ledger.specs.declared.mark.Mark.{Mark}
 use Rattle.cf_ledger.proofs.Growing.{busy_few, busy_more, chain_few, grows, kinds_more, times_few, times_length, times_more, times_none}
 use Rattle.cf_ledger.proofs.Laters.{later_new, later_none}
-use Rattle.cf_ledger.proofs.Latests.{latest_any, latest_kinds, latest_never, latest_number, latest_time, latest_where, mark_behind, mark_if}
+use Rattle.cf_ledger.proofs.Latests.{latest_any, latest_kinds, latest_never, latest_number, latest_time, latest_where, mark_after, mark_if}
 use Rattle.cf_ledger.proofs.Marked.{marks_put, put_size}
 use Rattle.cf_ledger.proofs.Numbered.{charged_numbered}
 
@@ -68,19 +68,19 @@ follows_latest plan delays moves l mv h kept =
     ∙ latest_any plan delays (λ d. false) (at_place plan) (used plan mv) (times plan delays moves)
 
 -- the time that a move waits for
-waits : (plan : Plan) (delays : List ℕ) (done : List Done) (mv : Move) → time_behind plan delays done mv ≡ (latest_where plan delays (λ d. shares plan mv d.move) done).time + delay delays mv
-unfolding time_behind
+waits : (plan : Plan) (delays : List ℕ) (done : List Done) (mv : Move) → time_after plan delays done mv ≡ (latest_where plan delays (λ d. shares plan mv d.move) done).time + delay delays mv
+unfolding time_after
 waits plan delays done mv = let t = latest_time plan delays (λ d. shares plan mv d.move) done in omega (arith, t)
 
 -- its chain is that of the mark that it follows
-leads_latest : (plan : Plan) (delays : List ℕ) (done : List Done) (mv : Move) → (latest_where plan delays (λ d. shares plan mv d.move) done).kinds ≡ kinds (chain_to plan delays (leads_to plan delays (done_behind plan delays done mv)) done)
+leads_latest : (plan : Plan) (delays : List ℕ) (done : List Done) (mv : Move) → (latest_where plan delays (λ d. shares plan mv d.move) done).kinds ≡ kinds (chain_to plan delays (leads_to plan delays (done_after plan delays done mv)) done)
 leads_latest plan delays done mv =
     let w = waits plan delays done mv in
-    let e : time_behind plan delays done mv - delay delays mv ≡ (latest_where plan delays (λ d. shares plan mv d.move) done).time = omega (arith, w) in
-    latest_kinds plan delays (λ d. shares plan mv d.move) (leads_to plan delays (done_behind plan delays done mv)) done (λ d. ap (λ (n : ℕ). shares plan mv d.move && nat_eq d.time n) e)
+    let e : time_after plan delays done mv - delay delays mv ≡ (latest_where plan delays (λ d. shares plan mv d.move) done).time = omega (arith, w) in
+    latest_kinds plan delays (λ d. shares plan mv d.move) (leads_to plan delays (done_after plan delays done mv)) done (λ d. ap (λ (n : ℕ). shares plan mv d.move && nat_eq d.time n) e)
 
 -- the mark of a move that is made now
-mark_now : (plan : Plan) (delays : List ℕ) (moves : List Move) (l : Ledger) (mv : Move) → Keeps plan delays moves l → AreKept plan mv → AreDelays delays → 1000 * (length moves + 1) < 2 ^ 64 → mark_of l mv ≡ mark_behind plan delays (done_behind plan delays (times plan delays moves) mv) (times plan delays moves)
+mark_now : (plan : Plan) (delays : List ℕ) (moves : List Move) (l : Ledger) (mv : Move) → Keeps plan delays moves l → AreKept plan mv → AreDelays delays → 1000 * (length moves + 1) < 2 ^ 64 → mark_of l mv ≡ mark_after plan delays (done_after plan delays (times plan delays moves) mv) (times plan delays moves)
 unfolding mark_of
 mark_now plan delays moves l mv h kept few small =
     let done : List Done = times plan delays moves in
@@ -92,36 +92,36 @@ mark_now plan delays moves l mv h kept few small =
     let k = kept_time (λ d. shares plan mv d.move) done in
     let g = times_few plan delays moves few in
     let y = delay_few delays mv few in
-    let time_is : plus old.time (delay delays mv) ≡ time_behind plan delays done mv = omega (arith, w, t, k, g, y, small) in
+    let time_is : plus old.time (delay delays mv) ≡ time_after plan delays done mv = omega (arith, w, t, k, g, y, small) in
     let number_is : plus (length moves) 1 ≡ length done + 1 = omega (arith, n, small) in
-    let c = chain_few plan delays (leads_to plan delays (done_behind plan delays done mv)) done in
-    let kinds_is : one_more old.kinds mv ≡ kinds (chain_to plan delays (leads_to plan delays (done_behind plan delays done mv)) done ++ mv ∷ []) =
-    ap (λ (ks : List ℕ). one_more ks mv) (leads_latest plan delays done mv) ∙ kinds_more (chain_to plan delays (leads_to plan delays (done_behind plan delays done mv)) done) mv (omega (arith, c, n, small)) in
+    let c = chain_few plan delays (leads_to plan delays (done_after plan delays done mv)) done in
+    let kinds_is : one_more old.kinds mv ≡ kinds (chain_to plan delays (leads_to plan delays (done_after plan delays done mv)) done ++ mv ∷ []) =
+    ap (λ (ks : List ℕ). one_more ks mv) (leads_latest plan delays done mv) ∙ kinds_more (chain_to plan delays (leads_to plan delays (done_after plan delays done mv)) done) mv (omega (arith, c, n, small)) in
     all l.delays l.count (followed l mv) old h.delays_are h.count_is f time_is number_is kinds_is
   where
     all : (ds : List ℕ) (count : ℕ) (first old : Mark) → ds ≡ delays → count ≡ length moves → first ≡ old
-        → plus old.time (delay delays mv) ≡ time_behind plan delays (times plan delays moves) mv → plus (length moves) 1 ≡ length (times plan delays moves) + 1
-        → one_more old.kinds mv ≡ kinds (chain_to plan delays (leads_to plan delays (done_behind plan delays (times plan delays moves) mv)) (times plan delays moves) ++ mv ∷ [])
-        → record { time = plus first.time (delay ds mv); number = plus count 1; kinds = one_more first.kinds mv } ≡ mark_behind plan delays (done_behind plan delays (times plan delays moves) mv) (times plan delays moves)
+        → plus old.time (delay delays mv) ≡ time_after plan delays (times plan delays moves) mv → plus (length moves) 1 ≡ length (times plan delays moves) + 1
+        → one_more old.kinds mv ≡ kinds (chain_to plan delays (leads_to plan delays (done_after plan delays (times plan delays moves) mv)) (times plan delays moves) ++ mv ∷ [])
+        → record { time = plus first.time (delay ds mv); number = plus count 1; kinds = one_more first.kinds mv } ≡ mark_after plan delays (done_after plan delays (times plan delays moves) mv) (times plan delays moves)
     all ds count first old a b c t n k = rw (a, b, c, t, n, k) refl
 
 -- the mark of a place after it
-marks_more : (plan : Plan) (delays : List ℕ) (moves : List Move) (l : Ledger) (mv : Move) (x : Site) → Keeps plan delays moves l → AreKept plan mv → IsKept x → mark_of l mv ≡ mark_behind plan delays (done_behind plan delays (times plan delays moves) mv) (times plan delays moves)
-    → mark_at (put_marks (mark_of l mv) l.marks (place_numbers plan mv)) (place_number x) ≡ latest_where plan delays (at_place plan x) (done_behind plan delays (times plan delays moves) mv ∷ times plan delays moves)
+marks_more : (plan : Plan) (delays : List ℕ) (moves : List Move) (l : Ledger) (mv : Move) (x : Site) → Keeps plan delays moves l → AreKept plan mv → IsKept x → mark_of l mv ≡ mark_after plan delays (done_after plan delays (times plan delays moves) mv) (times plan delays moves)
+    → mark_at (put_marks (mark_of l mv) l.marks (place_numbers plan mv)) (place_number x) ≡ latest_where plan delays (at_place plan x) (done_after plan delays (times plan delays moves) mv ∷ times plan delays moves)
 unfolding uses_place
 marks_more plan delays moves l mv x h kept here mark_is =
     marks_put (mark_of l mv) l.marks (used plan mv) x h.room kept here
     ∙ ap (λ (m : Mark). cond (among x (used plan mv)) m (mark_at l.marks (place_number x))) mark_is
-    ∙ ap (λ (m : Mark). cond (among x (used plan mv)) (mark_behind plan delays (done_behind plan delays (times plan delays moves) mv) (times plan delays moves)) m) (h.marks_are x here)
+    ∙ ap (λ (m : Mark). cond (among x (used plan mv)) (mark_after plan delays (done_after plan delays (times plan delays moves) mv) (times plan delays moves)) m) (h.marks_are x here)
     ∙ by (among x (used plan mv)) refl
   where
-    by : (b : Bool) → among x (used plan mv) ≡ b → cond b (mark_behind plan delays (done_behind plan delays (times plan delays moves) mv) (times plan delays moves)) (latest_where plan delays (at_place plan x) (times plan delays moves))
-        ≡ later (latest_where plan delays (at_place plan x) (times plan delays moves)) (mark_if plan delays b (done_behind plan delays (times plan delays moves) mv) (times plan delays moves))
+    by : (b : Bool) → among x (used plan mv) ≡ b → cond b (mark_after plan delays (done_after plan delays (times plan delays moves) mv) (times plan delays moves)) (latest_where plan delays (at_place plan x) (times plan delays moves))
+        ≡ later (latest_where plan delays (at_place plan x) (times plan delays moves)) (mark_if plan delays b (done_after plan delays (times plan delays moves) mv) (times plan delays moves))
     by true e =
         let t = latest_time plan delays (at_place plan x) (times plan delays moves) in
         let late = no_later plan delays (times plan delays moves) mv x e in
         let n = latest_number plan delays (at_place plan x) (times plan delays moves) in
-        sym (later_new (latest_where plan delays (at_place plan x) (times plan delays moves)) (mark_behind plan delays (done_behind plan delays (times plan delays moves) mv) (times plan delays moves)) (omega (arith, t, late)) (omega (arith, n)))
+        sym (later_new (latest_where plan delays (at_place plan x) (times plan delays moves)) (mark_after plan delays (done_after plan delays (times plan delays moves) mv) (times plan delays moves)) (omega (arith, t, late)) (omega (arith, n)))
     by false e = sym (later_none (latest_where plan delays (at_place plan x) (times plan delays moves)))
 
 -- one more move

@@ -12,8 +12,8 @@ use Rattle.cf_ledger.specs.declared.mark.Mark.{Mark}
 use Rattle.cf_ledger.proofs.Laters.{later_new, later_none, later_number, later_old, later_time, new_both, new_first, new_second}
 
 -- the mark of a move after earlier ones
-abbrev pub mark_behind : Plan → List ℕ → Done → List Done → Mark
-mark_behind plan delays done earlier = record {
+abbrev pub mark_after : Plan → List ℕ → Done → List Done → Mark
+mark_after plan delays done earlier = record {
   time = done.time;
   number = length earlier + 1;
   kinds = kinds (chain_to plan delays (leads_to plan delays done) earlier ++ done.move ∷ []);
@@ -21,7 +21,7 @@ mark_behind plan delays done earlier = record {
 
 -- or no mark, where it does not count
 abbrev pub mark_if : Plan → List ℕ → Bool → Done → List Done → Mark
-mark_if plan delays counts done earlier = cond counts (mark_behind plan delays done earlier) no_mark
+mark_if plan delays counts done earlier = cond counts (mark_after plan delays done earlier) no_mark
 
 -- the mark of the latest of the moves that pass a test
 abbrev pub latest_where : Plan → List ℕ → (Done → Bool) → List Done → Mark
@@ -31,7 +31,7 @@ latest_where plan delays test (done ∷ earlier) = later (latest_where plan dela
 -- and of the last that passes it
 abbrev pub last_where : Plan → List ℕ → (Done → Bool) → List Done → Mark
 last_where plan delays test [] = no_mark
-last_where plan delays test (done ∷ earlier) = cond (test done) (mark_behind plan delays done earlier) (last_where plan delays test earlier)
+last_where plan delays test (done ∷ earlier) = cond (test done) (mark_after plan delays done earlier) (last_where plan delays test earlier)
 
 -- the time of the latest
 if_time : (plan : Plan) (delays : List ℕ) (b : Bool) (done : Done) (earlier : List Done) → (mark_if plan delays b done earlier).time ≡ cond b done.time 0
@@ -80,7 +80,7 @@ latest_either plan delays p q (done ∷ earlier) =
     ∙ both (p done) (q done)
   where
     new : Mark
-    new = mark_behind plan delays done earlier
+    new = mark_after plan delays done earlier
 
     both : (a b : Bool) → later (later (latest_where plan delays p earlier) (latest_where plan delays q earlier)) (mark_if plan delays (a || b) done earlier) ≡ later (later (latest_where plan delays p earlier) (mark_if plan delays a done earlier)) (later (latest_where plan delays q earlier) (mark_if plan delays b done earlier))
     both a b =
@@ -89,9 +89,9 @@ latest_either plan delays p q (done ∷ earlier) =
         by a b (omega (arith, m)) (omega (arith, n))
       where
         by : (a b : Bool) → (latest_where plan delays p earlier).number < length earlier + 1 → (latest_where plan delays q earlier).number < length earlier + 1 → later (later (latest_where plan delays p earlier) (latest_where plan delays q earlier)) (mark_if plan delays (a || b) done earlier) ≡ later (later (latest_where plan delays p earlier) (mark_if plan delays a done earlier)) (later (latest_where plan delays q earlier) (mark_if plan delays b done earlier))
-        by true true m n = new_both (latest_where plan delays p earlier) (latest_where plan delays q earlier) (mark_behind plan delays done earlier) m n
-        by true false m n = new_first (latest_where plan delays p earlier) (latest_where plan delays q earlier) (mark_behind plan delays done earlier) m n ∙ ap (later (later (latest_where plan delays p earlier) (mark_behind plan delays done earlier))) (sym (later_none (latest_where plan delays q earlier)))
-        by false true m n = new_second (latest_where plan delays p earlier) (latest_where plan delays q earlier) (mark_behind plan delays done earlier) m n ∙ ap (λ (x : Mark). later x (later (latest_where plan delays q earlier) (mark_behind plan delays done earlier))) (sym (later_none (latest_where plan delays p earlier)))
+        by true true m n = new_both (latest_where plan delays p earlier) (latest_where plan delays q earlier) (mark_after plan delays done earlier) m n
+        by true false m n = new_first (latest_where plan delays p earlier) (latest_where plan delays q earlier) (mark_after plan delays done earlier) m n ∙ ap (later (later (latest_where plan delays p earlier) (mark_after plan delays done earlier))) (sym (later_none (latest_where plan delays q earlier)))
+        by false true m n = new_second (latest_where plan delays p earlier) (latest_where plan delays q earlier) (mark_after plan delays done earlier) m n ∙ ap (λ (x : Mark). later x (later (latest_where plan delays q earlier) (mark_after plan delays done earlier))) (sym (later_none (latest_where plan delays p earlier)))
         by false false m n =
             later_none (later (latest_where plan delays p earlier) (latest_where plan delays q earlier))
             ∙ ap (λ (x : Mark). later x (latest_where plan delays q earlier)) (sym (later_none (latest_where plan delays p earlier)))
@@ -128,25 +128,25 @@ at_time plan delays p (done ∷ earlier) s h =
     old : Mark
     old = latest_where plan delays p earlier
 
-    stays : (b : Bool) → nat_eq (latest_where plan delays p earlier).time s ≡ b → done.time < s → cond b (latest_where plan delays p earlier) no_mark ≡ cond (nat_eq (later (latest_where plan delays p earlier) (mark_behind plan delays done earlier)).time s) (later (latest_where plan delays p earlier) (mark_behind plan delays done earlier)) no_mark
+    stays : (b : Bool) → nat_eq (latest_where plan delays p earlier).time s ≡ b → done.time < s → cond b (latest_where plan delays p earlier) no_mark ≡ cond (nat_eq (later (latest_where plan delays p earlier) (mark_after plan delays done earlier)).time s) (later (latest_where plan delays p earlier) (mark_after plan delays done earlier)) no_mark
     stays true e below =
         let q : (latest_where plan delays p earlier).time ≡ s = grind (arith, nat_tests) in
-        let k = later_old (latest_where plan delays p earlier) (mark_behind plan delays done earlier) (omega (arith, q, below)) in
+        let k = later_old (latest_where plan delays p earlier) (mark_after plan delays done earlier) (omega (arith, q, below)) in
         rw (k, e) refl
     stays false e below =
-        let q = later_time (latest_where plan delays p earlier) (mark_behind plan delays done earlier) in
-        let k : nat_eq (later (latest_where plan delays p earlier) (mark_behind plan delays done earlier)).time s ≡ false = grind (arith, nat_tests, q) in
+        let q = later_time (latest_where plan delays p earlier) (mark_after plan delays done earlier) in
+        let k : nat_eq (later (latest_where plan delays p earlier) (mark_after plan delays done earlier)).time s ≡ false = grind (arith, nat_tests, q) in
         rw k refl
 
-    by : (b : Bool) → cond b done.time 0 ≤ s → (latest_where plan delays p earlier).time ≤ s → last_where plan delays (λ d. p d && nat_eq d.time s) earlier ≡ cond (nat_eq (latest_where plan delays p earlier).time s) (latest_where plan delays p earlier) no_mark → cond (b && nat_eq done.time s) (mark_behind plan delays done earlier) (last_where plan delays (λ d. p d && nat_eq d.time s) earlier) ≡ cond (nat_eq (later (latest_where plan delays p earlier) (mark_if plan delays b done earlier)).time s) (later (latest_where plan delays p earlier) (mark_if plan delays b done earlier)) no_mark
+    by : (b : Bool) → cond b done.time 0 ≤ s → (latest_where plan delays p earlier).time ≤ s → last_where plan delays (λ d. p d && nat_eq d.time s) earlier ≡ cond (nat_eq (latest_where plan delays p earlier).time s) (latest_where plan delays p earlier) no_mark → cond (b && nat_eq done.time s) (mark_after plan delays done earlier) (last_where plan delays (λ d. p d && nat_eq d.time s) earlier) ≡ cond (nat_eq (later (latest_where plan delays p earlier) (mark_if plan delays b done earlier)).time s) (later (latest_where plan delays p earlier) (mark_if plan delays b done earlier)) no_mark
     by false few g r = let k = later_none (latest_where plan delays p earlier) in rw k r
     by true few g r = there (nat_eq done.time s) refl
       where
-        there : (b : Bool) → nat_eq done.time s ≡ b → cond b (mark_behind plan delays done earlier) (last_where plan delays (λ d. p d && nat_eq d.time s) earlier) ≡ cond (nat_eq (later (latest_where plan delays p earlier) (mark_behind plan delays done earlier)).time s) (later (latest_where plan delays p earlier) (mark_behind plan delays done earlier)) no_mark
+        there : (b : Bool) → nat_eq done.time s ≡ b → cond b (mark_after plan delays done earlier) (last_where plan delays (λ d. p d && nat_eq d.time s) earlier) ≡ cond (nat_eq (later (latest_where plan delays p earlier) (mark_after plan delays done earlier)).time s) (later (latest_where plan delays p earlier) (mark_after plan delays done earlier)) no_mark
         there true e =
             let q : done.time ≡ s = grind (arith, nat_tests) in
             let n = latest_number plan delays p earlier in
-            let k = later_new (latest_where plan delays p earlier) (mark_behind plan delays done earlier) (omega (arith, q, g)) (omega (arith, n)) in
+            let k = later_new (latest_where plan delays p earlier) (mark_after plan delays done earlier) (omega (arith, q, g)) (omega (arith, n)) in
             rw (k, e) refl
         there false e =
             let below : done.time < s = grind (arith, nat_tests, few) in
@@ -164,7 +164,7 @@ unfolding of_kind
 last_kinds plan delays test [] = refl
 last_kinds plan delays test (done ∷ earlier) = by (test done) (last_kinds plan delays test earlier)
   where
-    by : (b : Bool) → (last_where plan delays test earlier).kinds ≡ kinds (chain_to plan delays test earlier) → (cond b (mark_behind plan delays done earlier) (last_where plan delays test earlier)).kinds ≡ kinds (cond b (chain_to plan delays (leads_to plan delays done) earlier ++ done.move ∷ []) (chain_to plan delays test earlier))
+    by : (b : Bool) → (last_where plan delays test earlier).kinds ≡ kinds (chain_to plan delays test earlier) → (cond b (mark_after plan delays done earlier) (last_where plan delays test earlier)).kinds ≡ kinds (cond b (chain_to plan delays (leads_to plan delays done) earlier ++ done.move ∷ []) (chain_to plan delays test earlier))
     by true r = refl
     by false r = r
 

@@ -7,7 +7,7 @@ use Rattle.cf_bind.specs.declared.moves.Move.{Move}
 use Rattle.cf_index.specs.Sites.{shares}
 use Rattle.cf_timed.specs.Chains.{AreLinked, ArePart, IsChain, sum_of_delays}
 use Rattle.cf_timed.specs.Delays.{delay}
-use Rattle.cf_timed.specs.Times.{Done, done_behind, greatest_time, time_behind, times, times_behind}
+use Rattle.cf_timed.specs.Times.{Done, done_after, greatest_time, time_after, times, times_after}
 use Rattle.cf_timed.proofs.Chaining.{always, linked_last, part_last, part_more, shares_turned, sum_last, sum_none}
 use Rattle.cf_timed.proofs.Greatest.{greatest_where, where_more, where_none}
 use Rattle.cf_ledger.specs.Breakdowns.{chain_to, is_last, leads_to, longest_chain}
@@ -17,18 +17,18 @@ abbrev run_of : List Done → List Move
 run_of [] = []
 run_of (done ∷ earlier) = run_of earlier ++ done.move ∷ []
 
-run-behind : (plan : Plan) (delays : List ℕ) (earlier : List Done) (moves : List Move) → run_of (times_behind plan delays earlier moves) ≡ run_of earlier ++ moves
-run-behind plan delays earlier [] = sym (append-nil (run_of earlier))
-run-behind plan delays earlier (mv ∷ moves) = run-behind plan delays (done_behind plan delays earlier mv ∷ earlier) moves ∙ append_assoc (run_of earlier) (mv ∷ []) moves
+run-after : (plan : Plan) (delays : List ℕ) (earlier : List Done) (moves : List Move) → run_of (times_after plan delays earlier moves) ≡ run_of earlier ++ moves
+run-after plan delays earlier [] = sym (append-nil (run_of earlier))
+run-after plan delays earlier (mv ∷ moves) = run-after plan delays (done_after plan delays earlier mv ∷ earlier) moves ∙ append_assoc (run_of earlier) (mv ∷ []) moves
 
 -- each has its time
 abbrev AreTimed : Plan → List ℕ → List Done → Type 0
 AreTimed plan delays [] = Unit {0}
-AreTimed plan delays (done ∷ earlier) = (done.time ≡ time_behind plan delays earlier done.move) × AreTimed plan delays earlier
+AreTimed plan delays (done ∷ earlier) = (done.time ≡ time_after plan delays earlier done.move) × AreTimed plan delays earlier
 
-timed-behind : (plan : Plan) (delays : List ℕ) (earlier : List Done) (moves : List Move) → AreTimed plan delays earlier → AreTimed plan delays (times_behind plan delays earlier moves)
-timed-behind plan delays earlier [] h = h
-timed-behind plan delays earlier (mv ∷ moves) h = timed-behind plan delays (done_behind plan delays earlier mv ∷ earlier) moves (refl, h)
+timed-after : (plan : Plan) (delays : List ℕ) (earlier : List Done) (moves : List Move) → AreTimed plan delays earlier → AreTimed plan delays (times_after plan delays earlier moves)
+timed-after plan delays earlier [] h = h
+timed-after plan delays earlier (mv ∷ moves) h = timed-after plan delays (done_after plan delays earlier mv ∷ earlier) moves (refl, h)
 
 -- a chain is some of the moves
 part-of : (plan : Plan) (delays : List ℕ) (test : Done → Bool) (done : List Done) → ArePart (chain_to plan delays test done) (run_of done)
@@ -61,8 +61,8 @@ linked-of plan delays test (d ∷ earlier) = by (test d) (linked-to plan delays 
     by false h g = g
 
 -- the chain to the last of those that pass and are done latest takes as long as they do
-start-is : (plan : Plan) (delays : List ℕ) (earlier : List Done) (d : Done) → d.time ≡ time_behind plan delays earlier d.move → d.time ≡ greatest_where (λ e. shares plan d.move e.move) earlier + delay delays d.move
-unfolding time_behind
+start-is : (plan : Plan) (delays : List ℕ) (earlier : List Done) (d : Done) → d.time ≡ time_after plan delays earlier d.move → d.time ≡ greatest_where (λ e. shares plan d.move e.move) earlier + delay delays d.move
+unfolding time_after
 start-is plan delays earlier d h = h
 
 sum-to : (plan : Plan) (delays : List ℕ) (p : Done → Bool) (done : List Done) (s : ℕ) → AreTimed plan delays done → s ≡ greatest_where p done → sum_of_delays delays (chain_to plan delays (λ d. p d && nat_eq d.time s) done) ≡ s
@@ -85,14 +85,14 @@ sum-to plan delays p (d ∷ earlier) s h is =
 pub chain-is : (plan : Plan) (delays : List ℕ) (moves : List Move) → IsChain plan moves (longest_chain plan delays moves)
 unfolding longest_chain times
 chain-is plan delays moves =
-    let done : List Done = times_behind plan delays [] moves in
+    let done : List Done = times_after plan delays [] moves in
     record {
-      part = subst (λ (ms : List Move). ArePart (chain_to plan delays (is_last done) done) ms) (run-behind plan delays [] moves) (part-of plan delays (is_last done) done);
+      part = subst (λ (ms : List Move). ArePart (chain_to plan delays (is_last done) done) ms) (run-after plan delays [] moves) (part-of plan delays (is_last done) done);
       linked = linked-of plan delays (is_last done) done;
     }
 
 pub chain-sum : (plan : Plan) (delays : List ℕ) (moves : List Move) → sum_of_delays delays (longest_chain plan delays moves) ≡ greatest_time (times plan delays moves)
 unfolding longest_chain times
 chain-sum plan delays moves =
-    let done : List Done = times_behind plan delays [] moves in
-    sum-to plan delays (λ d. true) done (greatest_time done) (timed-behind plan delays [] moves tt) (ap greatest_time (sym (always done)))
+    let done : List Done = times_after plan delays [] moves in
+    sum-to plan delays (λ d. true) done (greatest_time done) (timed-after plan delays [] moves tt) (ap greatest_time (sym (always done)))

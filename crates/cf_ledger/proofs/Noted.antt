@@ -18,10 +18,10 @@ use Rattle.cf_run.specs.declared.answer.Scripted.TheVariants.{Ran}
 use Rattle.cf_run.specs.Ending.{EndsSequentially}
 use Rattle.cf_run.specs.Made.{Made, moves_of}
 use Rattle.cf_run.specs.Moving.{Place, place_of}
-use Rattle.cf_run.specs.Policies.{Chooser, Chooses, IsOpened, Picks, RunsPolicy, RunsRight, StopsPolicy, behind_choice, chooser, fresh, made_last, offered_to}
+use Rattle.cf_run.specs.Policies.{Chooser, Chooses, IsOpened, Picks, RunsPolicy, RunsRight, StopsPolicy, after_choice, chooser, fresh, made_last, offered_to}
 use Rattle.cf_timed.specs.Clocks.{SiteTimes, started}
 use Rattle.cf_timed.specs.Delays.{AreDelays}
-use Rattle.cf_timed.specs.Timings.{Pending, behind_pick, clock_behind, pending_pick}
+use Rattle.cf_timed.specs.Timings.{Pending, after_pick, clock_after, pending_pick}
 use Rattle.cf_timed.specs.TimedRuns.{answer_of, begins}
 use Rattle.cf_timed.specs.declared.answer.Timed.{Timed}
 use Rattle.cf_timed.proofs.Following.{AreKept}
@@ -30,7 +30,7 @@ use Rattle.cf_timed.proofs.Room.{offered_kept, one_of_all}
 use Rattle.cf_ledger.specs.Breakdowns.{breakdown}
 use Rattle.cf_ledger.specs.Ledgers.{noted, noted_all, opened, told_by}
 use Rattle.cf_ledger.specs.NotedRuns.{RunsNoted}
-use Rattle.cf_ledger.specs.Watchings.{Watched, behind_watched, ledger_behind, ledger_told, watched_pick}
+use Rattle.cf_ledger.specs.Watchings.{Watched, after_watched, ledger_after, ledger_told, watched_pick}
 use Rattle.cf_ledger.specs.declared.ledger.Ledger.{Ledger}
 use Rattle.cf_ledger.proofs.Keeping.{told-all}
 
@@ -38,12 +38,12 @@ use Rattle.cf_ledger.proofs.Keeping.{told-all}
 abbrev timing : Chooser Watched → Chooser Pending
 timing at = chooser at.policy.pending at.count
 
-picks-timed : (plan : Plan) (at : Chooser Watched) (s : State) (trace : List Made) (last : Chooser Watched) → Picks watched_pick behind_watched plan at s trace last → Picks pending_pick behind_pick plan (timing at) s trace (timing last)
+picks-timed : (plan : Plan) (at : Chooser Watched) (s : State) (trace : List Made) (last : Chooser Watched) → Picks watched_pick after_watched plan at s trace last → Picks pending_pick after_pick plan (timing at) s trace (timing last)
 unfolding Picks
 picks-timed plan at s [] last same = ap timing same
-picks-timed plan at s (made ∷ trace) last (pick, picks) = (pick, picks-timed plan (behind_choice behind_watched plan at s made) made.state trace last picks)
+picks-timed plan at s (made ∷ trace) last (pick, picks) = (pick, picks-timed plan (after_choice after_watched plan at s made) made.state trace last picks)
 
-chooses-timed : (limit : ℕ) (now new : Place) (at : Chooser Watched) (later : Watched) (answer : Answer) → Chooses watched_pick behind_watched limit show.Report at now new later answer → Chooses pending_pick behind_pick limit show.Report (timing at) now new later.pending answer
+chooses-timed : (limit : ℕ) (now new : Place) (at : Chooser Watched) (later : Watched) (answer : Answer) → Chooses watched_pick after_watched limit show.Report at now new later answer → Chooses pending_pick after_pick limit show.Report (timing at) now new later.pending answer
 chooses-timed limit now new at later answer h = record {
   goes = h.goes;
   move = h.move;
@@ -52,7 +52,7 @@ chooses-timed limit now new at later answer h = record {
   does = h.does;
 }
 
-stops-timed : (limit : ℕ) (now new : Place) (at : Chooser Watched) (later : Watched) (answer : Answer) → StopsPolicy watched_pick behind_watched limit show.Report at now new later answer → StopsPolicy pending_pick behind_pick limit show.Report (timing at) now new later.pending answer
+stops-timed : (limit : ℕ) (now new : Place) (at : Chooser Watched) (later : Watched) (answer : Answer) → StopsPolicy watched_pick after_watched limit show.Report at now new later answer → StopsPolicy pending_pick after_pick limit show.Report (timing at) now new later.pending answer
 stops-timed limit now new at later (ran.Exit status) h = (h.0, h.1, ap (λ (w : Watched). w.pending) h.2)
 stops-timed limit now new at later (ran.Trap cause pc detail) h = (h.0, h.1, ap (λ (w : Watched). w.pending) h.2)
 stops-timed limit now new at later ran.Limit h = (h.0, h.1, ap (λ (w : Watched). w.pending) h.2)
@@ -70,29 +70,29 @@ none-last picked onward limit at now new later ran.WriteFault stops none = refl
 none-last picked onward limit at now new later ran.ReportFault stops none = absurd (none refl)
 
 -- the ledger is told the moves that are made
-told-next : (w : Watched) (moves : List Move) (mv : Move) → slice_get moves (pending_pick w.pending moves) ≡ Some mv → ledger_told (behind_watched w moves) ≡ noted (ledger_told w) mv
-unfolding ledger_told behind_pick
+told-next : (w : Watched) (moves : List Move) (mv : Move) → slice_get moves (pending_pick w.pending moves) ≡ Some mv → ledger_told (after_watched w moves) ≡ noted (ledger_told w) mv
+unfolding ledger_told after_pick
 told-next w moves mv e = rw e refl
 
-told-trace : (plan : Plan) (at : Chooser Watched) (s : State) (trace : List Made) (last : Chooser Watched) → Picks watched_pick behind_watched plan at s trace last → ledger_told last.policy ≡ noted_all (ledger_told at.policy) (moves_of trace)
+told-trace : (plan : Plan) (at : Chooser Watched) (s : State) (trace : List Made) (last : Chooser Watched) → Picks watched_pick after_watched plan at s trace last → ledger_told last.policy ≡ noted_all (ledger_told at.policy) (moves_of trace)
 unfolding Picks
 told-trace plan at s [] last same = ap (λ (c : Chooser Watched). ledger_told c.policy) same
 told-trace plan at s (made ∷ trace) last (pick, picks) =
-    told-trace plan (behind_choice behind_watched plan at s made) made.state trace last picks
+    told-trace plan (after_choice after_watched plan at s made) made.state trace last picks
     ∙ ap (λ (l : Ledger). noted_all l (moves_of trace)) (told-next at.policy (offered_to plan at s) made.move pick)
 
 -- it has room for their places
-kept-trace : (plan : Plan) (at : Chooser Watched) (s : State) (trace : List Made) (last : Chooser Watched) → IsAccepted plan → Picks watched_pick behind_watched plan at s trace last → AllByRecursion (AreKept plan) (moves_of trace)
+kept-trace : (plan : Plan) (at : Chooser Watched) (s : State) (trace : List Made) (last : Chooser Watched) → IsAccepted plan → Picks watched_pick after_watched plan at s trace last → AllByRecursion (AreKept plan) (moves_of trace)
 unfolding Picks
 kept-trace plan at s [] last acc same = tt
 kept-trace plan at s (made ∷ trace) last acc (pick, picks) = (
   one_of_all (AreKept plan) (offered plan at.count s) (watched_pick at.policy (offered plan at.count s)) made.move (offered_kept plan at.count s acc) pick,
-  kept-trace plan (behind_choice behind_watched plan at s made) made.state trace last acc picks,
+  kept-trace plan (after_choice after_watched plan at s made) made.state trace last acc picks,
 )
 
 -- and it is told of none besides
-stopped-told : (limit : ℕ) (now new : Place) (at : Chooser Watched) (later : Watched) (answer : Answer) → StopsPolicy watched_pick behind_watched limit show.Report at now new later answer → ledger_behind later answer ≡ ledger_told at.policy
-unfolding ledger_behind
+stopped-told : (limit : ℕ) (now new : Place) (at : Chooser Watched) (later : Watched) (answer : Answer) → StopsPolicy watched_pick after_watched limit show.Report at now new later answer → ledger_after later answer ≡ ledger_told at.policy
+unfolding ledger_after
 stopped-told limit now new at later (ran.Exit status) h = ap ledger_told h.2
 stopped-told limit now new at later (ran.Trap cause pc detail) h = ap ledger_told h.2
 stopped-told limit now new at later ran.Limit h = ap ledger_told h.2
@@ -116,13 +116,13 @@ trace-length [] = refl
 trace-length (made ∷ trace) = ap suc (trace-length trace)
 
 -- the moves of the run are those that lead to its end
-moves-are : (plan : Plan) (delays : List ℕ) (limit : ℕ) (begin new : Place) (later : Watched) (answer : Answer) → answer ≢ ran.ReportFault → (r : RunsRight watched_pick behind_watched limit show.Report begin new (first_watched plan delays) later answer) → r.moves ≡ moves_of r.runs.reaches.trace
+moves-are : (plan : Plan) (delays : List ℕ) (limit : ℕ) (begin new : Place) (later : Watched) (answer : Answer) → answer ≢ ran.ReportFault → (r : RunsRight watched_pick after_watched limit show.Report begin new (first_watched plan delays) later answer) → r.moves ≡ moves_of r.runs.reaches.trace
 moves-are plan delays limit begin new later answer none r =
-    r.runs.made ∙ ap (λ (l : List Move). moves_of r.runs.reaches.trace ++ l) (none-last watched_pick behind_watched limit r.runs.at r.runs.now new later answer r.runs.stops none) ∙ append-nil (moves_of r.runs.reaches.trace)
+    r.runs.made ∙ ap (λ (l : List Move). moves_of r.runs.reaches.trace ++ l) (none-last watched_pick after_watched limit r.runs.at r.runs.now new later answer r.runs.stops none) ∙ append-nil (moves_of r.runs.reaches.trace)
 
 -- so the ledger tells what their time is made of
 run-told : (delays : List ℕ) (limit : ℕ) (begin new : Place) (later : Watched) (answer : Answer) → IsAccepted begin.core.plan → length begin.core.state.regs ≡ 32 → IsOpened begin.core → AreDelays delays → limit ≤ most_limit → begin.core.state.retired ≤ limit → answer ≢ ran.ReportFault
-    → (r : RunsRight watched_pick behind_watched limit show.Report begin new (first_watched begin.core.plan delays) later answer) → told_by (ledger_behind later answer) ≡ breakdown begin.core.plan delays r.moves
+    → (r : RunsRight watched_pick after_watched limit show.Report begin new (first_watched begin.core.plan delays) later answer) → told_by (ledger_after later answer) ≡ breakdown begin.core.plan delays r.moves
 run-told delays limit begin new later answer acc wide o few small within none r =
     let plan : Plan = begin.core.plan in
     let runs = r.runs in
@@ -130,7 +130,7 @@ run-told delays limit begin new later answer acc wide o few small within none r 
     let first : Chooser Watched = fresh (first_watched plan delays) in
     let count = moves-few limit begin runs.now (first_watched plan delays).pending (timing runs.at) acc wide o small within runs.reaches (picks-timed plan first begin.core.state trace runs.at runs.picks) in
     let n = trace-length trace in
-    let told : ledger_behind later answer ≡ noted_all (opened plan delays) (moves_of trace) =
+    let told : ledger_after later answer ≡ noted_all (opened plan delays) (moves_of trace) =
     stopped-told limit runs.now new runs.at later answer runs.stops
     ∙ told-trace plan first begin.core.state trace runs.at runs.picks
     ∙ ap (λ (l : Ledger). noted_all l (moves_of trace)) (told-first plan delays) in
@@ -139,8 +139,8 @@ run-told delays limit begin new later answer acc wide o few small within none r 
     ∙ ap (breakdown plan delays) (sym (moves-are plan delays limit begin new later answer none r))
 
 -- and the run is a run by the clock
-right-timed : (plan : Plan) (delays : List ℕ) (limit : ℕ) (begin new : Place) (later : Watched) (answer : Answer) → answer ≢ ran.ReportFault → (r : RunsRight watched_pick behind_watched limit show.Report begin new (first_watched plan delays) later answer)
-    → RunsPolicy pending_pick behind_pick limit show.Report begin new (record { clock = started plan delays; last = None }) later.pending r.moves answer
+right-timed : (plan : Plan) (delays : List ℕ) (limit : ℕ) (begin new : Place) (later : Watched) (answer : Answer) → answer ≢ ran.ReportFault → (r : RunsRight watched_pick after_watched limit show.Report begin new (first_watched plan delays) later answer)
+    → RunsPolicy pending_pick after_pick limit show.Report begin new (record { clock = started plan delays; last = None }) later.pending r.moves answer
 right-timed plan delays limit begin new later answer none r =
     let stops = stops-timed limit r.runs.now new r.runs.at later answer r.runs.stops in
     record {
@@ -150,17 +150,17 @@ right-timed plan delays limit begin new later answer none r =
       picks = picks-timed begin.core.plan (fresh (first_watched plan delays)) begin.core.state r.runs.reaches.trace r.runs.at r.runs.picks;
       stops = stops;
       made = moves-are plan delays limit begin new later answer none r
-          ∙ sym (ap (λ (l : List Move). moves_of r.runs.reaches.trace ++ l) (none-last pending_pick behind_pick limit (timing r.runs.at) r.runs.now new later.pending answer stops none) ∙ append-nil (moves_of r.runs.reaches.trace));
+          ∙ sym (ap (λ (l : List Move). moves_of r.runs.reaches.trace ++ l) (none-last pending_pick after_pick limit (timing r.runs.at) r.runs.now new later.pending answer stops none) ∙ append-nil (moves_of r.runs.reaches.trace));
     }
 
 pub runs-noted : (delays : List ℕ) (limit : ℕ) (core new : Processor) (before after : Streams) (tally : Tally) (first later : Watched) (answer : Answer) (timed : Timed) (clock : SiteTimes) (ledger : Ledger) → IsAccepted core.plan → length core.state.regs ≡ 32 → IsOpened core → AreDelays delays → limit ≤ most_limit → core.state.retired ≤ limit → answer ≢ ran.ReportFault
-    → first ≡ first_watched core.plan delays → RunsRight watched_pick behind_watched limit show.Report (begins core before) (place_of new after None tally) first later answer → EndsSequentially limit (begins core before) (place_of new after None tally) (Ran answer)
-    → answer_of timed ≡ answer → clock ≡ clock_behind later.pending answer → ledger ≡ ledger_behind later answer → RunsNoted delays limit (begins core before) new after clock ledger tally.moves timed
+    → first ≡ first_watched core.plan delays → RunsRight watched_pick after_watched limit show.Report (begins core before) (place_of new after None tally) first later answer → EndsSequentially limit (begins core before) (place_of new after None tally) (Ran answer)
+    → answer_of timed ≡ answer → clock ≡ clock_after later.pending answer → ledger ≡ ledger_after later answer → RunsNoted delays limit (begins core before) new after clock ledger tally.moves timed
 runs-noted delays limit core new before after tally first later answer timed clock ledger acc wide o few small within none fresh_is right ends e clock_is ledger_is =
     let begin : Place = begins core before in
     let there : Place = place_of new after None tally in
-    let r = subst (λ (w : Watched). RunsRight watched_pick behind_watched limit show.Report begin there w later answer) fresh_is right in
+    let r = subst (λ (w : Watched). RunsRight watched_pick after_watched limit show.Report begin there w later answer) fresh_is right in
     let told = run-told delays limit begin there later answer acc wide o few small within none r in
-    let so = runs-timed-so (λ moves. told_by (ledger_behind later answer) ≡ breakdown core.plan delays moves) delays limit core new before after tally later.pending answer timed clock acc wide o few small within none
+    let so = runs-timed-so (λ moves. told_by (ledger_after later answer) ≡ breakdown core.plan delays moves) delays limit core new before after tally later.pending answer timed clock acc wide o few small within none
     (record { moves = r.moves; runs = right-timed core.plan delays limit begin there later answer none r; sequential = r.sequential }) told ends e clock_is in
     record { timed = so.timed; tells = ap told_by ledger_is ∙ so.holds }

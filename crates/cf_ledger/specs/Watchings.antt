@@ -4,7 +4,7 @@ use Rattle.cf_bind.specs.declared.moves.Move.{Move}
 use Rattle.cf_semantics.specs.state.Options.{on}
 use Rattle.cf_run.specs.declared.answer.Ran.{Ran as Answer}
 use Rattle.cf_run.specs.declared.answer.Ran.TheVariants as ran
-use Rattle.cf_timed.specs.Timings.{Pending, behind_pick, pending_pick}
+use Rattle.cf_timed.specs.Timings.{Pending, after_pick, pending_pick}
 use Rattle.cf_ledger.specs.Ledgers.{noted}
 use Rattle.cf_ledger.specs.declared.ledger.Ledger.{Ledger}
 
@@ -22,12 +22,12 @@ abbrev pub watched_pick : Watched → List Move → ℕ
 watched_pick w moves = pending_pick w.pending moves
 
 -- and what there is after that
-abbrev pub behind_watched : Watched → List Move → Watched
-behind_watched w moves = record { pending = behind_pick w.pending moves; ledger = ledger_told w }
+abbrev pub after_watched : Watched → List Move → Watched
+after_watched w moves = record { pending = after_pick w.pending moves; ledger = ledger_told w }
 
 -- the ledger after the moves that were made: a fault occurs at a move that was picked and not made
-unfoldable pub ledger_behind : Watched → Answer → Ledger
-ledger_behind w ran.ReadFault = w.ledger
-ledger_behind w ran.WriteFault = w.ledger
-ledger_behind w ran.ReportFault = w.ledger
-ledger_behind w answer = ledger_told w
+unfoldable pub ledger_after : Watched → Answer → Ledger
+ledger_after w ran.ReadFault = w.ledger
+ledger_after w ran.WriteFault = w.ledger
+ledger_after w ran.ReportFault = w.ledger
+ledger_after w answer = ledger_told w

@@ -13,7 +13,7 @@ use cf_core::Core;
 use cf_index::Candidates;
 use cf_io::{Sink, Source};
 use cf_run::known;
-use cf_timed::{Clock, Timed, clock_behind, run_unreported, timed};
+use cf_timed::{Clock, Timed, clock_after, run_unreported, timed};
 
 /// Runs an opened processor as `run_timed` of cf_timed does, by a clock and with a ledger that were told of no move. The ledger is told
 /// the moves that the clock is told. It takes no memory, and always comes to an end.
@@ -39,7 +39,7 @@ pub fn run_noted<S: Source, K: Sink>(
     clock.known();
     let mut watching = Watching::new(*clock, *ledger);
     let ran = run_unreported(core, candidates, &mut watching, limit, input, output, moves);
-    *clock = clock_behind(watching.timing(), ran);
-    *ledger = watching.ledger_behind(ran);
+    *clock = clock_after(watching.timing(), ran);
+    *ledger = watching.ledger_after(ran);
     timed(ran)
 }

@@ -1,7 +1,7 @@
 //! The policy of a timed run of which a ledger is kept.
 
 ghost use Rattle.std.specs.Prelude.{◌≡◌, None};
-ghost use Rattle.cf_ledger.specs.Watchings.{behind_watched, ledger_behind, ledger_told, watched_pick};
+ghost use Rattle.cf_ledger.specs.Watchings.{after_watched, ledger_after, ledger_told, watched_pick};
 
 use crate::ledger::Ledger;
 use cf_bind::Move;
@@ -57,9 +57,9 @@ impl Watching {
     }
 
     /// The ledger after the moves that were made.
-    #[tactic(auto, unfolding(crate::specs::Watchings::ledger_behind, crate::specs::Watchings::ledger_told))]
-    pub(crate) fn ledger_behind(&self, ran: Ran) -> Ledger
-        ensures { result ≡ ledger_behind self.now ran }
+    #[tactic(auto, unfolding(crate::specs::Watchings::ledger_after, crate::specs::Watchings::ledger_told))]
+    pub(crate) fn ledger_after(&self, ran: Ran) -> Ledger
+        ensures { result ≡ ledger_after self.now ran }
     {
         let mut ledger = self.ledger;
         match ran {
@@ -77,7 +77,7 @@ impl Watching {
 impl Policy for Watching {
     ghost picked = { watched_pick };
 
-    ghost onward = { behind_watched };
+    ghost onward = { after_watched };
 
     #[inline(always)]
     fn pick(&mut self, candidates: &Candidates) -> usize {

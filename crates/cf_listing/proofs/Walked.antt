@@ -85,7 +85,7 @@ word-next symbols pc next word [] rest f n k h = absurd (omega (arith, f.enough)
 word-next symbols pc next word (a ∷ []) rest f n k h = absurd (omega (arith, f.enough))
 word-next symbols pc next word (a ∷ b ∷ []) rest f n k h = absurd (omega (arith, f.enough))
 word-next symbols pc next word (a ∷ b ∷ c ∷ []) rest f n k h = absurd (omega (arith, f.enough))
-word-next symbols pc next word (a ∷ b ∷ c ∷ d ∷ bs) rest f n k h = rw (f.word_is, f.behind_is, n) (word-first symbols pc a b c d bs k h)
+word-next symbols pc next word (a ∷ b ∷ c ∷ d ∷ bs) rest f n k h = rw (f.word_is, f.after_is, n) (word-first symbols pc a b c d bs k h)
 
 pub next-aligned : (pc next : ℕ) → next ≡ (pc + 4) % 2 ^ 32 → pc % 4 ≡ 0 → (next % 4 ≡ 0) × (next < 2 ^ 32)
 next-aligned pc next e h = (omega arith, omega arith)

@@ -53,7 +53,7 @@ abbrev pub skipped : ℕ → ℕ
 skipped pc = (4 - pc % 4) % 4
 
 -- bytes begin with a word, after which these come
-pub record IsFirstWord (bytes : List ℕ) (word : ℕ) (behind : List ℕ) : Type 0 where
+pub record IsFirstWord (bytes : List ℕ) (word : ℕ) (after : List ℕ) : Type 0 where
   pub enough : 4 ≤ length bytes
   pub word_is : word ≡ from_le_bytes w32 (take 4 bytes)
-  pub behind_is : behind ≡ drop 4 bytes
+  pub after_is : after ≡ drop 4 bytes

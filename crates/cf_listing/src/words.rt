@@ -89,7 +89,7 @@ fn first_word(bytes: &[u8]) -> Option<(u32, &[u8])>
     ensures none { result ≡ None → length bytes.now ≤ 3 }
 {
     match bytes {
-        [a, b, c, d, behind @ ..] => Some((u32::from_le_bytes([*a, *b, *c, *d]), behind)),
+        [a, b, c, d, after @ ..] => Some((u32::from_le_bytes([*a, *b, *c, *d]), after)),
         _ => None,
     }
 }
@@ -110,10 +110,10 @@ fn put_aligned<K: Sink>(
 {
     let mut pc = start;
     let mut rest = bytes;
-    while let Some((word, behind)) = first_word(rest) {
+    while let Some((word, after)) = first_word(rest) {
         put_word(symbols, pc, word, out)?;
         pc = pc.wrapping_add(4);
-        rest = behind;
+        rest = after;
     }
     Ok(())
 }

@@ -19,7 +19,7 @@ use Rattle.cf_bind.specs.declared.binding.Binding.{Binding}
 use Rattle.cf_bind.specs.declared.passenger.End.{End}
 use Rattle.cf_bind.specs.declared.passenger.Guess.{Guess}
 use Rattle.cf_bind.specs.declared.passenger.Passenger.{Passenger}
-use Rattle.cf_semantics.specs.moves.Instructions.{Bad, Fetched, Goes, Got, Stepped, Stops, access_trap, answer_of, behind, dst_of, fetched, finish_trap, free_trap, is_control, is_free, is_serial, kind_of, mem_after, serve_of, src1_of, src2_of, step_here, value_read, value_written, word_after}
+use Rattle.cf_semantics.specs.moves.Instructions.{Bad, Fetched, Goes, Got, Stepped, Stops, access_trap, answer_of, after_step, dst_of, fetched, finish_trap, free_trap, is_control, is_free, is_serial, kind_of, mem_after, serve_of, src1_of, src2_of, step_here, value_read, value_written, word_after}
 use Rattle.cf_semantics.specs.claims.Laws.{AccessesAsLaunched, ComputesAsFinished, IsReady, ReadsAsIssued, ServesAndPasses, computes, departed, replied, returned}
 use Rattle.cf_semantics.specs.moves.Moves.{written}
 use Rattle.cf_semantics.specs.state.Options.{on}
@@ -127,7 +127,7 @@ unfolding fresh
 issue cache (Bad e) pc g = (refl, refl)
 issue cache (Got i) pc g = grind arith
 
-reads : (isa : Isa) (x : Machine) (i : Instr) → fetched isa x.hart.mem x.hart.pc ≡ Got i → (word : ℕ) × (decoded_as isa word ≡ Some i) × (machine.step isa x ≡ machine.behind x.output (machine.execute (class_of i) x.hart x.rest word i))
+reads : (isa : Isa) (x : Machine) (i : Instr) → fetched isa x.hart.mem x.hart.pc ≡ Got i → (word : ℕ) × (decoded_as isa word ≡ Some i) × (machine.step isa x ≡ machine.after_output x.output (machine.execute (class_of i) x.hart x.rest word i))
 unfolding kind_of
 reads isa x i f =
     let q = fetched_is isa x.hart.mem x.hart.pc i f in
@@ -135,7 +135,7 @@ reads isa x i f =
 
 others : (isa : Isa) (x : Machine) (i : Instr) (n : Machine) → fetched isa x.hart.mem x.hart.pc ≡ Got i → step_here isa x ≡ Goes n → (r : ℕ) → dst_of i ≢ Some r → slice_index n.hart.regs r ≡ slice_index x.hart.regs r
 others isa x i n f e r d =
-    ap (λ (s : Stepped). slice_index (behind s x).hart.regs r) (sym e) ∙ (step_keeps isa x x.hart.pc i f).other r d
+    ap (λ (s : Stepped). slice_index (after_step s x).hart.regs r) (sym e) ∙ (step_keeps isa x x.hart.pc i f).other r d
 
 pub reads_as_issued : ReadsAsIssued
 reads_as_issued = record { issue = issue; executes = reads; traps = λ isa x e f. bad_step isa x x.hart.pc e f; code = fetched_alike; others = others }

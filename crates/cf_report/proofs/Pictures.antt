@@ -71,7 +71,7 @@ cut-sidings n m (suc k) (ops ∷ sidings) e =
     ∙ ap (λ text. siding_line n ops ++ text) (cut-sidings (suc n) m k sidings (omega arith))
 
 -- after it others may follow
-pub sidings-behind : (sidings : List (List (Option Op))) (k : ℕ) → (rest : List ℕ) × ((siding_lines 0 (take k sidings) ++ siding_line k (held sidings k)) ++ rest ≡ siding_lines 0 sidings)
-sidings-behind sidings k =
+pub sidings-after : (sidings : List (List (Option Op))) (k : ℕ) → (rest : List ℕ) × ((siding_lines 0 (take k sidings) ++ siding_line k (held sidings k)) ++ rest ≡ siding_lines 0 sidings)
+sidings-after sidings k =
     let rest : List ℕ = siding_lines (k + 1) (drop (k + 1) sidings) in
     (rest, ap (λ text. text ++ rest) (siding-next sidings k) ∙ cut-sidings 0 (k + 1) (k + 1) sidings (omega arith))

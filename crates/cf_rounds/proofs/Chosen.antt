@@ -77,9 +77,9 @@ both_hold one other both [] make h k = tt
 both_hold one other both (mv ∷ moves) make (h, hs) (k, ks) = (make mv h k, both_hold one other both moves make hs ks)
 
 -- one move after a list
-pub all_behind : (test : Move → Type 0) (round : List Move) (mv : Move) → AllByRecursion test round → test mv → AllByRecursion test (round ++ mv ∷ [])
-all_behind test [] mv h k = (k, tt)
-all_behind test (first ∷ round) mv (h, hs) k = (h, all_behind test round mv hs k)
+pub all_after : (test : Move → Type 0) (round : List Move) (mv : Move) → AllByRecursion test round → test mv → AllByRecursion test (round ++ mv ∷ [])
+all_after test [] mv h k = (k, tt)
+all_after test (first ∷ round) mv (h, hs) k = (h, all_after test round mv hs k)
 
 -- a move that shares a place with none of a round
 pub unshared : (plan : Plan) (round : List Move) (mv : Move) → shares_any plan round mv ≡ false → AllByRecursion (λ other. shares plan mv other ≡ false) round
@@ -91,10 +91,10 @@ unshared plan (first ∷ round) mv e = by (shares plan mv first) refl (λ g. uns
     by true f rest g = absurd (cc)
     by false f rest g = (f, rest g)
 
-pub apart_behind : (plan : Plan) (round : List Move) (mv : Move) → AreApart plan round → AllByRecursion (λ other. shares plan mv other ≡ false) round → AreApart plan (round ++ mv ∷ [])
-apart_behind plan [] mv h k = (tt, tt)
-apart_behind plan (first ∷ round) mv (h, hs) (k, ks) =
-    (all_behind (λ other. shares plan first other ≡ false) round mv h (unshared_back plan mv first k), apart_behind plan round mv hs ks)
+pub apart_after : (plan : Plan) (round : List Move) (mv : Move) → AreApart plan round → AllByRecursion (λ other. shares plan mv other ≡ false) round → AreApart plan (round ++ mv ∷ [])
+apart_after plan [] mv h k = (tt, tt)
+apart_after plan (first ∷ round) mv (h, hs) (k, ks) =
+    (all_after (λ other. shares plan first other ≡ false) round mv h (unshared_back plan mv first k), apart_after plan round mv hs ks)
 
 -- the moves that are taken have what the candidates have, and share nothing
 pub taken_all : (test : Move → Type 0) (plan : Plan) (round moves : List Move) → AllByRecursion test round → AllByRecursion test moves → AllByRecursion test (taken plan round moves)
@@ -104,7 +104,7 @@ taken_all test plan round (mv ∷ moves) h (k, ks) = by (shares_any plan round m
   where
     by : (b : Bool) → ((next : List Move) → AllByRecursion test next → AllByRecursion test (taken plan next moves)) → AllByRecursion test (taken plan (if b then round else round ++ mv ∷ []) moves)
     by true more = more round h
-    by false more = more (round ++ mv ∷ []) (all_behind test round mv h k)
+    by false more = more (round ++ mv ∷ []) (all_after test round mv h k)
 
 pub taken_apart : (plan : Plan) (round moves : List Move) → AreApart plan round → AreApart plan (taken plan round moves)
 unfolding taken
@@ -113,7 +113,7 @@ taken_apart plan round (mv ∷ moves) h = by (shares_any plan round mv) refl (λ
   where
     by : (b : Bool) → shares_any plan round mv ≡ b → ((next : List Move) → AreApart plan next → AreApart plan (taken plan next moves)) → AreApart plan (taken plan (if b then round else round ++ mv ∷ []) moves)
     by true e more = more round h
-    by false e more = more (round ++ mv ∷ []) (apart_behind plan round mv h (unshared plan round mv e))
+    by false e more = more (round ++ mv ∷ []) (apart_after plan round mv h (unshared plan round mv e))
 
 -- those that were taken stay
 pub taken_more : (plan : Plan) (round moves : List Move) → (more : List Move) × (taken plan round moves ≡ round ++ more)

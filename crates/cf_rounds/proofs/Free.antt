@@ -106,26 +106,26 @@ free_run plan m [] f = tt
 free_run plan m (a ∷ round) f = (f.plain.0.allowed, free_run plan (next plan m a) round (free_step plan m a round f))
 
 -- the moves around one of a list
-all_around : (test : Move → Type 0) (front behind : List Move) (mv : Move) → AllByRecursion test (front ++ behind) → test mv → AllByRecursion test (front ++ mv ∷ behind)
-all_around test [] behind mv h k = (k, h)
-all_around test (first ∷ front) behind mv (h, hs) k = (h, all_around test front behind mv hs k)
+all_around : (test : Move → Type 0) (front after : List Move) (mv : Move) → AllByRecursion test (front ++ after) → test mv → AllByRecursion test (front ++ mv ∷ after)
+all_around test [] after mv h k = (k, h)
+all_around test (first ∷ front) after mv (h, hs) k = (h, all_around test front after mv hs k)
 
-apart_around : (plan : Plan) (front behind : List Move) (mv : Move) → AreApart plan (front ++ behind) → AllByRecursion (λ other. shares plan mv other ≡ false) (front ++ behind) → AreApart plan (front ++ mv ∷ behind)
-apart_around plan [] behind mv h k = (k, h)
-apart_around plan (first ∷ front) behind mv (h, hs) (k, ks) =
-    (all_around (λ other. shares plan first other ≡ false) front behind mv h (unshared_back plan mv first k), apart_around plan front behind mv hs ks)
+apart_around : (plan : Plan) (front after : List Move) (mv : Move) → AreApart plan (front ++ after) → AllByRecursion (λ other. shares plan mv other ≡ false) (front ++ after) → AreApart plan (front ++ mv ∷ after)
+apart_around plan [] after mv h k = (k, h)
+apart_around plan (first ∷ front) after mv (h, hs) (k, ks) =
+    (all_around (λ other. shares plan first other ≡ false) front after mv h (unshared_back plan mv first k), apart_around plan front after mv hs ks)
 
 -- what holds of each move holds in each order
 pub all_ordered : (test : Move → Type 0) (moves other : List Move) → IsOrderOf moves other → AllByRecursion test moves → AllByRecursion test other
 all_ordered test [] other same h = subst (AllByRecursion test) (sym same) tt
-all_ordered test (mv ∷ moves) other (front, behind, is, rest) (h, hs) =
-    subst (AllByRecursion test) (sym is) (all_around test front behind mv (all_ordered test moves (front ++ behind) rest hs) h)
+all_ordered test (mv ∷ moves) other (front, after, is, rest) (h, hs) =
+    subst (AllByRecursion test) (sym is) (all_around test front after mv (all_ordered test moves (front ++ after) rest hs) h)
 
 apart_ordered : (plan : Plan) (moves other : List Move) → IsOrderOf moves other → AreApart plan moves → AreApart plan other
 apart_ordered plan [] other same h = subst (AreApart plan) (sym same) tt
-apart_ordered plan (mv ∷ moves) other (front, behind, is, rest) (h, hs) =
+apart_ordered plan (mv ∷ moves) other (front, after, is, rest) (h, hs) =
     subst (AreApart plan) (sym is)
-    (apart_around plan front behind mv (apart_ordered plan moves (front ++ behind) rest hs) (all_ordered (λ o. shares plan mv o ≡ false) moves (front ++ behind) rest h))
+    (apart_around plan front after mv (apart_ordered plan moves (front ++ after) rest hs) (all_ordered (λ o. shares plan mv o ≡ false) moves (front ++ after) rest h))
 
 pub free_ordered : (plan : Plan) (s : State) (moves other : List Move) → IsOrderOf moves other → IsFree plan s moves → IsFree plan s other
 free_ordered plan s moves other order f = record {
@@ -135,27 +135,27 @@ free_ordered plan s moves other order f = record {
 }
 
 -- a move of a round can be made first
-to_front : (plan : Plan) (m : Moment) (front behind : List Move) (mv : Move) → IsFree plan m.state (front ++ mv ∷ behind) → run plan m (front ++ mv ∷ behind) ≡ run plan m (mv ∷ (front ++ behind))
+to_front : (plan : Plan) (m : Moment) (front after : List Move) (mv : Move) → IsFree plan m.state (front ++ mv ∷ after) → run plan m (front ++ mv ∷ after) ≡ run plan m (mv ∷ (front ++ after))
 unfolding run
-to_front plan m [] behind mv f = refl
-to_front plan m (first ∷ front) behind mv f =
-    let rest : IsFree plan (next plan m first).state (front ++ mv ∷ behind) = free_step plan m first (front ++ mv ∷ behind) f in
-    let inner : run plan (next plan m first) (front ++ mv ∷ behind) ≡ run plan (next plan (next plan m first) mv) (front ++ behind) = to_front plan (next plan m first) front behind mv rest in
-    let pair = found_there (λ o. shares plan first o ≡ false) front behind mv f.apart.0 in
-    let there : IsPlain plan m.state mv = found_there (IsPlain plan m.state) front behind mv f.plain.1 in
+to_front plan m [] after mv f = refl
+to_front plan m (first ∷ front) after mv f =
+    let rest : IsFree plan (next plan m first).state (front ++ mv ∷ after) = free_step plan m first (front ++ mv ∷ after) f in
+    let inner : run plan (next plan m first) (front ++ mv ∷ after) ≡ run plan (next plan (next plan m first) mv) (front ++ after) = to_front plan (next plan m first) front after mv rest in
+    let pair = found_there (λ o. shares plan first o ≡ false) front after mv f.apart.0 in
+    let there : IsPlain plan m.state mv = found_there (IsPlain plan m.state) front after mv f.plain.1 in
     let i : AreIndependent plan m.state first mv = apart_pair plan m.state first mv f.sidings f.plain.0 there pair in
     let swapped : next plan (next plan m first) mv ≡ next plan (next plan m mv) first = (independent_swap plan m first mv i f.plain.0.allowed there.allowed).2 in
-    inner ∙ ap (λ (t : Moment). run plan t (front ++ behind)) swapped
+    inner ∙ ap (λ (t : Moment). run plan t (front ++ after)) swapped
   where
-    found_there : (test : Move → Type 0) (front behind : List Move) (mv : Move) → AllByRecursion test (front ++ mv ∷ behind) → test mv
-    found_there test [] behind mv (h, hs) = h
-    found_there test (o ∷ front) behind mv (h, hs) = found_there test front behind mv hs
+    found_there : (test : Move → Type 0) (front after : List Move) (mv : Move) → AllByRecursion test (front ++ mv ∷ after) → test mv
+    found_there test [] after mv (h, hs) = h
+    found_there test (o ∷ front) after mv (h, hs) = found_there test front after mv hs
 
 -- all orders lead to one moment
 pub free_orders : (plan : Plan) (m : Moment) (moves other : List Move) → IsOrderOf moves other → IsFree plan m.state moves → run plan m other ≡ run plan m moves
 unfolding run
 free_orders plan m [] other same f = ap (run plan m) same
-free_orders plan m (mv ∷ moves) other (front, behind, is, rest) f =
-    let whole : IsFree plan m.state (front ++ mv ∷ behind) = subst (IsFree plan m.state) is (free_ordered plan m.state (mv ∷ moves) other (front, behind, is, rest) f) in
-    let first : run plan m other ≡ run plan m (mv ∷ (front ++ behind)) = ap (run plan m) is ∙ to_front plan m front behind mv whole in
-    first ∙ free_orders plan (next plan m mv) moves (front ++ behind) rest (free_step plan m mv moves f)
+free_orders plan m (mv ∷ moves) other (front, after, is, rest) f =
+    let whole : IsFree plan m.state (front ++ mv ∷ after) = subst (IsFree plan m.state) is (free_ordered plan m.state (mv ∷ moves) other (front, after, is, rest) f) in
+    let first : run plan m other ≡ run plan m (mv ∷ (front ++ after)) = ap (run plan m) is ∙ to_front plan m front after mv whole in
+    first ∙ free_orders plan (next plan m mv) moves (front ++ after) rest (free_step plan m mv moves f)

@@ -11,7 +11,7 @@ use Rattle.cf_index.specs.Alone.{stands_alone}
 use Rattle.cf_index.specs.Sites.{AreThere}
 use Rattle.cf_index.proofs.There.{there_allowed}
 use Rattle.cf_rounds.specs.Rounds.{AreApart, AreCandidates, IsAllowed, IsRound, round_of, shares_any, taken}
-use Rattle.cf_rounds.proofs.Chosen.{apart_behind, candidates_allowed, all_behind, taken_more, unshared}
+use Rattle.cf_rounds.proofs.Chosen.{apart_after, candidates_allowed, all_after, taken_more, unshared}
 use Rattle.cf_rounds.proofs.Few.{few}
 
 -- the moves from a place on
@@ -78,8 +78,8 @@ taken_next plan moves round new place mv h e there is = subst (λ (r : List Move
       rest = rest;
     }
     by false f = record {
-      there = subst (λ (r : List Move). AllByRecursion (AreThere plan) r) (sym (rw f refl)) (all_behind (AreThere plan) round mv h.there there);
-      apart = subst (λ (r : List Move). AreApart plan r) (sym (rw f refl)) (apart_behind plan round mv h.apart (unshared plan round mv f));
+      there = subst (λ (r : List Move). AllByRecursion (AreThere plan) r) (sym (rw f refl)) (all_after (AreThere plan) round mv h.there there);
+      apart = subst (λ (r : List Move). AreApart plan r) (sym (rw f refl)) (apart_after plan round mv h.apart (unshared plan round mv f));
       rest = rest;
     }
 

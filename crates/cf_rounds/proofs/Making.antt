@@ -28,7 +28,7 @@ use Rattle.cf_sched.specs.Paces.{Count, HasCounted}
 use Rattle.cf_run.specs.declared.answer.Ran.TheVariants as ran
 use Rattle.cf_run.specs.Made.{Made, moves_of, counted, raised_if}
 use Rattle.cf_run.specs.Moving.{Place, MakesAndShows, Does}
-use Rattle.cf_run.proofs.Behind.{next-retired}
+use Rattle.cf_run.proofs.AfterOutput.{next-retired}
 use Rattle.cf_rounds.specs.declared.answer.Fired.{Fired}
 use Rattle.cf_rounds.specs.declared.answer.Fired.TheVariants.{Plain, Retired, Ended, ReadFault, WriteFault}
 use Rattle.cf_rounds.specs.Firing.{MakesAll, HasEvent, IsSeen, is_seen, seen, paced_by, Fires}
@@ -62,8 +62,8 @@ all_one test [] made h k = (k, tt)
 all_one test (first ∷ trace) made (h, hs) k = (h, all_one test trace made hs k)
 
 event_more : (e : Event) (trace : List Made) (made : Made) → HasEvent e trace → HasEvent e (trace ++ made ∷ [])
-event_more e trace made (front, one, behind, is, same) =
-    (front, one, behind ++ made ∷ [], ap (λ (t : List Made). t ++ made ∷ []) is ∙ append_assoc front (one ∷ behind) (made ∷ []), same)
+event_more e trace made (front, one, after, is, same) =
+    (front, one, after ++ made ∷ [], ap (λ (t : List Made). t ++ made ∷ []) is ∙ append_assoc front (one ∷ after) (made ∷ []), same)
 
 event_last : (trace : List Made) (made : Made) → HasEvent made.event (trace ++ made ∷ [])
 event_last trace made = (trace, made, [], refl, refl)

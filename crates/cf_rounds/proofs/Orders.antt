@@ -11,11 +11,11 @@ use Rattle.cf_rounds.proofs.Free.{free_ordered, free_orders, free_run}
 
 -- one move has one order
 one_order : (mv : Move) (order : List Move) → IsOrderOf (mv ∷ []) order → order ≡ mv ∷ []
-one_order mv order (front, behind, is, none) = is ∙ go front behind none
+one_order mv order (front, after, is, none) = is ∙ go front after none
   where
-    go : (front behind : List Move) → front ++ behind ≡ [] → front ++ mv ∷ behind ≡ mv ∷ []
-    go [] behind e = ap (λ (moves : List Move). mv ∷ moves) e
-    go (first ∷ front) behind e = absurd (cc)
+    go : (front after : List Move) → front ++ after ≡ [] → front ++ mv ∷ after ≡ mv ∷ []
+    go [] after e = ap (λ (moves : List Move). mv ∷ moves) e
+    go (first ∷ front) after e = absurd (cc)
 
 pub orders_run : (plan : Plan) (m : Moment) (round order : List Move) → HasSidings plan m.state → IsRound plan m.state round → IsOrderOf round order → IsRun plan m order
 unfolding IsRun

@@ -31,7 +31,7 @@ use Rattle.cf_run.specs.Made.{Made, moves_of}
 use Rattle.cf_run.specs.Going.{Leads}
 use Rattle.cf_rounds.specs.Firing.{paced_by}
 use Rattle.cf_rounds.specs.Rounds.{AreApart, round_of, taken}
-use Rattle.cf_rounds.specs.Running.{InRounds, all_of, state_behind}
+use Rattle.cf_rounds.specs.Running.{InRounds, all_of, state_after}
 use Rattle.cf_rounds.proofs.Chosen.{found_one, taken_all, taken_apart}
 
 -- the move is no Issue while the candidates are held, unless no other move is allowed
@@ -110,19 +110,19 @@ may_stay plan s t count mv e drained (other ∷ round) accepted free (one, apart
         absurd (h (held_before plan count mv e drained accepted plain held) issue mv plain free)
 
 -- the moves of a round, and after them those of the others
-record Behind (plan : Plan) (limit count : ℕ) (told : Option (List ℕ)) (x : Machine) (s : State) (made rest : List Made) (last : Moment) : Type 0 where
-  go : (m : Moment) (before : List Line) → m.state ≡ state_behind s made → HoldsAnew plan x before m → Leads plan limit told m rest last → (written : List Line) × PacesTo plan (paced_by count made) m (moves_of rest) last written
+record GoesOnAfter (plan : Plan) (limit count : ℕ) (told : Option (List ℕ)) (x : Machine) (s : State) (made rest : List Made) (last : Moment) : Type 0 where
+  go : (m : Moment) (before : List Line) → m.state ≡ state_after s made → HoldsAnew plan x before m → Leads plan limit told m rest last → (written : List Line) × PacesTo plan (paced_by count made) m (moves_of rest) last written
 
 in_round : (plan : Plan) (limit count : ℕ) (told : Option (List ℕ)) (x : Machine) (before : List Line) (m last : Moment) (made rest : List Made) → IsAccepted plan → HoldsAnew plan x before m → Leads plan limit told m (made ++ rest) last → AreApart plan (moves_of made) → AllByRecursion (MayIssue plan count m.state) (moves_of made)
-    → Behind plan limit count told x m.state made rest last → (written : List Line) × PacesTo plan count m (moves_of (made ++ rest)) last written
+    → GoesOnAfter plan limit count told x m.state made rest last → (written : List Line) × PacesTo plan count m (moves_of (made ++ rest)) last written
 unfolding Leads PacesTo paced_by
-in_round plan limit count told x before m last [] rest accepted holds leads apart may behind = behind.go m before refl holds leads
-in_round plan limit count told x before m last (first ∷ made) rest accepted holds (r, finds, is, leads) (apart, aparts) (one, may) behind =
+in_round plan limit count told x before m last [] rest accepted holds leads apart may after = after.go m before refl holds leads
+in_round plan limit count told x before m last (first ∷ made) rest accepted holds (r, finds, is, leads) (apart, aparts) (one, may) after =
     let t : Moment = next plan (record m { rest = r }) first.move in
     let kept : HoldsAnew plan x (before ++ retires plan m.state first.move) t = anew_kept plan x m first.move r before (accepted_suits plan accepted) is.allowed holds in
     let later : ℕ = paced count first.move first.event (is_drained first.state) in
     let stay : AllByRecursion (MayIssue plan later t.state) (moves_of made) = may_stay plan m.state t.state count first.move first.event (is_drained first.state) (moves_of made) accepted is.allowed apart may in
-    let onward : Behind plan limit later told x t.state made rest last = record { go = λ q b same h l. behind.go q b (same ∙ ap (λ (s : State). state_behind s made) (sym is.state)) h l } in
+    let onward : GoesOnAfter plan limit later told x t.state made rest last = record { go = λ q b same h l. after.go q b (same ∙ ap (λ (s : State). state_after s made) (sym is.state)) h l } in
     let goes : (written : List Line) × PacesTo plan later t (moves_of (made ++ rest)) last written = in_round plan limit later told x (before ++ retires plan m.state first.move) t last made rest accepted kept leads aparts stay onward in
     let counted : PacesTo plan (paced count first.move first.event (is_drained t.state)) t (moves_of (made ++ rest)) last goes.0 =
     subst (λ (s : State). PacesTo plan (paced count first.move first.event (is_drained s)) t (moves_of (made ++ rest)) last goes.0) is.state goes.1 in
@@ -143,7 +143,7 @@ rounds_paced plan limit below count held told x before m last (made ∷ more) en
     let round : List Move = round_of plan m.state (offered plan count m.state) in
     let apart : AreApart plan (moves_of made) = subst (AreApart plan) (sym is) (round_apart plan m.state (offered plan count m.state)) in
     let may : AllByRecursion (MayIssue plan count m.state) (moves_of made) = subst (AllByRecursion (MayIssue plan count m.state)) (sym is) (round_all (MayIssue plan count m.state) plan m.state (offered plan count m.state) (offered_may plan x before m count holds goes.unended)) in
-    let behind : Behind plan limit count told x m.state made (all_of more) last = record {
+    let after : GoesOnAfter plan limit count told x m.state made (all_of more) last = record {
       go = λ q b same h l. rounds_paced plan limit below (paced_by count made) held told x b q last more end accepted h (subst (λ (s : State). InRounds plan below (paced_by count made) s more held end) (sym same) rounds) l;
     } in
-    in_round plan limit count told x before m last made (all_of more) accepted holds leads apart may behind
+    in_round plan limit count told x before m last made (all_of more) accepted holds leads apart may after

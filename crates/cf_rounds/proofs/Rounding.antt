@@ -45,7 +45,7 @@ use Rattle.cf_rounds.specs.declared.answer.Fired.TheVariants.{Plain, Retired, En
 use Rattle.cf_rounds.specs.declared.answer.Fired.TheVariants as fault
 use Rattle.cf_rounds.specs.Firing.{FiresAll, Fires, MakesAll, input_fired, output_fired, paced_by}
 use Rattle.cf_rounds.specs.Rounds.{AreCandidates, IsRound, round_of}
-use Rattle.cf_rounds.specs.Running.{InRounds, FailsThere, RunsRounds, StopsRounds, all_of, ran_of, state_behind}
+use Rattle.cf_rounds.specs.Running.{InRounds, FailsThere, RunsRounds, StopsRounds, all_of, ran_of, state_after}
 use Rattle.cf_rounds.specs.Turns.{IsOffered, Turns, finish_with, input_turned, output_turned}
 use Rattle.cf_rounds.proofs.Level.{round-level}
 use Rattle.cf_rounds.proofs.Making.{leaves, falls, left_first}
@@ -66,18 +66,18 @@ all_more [] made = append-nil made
 all_more (first ∷ rounds) made = ap (λ (rest : List Made). first ++ rest) (all_more rounds made) ∙ sym (append_assoc first (all_of rounds) made)
 
 rounds_more : (plan : Plan) (limit count : ℕ) (s : State) (rounds : List (List Made)) (held : ℕ) (end : State) (made : List Made) → InRounds plan limit count s rounds held end → GoesOn limit end → moves_of made ≡ round_of plan end (offered plan held end)
-    → InRounds plan limit count s (rounds ++ made ∷ []) (paced_by held made) (state_behind end made)
+    → InRounds plan limit count s (rounds ++ made ∷ []) (paced_by held made) (state_after end made)
 unfolding InRounds
 rounds_more plan limit count s [] held end made (held_is, end_is) goes is =
-    let P : ℕ → State → Type 0 = λ n q. GoesOn limit q × (moves_of made ≡ round_of plan q (offered plan n q)) × ((paced_by held made ≡ paced_by n made) × (state_behind end made ≡ state_behind q made)) in
+    let P : ℕ → State → Type 0 = λ n q. GoesOn limit q × (moves_of made ≡ round_of plan q (offered plan n q)) × ((paced_by held made ≡ paced_by n made) × (state_after end made ≡ state_after q made)) in
     subst (λ (n : ℕ). P n s) held_is (subst (P held) end_is (goes, is, (refl, refl)))
-rounds_more plan limit count s (first ∷ rounds) held end made (goes_on, first_is, h) goes is = (goes_on, first_is, rounds_more plan limit (paced_by count first) (state_behind s first) rounds held end made h goes is)
+rounds_more plan limit count s (first ∷ rounds) held end made (goes_on, first_is, h) goes is = (goes_on, first_is, rounds_more plan limit (paced_by count first) (state_after s first) rounds held end made h goes is)
 
 -- the state after the moves
-state_there : (trace : List Made) (now new : Place) → MakesAll trace now new → state_behind now.core.state trace ≡ new.core.state
+state_there : (trace : List Made) (now new : Place) → MakesAll trace now new → state_after now.core.state trace ≡ new.core.state
 unfolding MakesAll
 state_there [] now new h = ap (λ (p : Place). p.core.state) (sym h)
-state_there (made ∷ trace) now new (there, one, is, h) = ap (λ (s : State). state_behind s trace) is ∙ state_there trace there new h
+state_there (made ∷ trace) now new (there, one, is, h) = ap (λ (s : State). state_after s trace) is ∙ state_there trace there new h
 
 -- the moves of a round after those of a run
 record Reached (limit : ℕ) (start new : Place) (before trace : List Made) : Type 0 where
@@ -164,7 +164,7 @@ comes-more limit start now new pace later number moves round fired c goes o f =
     let low : now.core.state.retired + leaves (moves_of f.trace) ≤ limit = omega (arith, goes.below, ap leaves f.moves, few) in
     let r : Reached limit start new c.reached.trace f.trace = reach_all limit start now new f.trace c.reached f.makes low in
     let is : moves_of f.trace ≡ round_of plan now.core.state (offered plan c.held now.core.state) = f.moves ∙ chosen_here limit start now pace number moves round c o in
-    let more : InRounds plan limit 0 start.core.state (c.rounds ++ f.trace ∷ []) (paced_by c.held f.trace) (state_behind now.core.state f.trace) = rounds_more plan limit 0 start.core.state c.rounds c.held now.core.state f.trace c.chosen goes is in
+    let more : InRounds plan limit 0 start.core.state (c.rounds ++ f.trace ∷ []) (paced_by c.held f.trace) (state_after now.core.state f.trace) = rounds_more plan limit 0 start.core.state c.rounds c.held now.core.state f.trace c.chosen goes is in
     record {
       reached = r.reached;
       rounds = c.rounds ++ f.trace ∷ [];

@@ -30,7 +30,7 @@ paced_by count (made ∷ trace) = paced_by (paced count made.move made.event (is
 -- one of the moves has this event
 abbrev pub HasEvent : Event → List Made → Type 0
 HasEvent e trace =
-    (front : List Made) × (made : Made) × (behind : List Made) × (trace ≡ front ++ made ∷ behind) × (made.event ≡ e)
+    (front : List Made) × (made : Made) × (after : List Made) × (trace ≡ front ++ made ∷ after) × (made.event ≡ e)
 
 -- an instruction retired, or ended the program
 abbrev pub is_seen : Event → Bool

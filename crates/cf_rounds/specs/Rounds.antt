@@ -49,7 +49,7 @@ AreApart plan (mv ∷ round) = AllByRecursion (λ other. shares plan mv other �
 
 -- the move is one of the round, or shares a place with one in it
 abbrev pub IsTaken : Plan → List Move → Move → Type 0
-IsTaken plan round mv = ((front : List Move) × (behind : List Move) × (round ≡ front ++ mv ∷ behind)) ⊎ (shares_any plan round mv ≡ true)
+IsTaken plan round mv = ((front : List Move) × (after : List Move) × (round ≡ front ++ mv ∷ after)) ⊎ (shares_any plan round mv ≡ true)
 
 -- the round is one move that is made alone; or no two of its moves share a place, and each candidate that it leaves out shares one with a move that it has
 abbrev pub IsFull : Plan → State → (moves round : List Move) → Type 0
@@ -61,4 +61,4 @@ IsFull plan s moves round =
 abbrev pub IsOrderOf : List Move → List Move → Type 0
 IsOrderOf [] other = other ≡ []
 IsOrderOf (mv ∷ moves) other =
-    (front : List Move) × (behind : List Move) × (other ≡ front ++ mv ∷ behind) × IsOrderOf moves (front ++ behind)
+    (front : List Move) × (after : List Move) × (other ≡ front ++ mv ∷ after) × IsOrderOf moves (front ++ after)

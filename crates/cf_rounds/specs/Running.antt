@@ -18,9 +18,9 @@ use Rattle.cf_rounds.specs.Firing.{paced_by}
 use Rattle.cf_rounds.specs.Rounds.{round_of}
 
 -- the state after some moves
-abbrev pub state_behind : State → List Made → State
-state_behind s [] = s
-state_behind s (made ∷ trace) = state_behind made.state trace
+abbrev pub state_after : State → List Made → State
+state_after s [] = s
+state_after s (made ∷ trace) = state_after made.state trace
 
 -- the moves of all rounds
 abbrev pub all_of : List (List Made) → List Made
@@ -32,7 +32,7 @@ unfoldable pub InRounds : Plan → ℕ → ℕ → State → List (List Made) �
 InRounds plan limit count s [] last end = (last ≡ count) × (end ≡ s)
 InRounds plan limit count s (made ∷ rounds) last end =
     GoesOn limit s × (moves_of made ≡ round_of plan s (offered plan count s))
-    × InRounds plan limit (paced_by count made) (state_behind s made) rounds last end
+    × InRounds plan limit (paced_by count made) (state_after s made) rounds last end
 
 -- the round there is Serve alone, whose call failed
 pub record FailsThere (limit count : ℕ) (now new : Place) (answer : Answer) : Type 0 where

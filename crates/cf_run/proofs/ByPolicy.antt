@@ -16,7 +16,7 @@ use Rattle.cf_run.specs.Going.{moment_of}
 use Rattle.cf_run.specs.Headline.{RunsSequentially}
 use Rattle.cf_run.specs.Made.{Made, moves_of}
 use Rattle.cf_run.specs.Moving.{Place, Does, shown_of}
-use Rattle.cf_run.specs.Policies.{IsOpened, Chooser, fresh, choice, offered_to, behind_choice, Picks, Takes, StopsPolicy, RunsPolicy, ChoiceAsks, most_moves}
+use Rattle.cf_run.specs.Policies.{IsOpened, Chooser, fresh, choice, offered_to, after_choice, Picks, Takes, StopsPolicy, RunsPolicy, ChoiceAsks, most_moves}
 use Rattle.cf_run.specs.Reaching.{Reaches, GoesOn, IsOver}
 use Rattle.cf_run.proofs.Asked.{one-more}
 use Rattle.cf_run.proofs.Bounds.{reached-bounded}
@@ -34,8 +34,8 @@ abbrev pub taken : {P : Type 0} (picked : P → List Move → ℕ) (limit : ℕ)
 taken picked limit shows at now new t = record { move = t.move; event = t.event; state = new.core.state }
 
 -- the policy after it
-abbrev pub behind : {P : Type 0} (picked : P → List Move → ℕ) (onward : P → List Move → P) (limit : ℕ) (shows : Show) (at : Chooser P) (now new : Place) → Takes picked limit shows at now new → Chooser P
-behind picked onward limit shows at now new t = behind_choice onward now.core.plan at now.core.state (taken picked limit shows at now new t)
+abbrev pub chooser_after : {P : Type 0} (picked : P → List Move → ℕ) (onward : P → List Move → P) (limit : ℕ) (shows : Show) (at : Chooser P) (now new : Place) → Takes picked limit shows at now new → Chooser P
+chooser_after picked onward limit shows at now new t = after_choice onward now.core.plan at now.core.state (taken picked limit shows at now new t)
 
 -- a turn whose move stops the run
 pub chosen-stops : {P : Type 0} (picked : P → List Move → ℕ) (onward : P → List Move → P) (limit : ℕ) (shows : Show) (at : Chooser P) (now new : Place) (later : P) (mv : Move) (answer : Answer) → GoesOn limit now.core.state → choice picked now.core.plan at now.core.state ≡ Some mv → later ≡ onward at.policy (offered_to now.core.plan at now.core.state) → Does shows mv now new (Err answer)
@@ -67,17 +67,17 @@ unfolding Does turned-more
 turned-trace picked limit shows begin now new at h t = reached-trace limit shows begin now new t.move t.event h t.goes.below t.does
 
 pub turned-picks : {P : Type 0} (picked : P → List Move → ℕ) (onward : P → List Move → P) (limit : ℕ) (shows : Show) (begin now new : Place) (policy : P) (at : Chooser P) (h : Reaches limit shows begin now) (t : Takes picked limit shows at now new) → PicksTo picked onward begin policy h.trace at
-    → PicksTo picked onward begin policy (turned-more picked limit shows begin now new at h t).trace (behind picked onward limit shows at now new t)
+    → PicksTo picked onward begin policy (turned-more picked limit shows begin now new at h t).trace (chooser_after picked onward limit shows at now new t)
 turned-picks {P} picked onward limit shows begin now new policy at h t picks =
     let plan : Plan = begin.core.plan in
     let made : Made = taken picked limit shows at now new t in
     let C : Processor → Type 0 = λ p. choice picked p.plan at p.state ≡ Some t.move in
     let next : choice picked plan at h.last.state ≡ Some t.move = subst C h.core t.choice_is in
-    let more : PicksTo picked onward begin policy (h.trace ++ made ∷ []) (behind_choice onward plan at h.last.state made) =
+    let more : PicksTo picked onward begin policy (h.trace ++ made ∷ []) (after_choice onward plan at h.last.state made) =
     picks-more picked onward plan limit begin.streams.input (moment_of begin.core h.rest) h.trace h.last (fresh policy) at made h.leads picks next in
-    let same : behind picked onward limit shows at now new t ≡ behind_choice onward plan at h.last.state made = ap (λ (p : Processor). behind_choice onward p.plan at p.state made) h.core in
-    let there : PicksTo picked onward begin policy (h.trace ++ made ∷ []) (behind picked onward limit shows at now new t) = subst (λ (c : Chooser P). PicksTo picked onward begin policy (h.trace ++ made ∷ []) c) (sym same) more in
-    subst (λ (trace : List Made). PicksTo picked onward begin policy trace (behind picked onward limit shows at now new t)) (sym (turned-trace picked limit shows begin now new at h t)) there
+    let same : chooser_after picked onward limit shows at now new t ≡ after_choice onward plan at h.last.state made = ap (λ (p : Processor). after_choice onward p.plan at p.state made) h.core in
+    let there : PicksTo picked onward begin policy (h.trace ++ made ∷ []) (chooser_after picked onward limit shows at now new t) = subst (λ (c : Chooser P). PicksTo picked onward begin policy (h.trace ++ made ∷ []) c) (sym same) more in
+    subst (λ (trace : List Made). PicksTo picked onward begin policy trace (chooser_after picked onward limit shows at now new t)) (sym (turned-trace picked limit shows begin now new at h t)) there
 
 -- what no move asked has stayed as it was, with one more move
 same_choice : (chosen : Option Move) (mv last : Move) → chosen ≡ Some mv → chosen ≡ Some last → mv ≡ last
@@ -148,4 +148,4 @@ policy-bounded {P} picked onward limit shows begin new policy later moves answer
     go ran.ReportFault stops =
         let full : Place = unfailed shows r.now new stops.move stops.does.0 in
         let t : Takes picked limit shows r.at r.now full = record { goes = stops.goes; move = stops.move; choice_is = stops.choice_is; event = stops.does.0; does = shown_too shows stops.move stops.does.0 r.now new stops.does.1.makes } in
-        reached-bounded picked onward limit shows begin full policy (behind picked onward limit shows r.at r.now full t) accepted wide o (turned-more picked limit shows begin r.now full r.at r.reaches t) (turned-picks picked onward limit shows begin r.now full policy r.at r.reaches t r.picks)
+        reached-bounded picked onward limit shows begin full policy (chooser_after picked onward limit shows r.at r.now full t) accepted wide o (turned-more picked limit shows begin r.now full r.at r.reaches t) (turned-picks picked onward limit shows begin r.now full policy r.at r.reaches t r.picks)

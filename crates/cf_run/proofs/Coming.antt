@@ -21,7 +21,7 @@ use Rattle.cf_run.specs.Moving.{Place, Does}
 use Rattle.cf_run.specs.Policies.{IsOpened, Chooser, chooser, fresh, choice, offered_to, Picks, Takes, Turned, Chooses, StopsPolicy, RunsPolicy, ChoiceAsks, PolicyUnasked, made_last, most_moves}
 use Rattle.cf_run.specs.Reaching.{no_tally, Reaches}
 use Rattle.cf_run.proofs.Bounds.{bound_grows, bound_small, reached-bounded, reached-offered}
-use Rattle.cf_run.proofs.ByPolicy.{PicksTo, behind, turned-more, turned-picks, unasked-turn}
+use Rattle.cf_run.proofs.ByPolicy.{PicksTo, chooser_after, turned-more, turned-picks, unasked-turn}
 use Rattle.cf_run.proofs.Runs.{reached-none, none-trace, made-within}
 use Rattle.cf_run.proofs.Stopped.{offered-stopped, paced-stopped}
 
@@ -84,7 +84,7 @@ comes-more {P} picked onward limit shows begin now new first current held later 
     let stages : ℕ = begin.core.plan.stages in
     let drained : Bool = is_drained new.core.state in
     record {
-      at = behind picked onward limit shows c.at now new takes;
+      at = chooser_after picked onward limit shows c.at now new takes;
       reached = turned-more picked limit shows begin now new c.at c.reached takes;
       picks = turned-picks picked onward limit shows begin now new first c.at c.reached takes c.picks;
       policy_is = t.policy_is ∙ onward_same picked onward limit shows begin now first current held c;
@@ -94,12 +94,12 @@ comes-more {P} picked onward limit shows begin now new first current held later 
     }
 
 -- what no move asked has stayed as it was, with one more pick
-pub unasked-comes : {P T : Type 0} (picked : P → List Move → ℕ) (onward : P → List Move → P) (asks : Processor → Move → Type 0) (limit : ℕ) (shows : Show) (begin now new : Place) (first current : P) (held : ℕ) (later : Chooser P) (c : Comes picked onward limit shows begin now first current held) (t : Turned picked onward limit shows now new (chooser current held) later) (before between behind : T)
-    → ((SomeAsks asks begin.core.plan begin.core.state c.reached.trace → ⊥) → between ≡ before) → ((ChoiceAsks asks picked limit (chooser current held) now.core → ⊥) → behind ≡ between)
-    → (SomeAsks asks begin.core.plan begin.core.state (comes-more picked onward limit shows begin now new first current held later c t).reached.trace → ⊥) → behind ≡ before
+pub unasked-comes : {P T : Type 0} (picked : P → List Move → ℕ) (onward : P → List Move → P) (asks : Processor → Move → Type 0) (limit : ℕ) (shows : Show) (begin now new : Place) (first current : P) (held : ℕ) (later : Chooser P) (c : Comes picked onward limit shows begin now first current held) (t : Turned picked onward limit shows now new (chooser current held) later) (before between rest : T)
+    → ((SomeAsks asks begin.core.plan begin.core.state c.reached.trace → ⊥) → between ≡ before) → ((ChoiceAsks asks picked limit (chooser current held) now.core → ⊥) → rest ≡ between)
+    → (SomeAsks asks begin.core.plan begin.core.state (comes-more picked onward limit shows begin now new first current held later c t).reached.trace → ⊥) → rest ≡ before
 unfolding comes-more
-unasked-comes picked onward asks limit shows begin now new first current held later c t before between behind so_far one unasked =
-    unasked-turn picked asks limit shows begin now new c.at c.reached (took picked onward limit shows begin now new first current held c t.takes) before between behind so_far
+unasked-comes picked onward asks limit shows begin now new first current held later c t before between rest so_far one unasked =
+    unasked-turn picked asks limit shows begin now new c.at c.reached (took picked onward limit shows begin now new first current held c t.takes) before between rest so_far
     (λ none. one (λ a. none (record { goes = a.goes; move = a.move; choice_is = sym (chosen_same picked onward limit shows begin now first current held c) ∙ a.choice_is; asked = a.asked })))
     unasked
 
@@ -200,12 +200,12 @@ choice-asks asks picked onward limit shows begin now first current held c a =
     record { goes = a.goes; move = a.move; choice_is = sym (chosen_same picked onward limit shows begin now first current held c) ∙ a.choice_is; asked = a.asked }
 
 -- what no move of the run asked has stayed as it was
-pub comes-unasked : {P S K : Type 0} (picked : P → List Move → ℕ) (onward : P → List Move → P) (limit : ℕ) (shows : Show) (begin now new : Place) (first current later : P) (held : ℕ) (answer : Answer) (before between behind : S) (blank half full : K) → (c : Comes picked onward limit shows begin now first current held) → StopsPolicy picked onward limit shows (chooser current held) now new later answer
-    → ((SomeAsks AsksInput begin.core.plan begin.core.state c.reached.trace → ⊥) → between ≡ before) → ((ChoiceAsks AsksInput picked limit (chooser current held) now.core → ⊥) → behind ≡ between)
+pub comes-unasked : {P S K : Type 0} (picked : P → List Move → ℕ) (onward : P → List Move → P) (limit : ℕ) (shows : Show) (begin now new : Place) (first current later : P) (held : ℕ) (answer : Answer) (before between rest : S) (blank half full : K) → (c : Comes picked onward limit shows begin now first current held) → StopsPolicy picked onward limit shows (chooser current held) now new later answer
+    → ((SomeAsks AsksInput begin.core.plan begin.core.state c.reached.trace → ⊥) → between ≡ before) → ((ChoiceAsks AsksInput picked limit (chooser current held) now.core → ⊥) → rest ≡ between)
     → ((SomeAsks AsksOutput begin.core.plan begin.core.state c.reached.trace → ⊥) → half ≡ blank) → ((ChoiceAsks AsksOutput picked limit (chooser current held) now.core → ⊥) → full ≡ half)
-    → PolicyUnasked picked onward limit shows begin new first later answer (behind ≡ before) (full ≡ blank)
+    → PolicyUnasked picked onward limit shows begin new first later answer (rest ≡ before) (full ≡ blank)
 unfolding comes-runs
-comes-unasked picked onward limit shows begin now new first current later held answer before between behind blank half full c stops input input_next output output_next = record {
+comes-unasked picked onward limit shows begin now new first current later held answer before between rest blank half full c stops input input_next output output_next = record {
   moves = all-made picked onward limit shows begin now new first current later held answer c stops;
   runs = comes-runs picked onward limit shows begin now new first current later held answer c stops;
   input_asked = λ unasked. input_next (λ a. unasked (inr (there AsksInput a))) ∙ input (λ some. unasked (inl some));

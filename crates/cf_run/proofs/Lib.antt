@@ -1,6 +1,6 @@
 pub mod Moves
 pub mod Faults
-pub mod Behind
+pub mod AfterOutput
 pub mod Runs
 pub mod Asked
 pub mod Retirements

@@ -18,7 +18,7 @@ use Rattle.cf_run.specs.Made.{counted, shown}
 use Rattle.cf_run.specs.Moving.{Place, place_of, MakesOne, MakesAndShows, MakesUnshown, Does}
 use Rattle.cf_run.specs.Reaching.{GoesOn}
 use Rattle.cf_run.specs.Scripts.{Stand, DoesLine, Stops, Tries}
-use Rattle.cf_scripts.specs.Scripts.{next_of, behind_next}
+use Rattle.cf_scripts.specs.Scripts.{next_of, after_next}
 
 -- the move was made and counted
 made : (mv : Move) (now new : Place) (e : Event) → bar now.core.plan now.core.state mv ≡ None → MakesOrFails now.core new.core mv now.streams new.streams (Ok e) → new.tally ≡ counted now.tally mv e → MakesOne mv e now new
@@ -54,12 +54,12 @@ unfolding MakesOrFails Does
 does-write_fault show mv old new before after report tally free h = (record { allowed = free; serves = h.0; report = refl; tally = refl }, h.1)
 
 -- a turn whose move is made
-pub turned-made : (limit : ℕ) (show : Show) (now new : Stand) (line : ℕ) (mv : Move) (event : Event) → GoesOn limit now.place.core.state → next_of now.script ≡ Ok (Some (line, mv)) → new.script ≡ behind_next now.script → Does show mv now.place new.place (Ok event) → Tries limit show now new None
+pub turned-made : (limit : ℕ) (show : Show) (now new : Stand) (line : ℕ) (mv : Move) (event : Event) → GoesOn limit now.place.core.state → next_of now.script ≡ Ok (Some (line, mv)) → new.script ≡ after_next now.script → Does show mv now.place new.place (Ok event) → Tries limit show now new None
 unfolding DoesLine
 turned-made limit show now new line mv event goes next left does = record { goes = goes; line = line; move = mv; next = next; script = left; does = (event, does) }
 
 -- and a turn whose move stops the run
-pub turned-stopped : (limit : ℕ) (show : Show) (now new : Stand) (line : ℕ) (mv : Move) (answer : Answer) → GoesOn limit now.place.core.state → next_of now.script ≡ Ok (Some (line, mv)) → new.script ≡ behind_next now.script → Does show mv now.place new.place (Err answer) → Stops limit show now new (Ran answer)
+pub turned-stopped : (limit : ℕ) (show : Show) (now new : Stand) (line : ℕ) (mv : Move) (answer : Answer) → GoesOn limit now.place.core.state → next_of now.script ≡ Ok (Some (line, mv)) → new.script ≡ after_next now.script → Does show mv now.place new.place (Err answer) → Stops limit show now new (Ran answer)
 unfolding Stops DoesLine Does
 turned-stopped limit show now new line mv ran.ReadFault goes next left does = record { goes = goes; line = line; move = mv; next = next; script = left; does = does }
 turned-stopped limit show now new line mv ran.WriteFault goes next left does = record { goes = goes; line = line; move = mv; next = next; script = left; does = does }

@@ -155,9 +155,9 @@ unfolding Leads lines all_shown shown next
 shown-lines plan limit told m n [] last h = refl
 shown-lines plan limit told m n (made ∷ trace) last (rest, same, is, h) =
     let t : Moment = next plan (record m { rest = rest }) made.move in
-    let behind : AreTexts (t.state.retired + 1) (lines plan t (moves_of trace)) (all_shown show.Retired plan (n + 1) trace) = shown-lines plan limit told t (n + 1) trace last h in
+    let later : AreTexts (t.state.retired + 1) (lines plan t (moves_of trace)) (all_shown show.Retired plan (n + 1) trace) = shown-lines plan limit told t (n + 1) trace last h in
     let P : List ℕ → Type 0 = λ r. AreTexts (m.state.retired + 1) (retires plan m.state made.move ++ lines plan (next plan (record m { rest = r }) made.move) (moves_of trace)) (retirement made.state.retired made.event ++ all_shown show.Retired plan (n + 1) trace) in
-    let here : P rest = made-texts plan limit (record m { rest = rest }) made (lines plan t (moves_of trace)) (all_shown show.Retired plan (n + 1) trace) is behind in
+    let here : P rest = made-texts plan limit (record m { rest = rest }) made (lines plan t (moves_of trace)) (all_shown show.Retired plan (n + 1) trace) is later in
     subst P same here
 
 -- a line is shown in one way
@@ -175,6 +175,6 @@ shown_once line a b h k =
 -- so the text of some lines is one text
 pub one-text : (n : ℕ) (written : List Line) (a b : List ℕ) → AreTexts n written a → AreTexts n written b → a ≡ b
 one-text n [] a b h k = h ∙ sym k
-one-text n (line ∷ more) a b (shown, behind, shows, is, rest) (other, after, tells, same, left) =
-    is ∙ ap (λ (r : Retired). retired_line n r ++ behind) (shown_once line shown other shows tells)
-    ∙ ap (λ (text : List ℕ). retired_line n other ++ text) (one-text (n + 1) more behind after rest left) ∙ sym same
+one-text n (line ∷ more) a b (shown, later, shows, is, rest) (other, after, tells, same, left) =
+    is ∙ ap (λ (r : Retired). retired_line n r ++ later) (shown_once line shown other shows tells)
+    ∙ ap (λ (text : List ℕ). retired_line n other ++ text) (one-text (n + 1) more later after rest left) ∙ sym same

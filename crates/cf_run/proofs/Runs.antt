@@ -19,14 +19,14 @@ use Rattle.cf_semantics.specs.state.State.{State, Moment}
 use Rattle.cf_core.specs.Processors.{Processor, in_state}
 use Rattle.cf_core.specs.Stepping.{Makes}
 use Rattle.cf_report.specs.declared.tally.Tally.{Tally}
-use Rattle.cf_scripts.specs.Scripts.{Told, next_of, first_of, behind_next}
+use Rattle.cf_scripts.specs.Scripts.{Told, next_of, first_of, after_next}
 use Rattle.cf_scripts.specs.declared.refusal.ScriptErr.{ScriptErr}
 use Rattle.cf_run.specs.Made.{Made, moves_of, is_meeting, is_killed, is_died, tally_of, raised_if, counted, CanCount, shown, all_shown}
 use Rattle.cf_run.specs.Going.{moment_of, Finds, IsMade, Leads, RunsTo}
 use Rattle.cf_run.specs.Moving.{Place, MakesOne, MakesAndShows, Does}
 use Rattle.cf_run.specs.Reaching.{no_tally, Reaches}
 use Rattle.cf_run.specs.Scripts.{Stand, Follows, DoesLine, Tries}
-use Rattle.cf_run.proofs.Behind.{next-behind, next-retired}
+use Rattle.cf_run.proofs.AfterOutput.{next-after, next-retired}
 
 -- one more move
 leads-more : (plan : Plan) (limit : ℕ) (told : Option (List ℕ)) (m : Moment) (trace : List Made) (last : Moment) (rest : List ℕ) (made : Made) → Leads plan limit told m trace last → Finds told last.rest rest → IsMade plan limit (record last { rest = rest }) made
@@ -93,7 +93,7 @@ next-moment : (plan : Plan) (last : Moment) (mv : Move) (rest later added : List
 next-moment plan last mv rest later added s is =
     let blank : Moment = record { state = last.state; rest = rest; output = [] } in
     ap (λ (output : List ℕ). next plan (record { state = last.state; rest = rest; output = output }) mv) (sym (append-nil last.output))
-    ∙ next-behind plan last.output blank mv
+    ∙ next-after plan last.output blank mv
     ∙ ap (λ (m : Moment). record m { output = last.output ++ m.output }) is
 
 -- what a move of a processor at a moment leads to
@@ -109,13 +109,13 @@ led : (start core new : Processor) (limit : ℕ) (m last : Moment) (trace : List
 led start core new limit m last trace before between after mv e same leads streams below allowed event makes =
     let made : Made = record { move = mv; event = e; state = new.state } in
     let P : Processor → Type 0 = λ p. next p.plan (record { state = p.state; rest = makes.rest; output = [] }) mv ≡ record { state = new.state; rest = makes.later; output = makes.added } in
-    let behind : Moment = record { state = new.state; rest = makes.later; output = last.output ++ makes.added } in
-    let is : next start.plan (record last { rest = makes.rest }) mv ≡ behind = next-moment start.plan last mv makes.rest makes.later makes.added new.state (subst P same makes.is) in
+    let following : Moment = record { state = new.state; rest = makes.later; output = last.output ++ makes.added } in
+    let is : next start.plan (record last { rest = makes.rest }) mv ≡ following = next-moment start.plan last mv makes.rest makes.later makes.added new.state (subst P same makes.is) in
     let Q : Processor → Type 0 = λ p. (p.state.retired < limit) × (bar p.plan p.state mv ≡ None) × IsEvent p.plan p.state mv e in
     let here : Q (in_state start last.state) = subst Q same (below, allowed, event) in
     let one : IsMade start.plan limit (record last { rest = makes.rest }) made = record { below = here.0; allowed = here.1; event = here.2; state = ap (λ (q : Moment). q.state) (sym is) } in
     record {
-      last = behind;
+      last = following;
       leads = subst (Leads start.plan limit before.input m (trace ++ made ∷ [])) is (leads-more start.plan limit before.input m trace last makes.rest made leads (finds-rest before.input between.input last.rest makes.rest streams.input makes.told) one);
       core = ap (λ (plan : Plan). record { plan = plan; state = new.state }) (makes.plan ∙ ap (λ (p : Processor). p.plan) same);
       streams = leaves-again before between after last.rest makes.later last.output makes.added streams makes.leaves;
@@ -223,7 +223,7 @@ followed-more limit show start now new f t =
     record {
       reaches = reached-more limit show start.place now.place new.place t.move e h t.goes.below d;
       moves = moves-more h.trace made ∙ ap (λ moves. moves ++ t.move ∷ []) f.moves ∙ sym (taken-more start.script.moves start.script.refused (length h.trace) t.line t.move next) ∙ ap (λ (n : ℕ). map (λ (line : ℕ × Move). line.1) (take n start.script.moves)) (sym size);
-      script = t.script ∙ ap behind_next f.script ∙ ap (λ (moves : List (ℕ × Move)). record start.script { moves = moves }) (dropped-more start.script.moves (length h.trace) ∙ ap (λ (n : ℕ). drop n start.script.moves) (sym size));
+      script = t.script ∙ ap after_next f.script ∙ ap (λ (moves : List (ℕ × Move)). record start.script { moves = moves }) (dropped-more start.script.moves (length h.trace) ∙ ap (λ (n : ℕ). drop n start.script.moves) (sym size));
     }
 
 -- the moves that led here, and that one
@@ -273,6 +273,6 @@ pub few-made : (made left : ℕ) → (0 < made → made + left < 2 ^ 25) → mad
 few-made zero left few = omega arith
 few-made (suc made) left few = let all = few (omega arith) in omega (arith, all)
 
-pub few-more : (made left new behind : ℕ) → (0 < made → made + left < 2 ^ 25) → left < 2 ^ 25 → behind + 1 ≡ left → new ≡ made + 1 → new + behind < 2 ^ 25
-few-more zero left new behind few all one more = omega arith
-few-more (suc made) left new behind few all one more = let now = few (omega arith) in omega (arith, now)
+pub few-more : (made left new following : ℕ) → (0 < made → made + left < 2 ^ 25) → left < 2 ^ 25 → following + 1 ≡ left → new ≡ made + 1 → new + following < 2 ^ 25
+few-more zero left new following few all one more = omega arith
+few-more (suc made) left new following few all one more = let now = few (omega arith) in omega (arith, now)

@@ -100,8 +100,8 @@ lighter plan x m mv suits k other free =
     omega (arith, cost, none)
 
 -- a moment drains where every moment to which a move other than Issue leads does
-drains_behind : (plan : Plan) (x : Machine) (m : Moment) → IsKept plan x m → ((mv : Move) → is_issue mv ≡ false → bar plan m.state mv ≡ None → (t : Moment) × Drains plan (next plan m mv) t) → (t : Moment) × Drains plan m t
-drains_behind plan x m k deeper = of m.state.ending refl
+drains_after : (plan : Plan) (x : Machine) (m : Moment) → IsKept plan x m → ((mv : Move) → is_issue mv ≡ false → bar plan m.state mv ≡ None → (t : Moment) × Drains plan (next plan m mv) t) → (t : Moment) × Drains plan m t
+drains_after plan x m k deeper = of m.state.ending refl
   where
     on_moves : (moves : List Move) → other_moves (candidates plan m.state) ≡ moves → HasShape plan m.state → (t : Moment) × Drains plan m t
     on_moves [] e shape = (m, here plan m (no_other_stuck plan m.state shape e))
@@ -116,8 +116,8 @@ drains_behind plan x m k deeper = of m.state.ending refl
 
 -- where the weight is at most n
 drains_within : (n : ℕ) (plan : Plan) (x : Machine) (m : Moment) → Suits plan → IsKept plan x m → weight plan m.state ≤ n → (t : Moment) × Drains plan m t
-drains_within zero plan x m suits k light = drains_behind plan x m k (λ mv other free. absurd (omega (arith, light, lighter plan x m mv suits k other free)))
-drains_within (suc n) plan x m suits k light = drains_behind plan x m k (λ mv other free.
+drains_within zero plan x m suits k light = drains_after plan x m k (λ mv other free. absurd (omega (arith, light, lighter plan x m mv suits k other free)))
+drains_within (suc n) plan x m suits k light = drains_after plan x m k (λ mv other free.
     drains_within n plan x (next plan m mv) suits (kept-next plan x m mv suits k free) (omega (arith, light, lighter plan x m mv suits k other free)))
 
 -- how a run that cannot be extended ends

@@ -93,7 +93,7 @@ arrives-anew limit shows hart begin now accepted wide opens none h =
       rises = let c = holds.count in omega (arith, c);
       goes = goes-anew (isa_of plan) hart h.rest (gained x h.last.state) holds.at leads.written holds.goes;
       count = holds.level;
-      bounded = λ moves t more behind held. drain_bounded_anew plan x (finding holds.rest h.last) t moves leads.written more accepted (left_open plan x leads.written h.last holds.rest holds) behind held;
+      bounded = λ moves t more following held. drain_bounded_anew plan x (finding holds.rest h.last) t moves leads.written more accepted (left_open plan x leads.written h.last holds.rest holds) following held;
       arrives = record {
         kept = record { held = holds.held; tidy = holds.tidy };
         core = h.core;

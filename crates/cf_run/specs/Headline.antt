@@ -108,7 +108,7 @@ StopsAt x m begin new answer = StandsAt m begin new
 abbrev pub AreTexts : ℕ → List Line → List ℕ → Type 0
 AreTexts n [] text = text ≡ []
 AreTexts n (line ∷ more) text =
-    (shown : Retired) × (behind : List ℕ) × Shows line shown × (text ≡ retired_line n shown ++ behind) × AreTexts (n + 1) more behind
+    (shown : Retired) × (later : List ℕ) × Shows line shown × (text ≡ retired_line n shown ++ later) × AreTexts (n + 1) more later
 
 -- The report got the text, or a front of it where it failed.
 unfoldable pub Gets : Option (List ℕ) → Option (List ℕ) → Scripted → List ℕ → Type 0

@@ -83,8 +83,8 @@ shown show.Moves plan n made =
     numbered_move n made.move ++ retirement made.state.retired made.event ++ picture plan made.state
 
 -- what is shown of the move of this number, with its event, that left this processor
-abbrev pub shown_behind : Show → Processor → ℕ → Move → Event → List ℕ
-shown_behind show core n mv event = shown show core.plan n (record { move = mv; event = event; state = core.state })
+abbrev pub shown_after : Show → Processor → ℕ → Move → Event → List ℕ
+shown_after show core n mv event = shown show core.plan n (record { move = mv; event = event; state = core.state })
 
 -- what is shown of some moves, the first of which has this number
 unfoldable pub all_shown : Show → Plan → ℕ → List Made → List ℕ

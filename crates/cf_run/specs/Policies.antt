@@ -55,8 +55,8 @@ abbrev pub choice : {P : Type 0} → (picked : P → List Move → ℕ) → Plan
 choice picked plan at s = slice_get (offered_to plan at s) (picked at.policy (offered_to plan at s))
 
 -- what it is after that pick, with the move that was made counted
-abbrev pub behind_choice : {P : Type 0} → (onward : P → List Move → P) → Plan → Chooser P → State → Made → Chooser P
-behind_choice onward plan at s made = record {
+abbrev pub after_choice : {P : Type 0} → (onward : P → List Move → P) → Plan → Chooser P → State → Made → Chooser P
+after_choice onward plan at s made = record {
   policy = onward at.policy (offered_to plan at s);
   count = paced at.count made.move made.event (is_drained made.state);
 }
@@ -66,7 +66,7 @@ unfoldable pub Picks : {P : Type 0} → (picked : P → List Move → ℕ) → (
 Picks picked onward plan at s [] last = last ≡ at
 Picks picked onward plan at s (made ∷ trace) last =
     (choice picked plan at s ≡ Some made.move)
-    × Picks picked onward plan (behind_choice onward plan at s made) made.state trace last
+    × Picks picked onward plan (after_choice onward plan at s made) made.state trace last
 
 -- a policy may be given by the list of its picks: the first of them, and those after it
 abbrev pub first_pick : List ℕ → List Move → ℕ

@@ -5,7 +5,7 @@ use Rattle.cf_bind.specs.declared.moves.Move.{Move}
 use Rattle.cf_semantics.specs.declared.event.Event.{Event}
 use Rattle.cf_semantics.specs.moves.Bars.{bar as first_bar}
 use Rattle.cf_report.specs.declared.tally.Tally.{Tally}
-use Rattle.cf_scripts.specs.Scripts.{Told, next_of, behind_next}
+use Rattle.cf_scripts.specs.Scripts.{Told, next_of, after_next}
 use Rattle.cf_run.specs.declared.answer.Ran.TheVariants as ran
 use Rattle.cf_run.specs.declared.answer.Scripted.{Scripted}
 use Rattle.cf_run.specs.declared.answer.Scripted.TheVariants.{Ran, ScriptEnd, BadScript, BarredAt}
@@ -48,7 +48,7 @@ pub record Tries (limit : ℕ) (show : Show) (now new : Stand) (answer : Option 
   pub line : ℕ
   pub move : Move
   pub next : next_of now.script ≡ Ok (Some (line, move))
-  pub script : new.script ≡ behind_next now.script
+  pub script : new.script ≡ after_next now.script
   pub does : DoesLine show line move now.place new.place answer
 
 -- the run stops here: it is over, or the script has no further move or a line that is no move, and all stays; or its next move is the last that it tries

@@ -3,7 +3,7 @@
 
 ghost use Rattle.std.specs.Prelude.{◌≡◌};
 ghost use Rattle.cf_report.specs.Putting.{PutsText};
-ghost use Rattle.cf_run.specs.Made.{retirement, shown_behind};
+ghost use Rattle.cf_run.specs.Made.{retirement, shown_after};
 
 use cf_asked::Show;
 use cf_bind::Move;
@@ -41,7 +41,7 @@ fn put_lines<R: Sink>(
 ) -> Result<(), Failed>
     ensures { PutsText (R.written report.old) (R.written report.new)
         (R.faults report.old) (R.faults report.new)
-        (shown_behind show core.now made.now.number made.now.mv made.now.event) result }
+        (shown_after show core.now made.now.number made.now.mv made.now.event) result }
 {
     match show {
         Show::Report => Ok(()),
@@ -67,7 +67,7 @@ pub(crate) fn put_shown<R: Sink>(
 ) -> Result<(), Failed>
     ensures { PutsText (R.written report.old) (R.written report.new)
         (R.faults report.old) (R.faults report.new)
-        (shown_behind show core.now n mv event.now) result }
+        (shown_after show core.now n mv event.now) result }
 {
     match show {
         Show::Report => Ok(()),

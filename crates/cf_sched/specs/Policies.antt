@@ -3,11 +3,11 @@ use Rattle.std.specs.Prelude.{ℕ, ◌%◌, List, length, slice_get, Option}
 use Rattle.rand_pcg.specs.Lcg.{Lcg, increment_of, started}
 use Rattle.rand_pcg.specs.Pcg.{multiplier_64, pcg32}
 use Rattle.cf_bind.specs.declared.moves.Move.{Move}
-use Rattle.cf_index.specs.Order.{first_behind}
+use Rattle.cf_index.specs.Order.{first_after}
 
 -- Round picks the first candidate after the last one that it picked, or the first of all where none comes after it or nothing was picked yet
 abbrev pub round_pick : Option Move → List Move → ℕ
-round_pick last moves = first_behind last moves
+round_pick last moves = first_after last moves
 
 -- and keeps what it picked
 abbrev pub round_on : Option Move → List Move → Option Move

@@ -79,7 +79,7 @@ fn first_of_all(last: Option<Move>, core: &Core, candidates: &mut Candidates, pa
         (round_pick last (offers pace.now core.now.plan core.now.state)) }
 {
     pace.offer(core, candidates);
-    let place = candidates.first_behind(last);
+    let place = candidates.first_after(last);
     candidates.pick(place)
 }
 
@@ -90,7 +90,7 @@ impl Policy for Round {
 
     #[inline(always)]
     fn pick(&mut self, candidates: &Candidates) -> usize {
-        let place = candidates.first_behind(self.last);
+        let place = candidates.first_after(self.last);
         self.keep(candidates.pick(place));
         place
     }

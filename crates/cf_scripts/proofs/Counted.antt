@@ -11,13 +11,13 @@ use Rattle.cf_scripts.specs.declared.refusal.ScriptKind.{ScriptKind}
 use Rattle.cf_scripts.specs.MoveLines.{move_in}
 use Rattle.cf_scripts.specs.Scripts.{Told, is_skipped, told_by, told_from}
 
-told-one : (line n : ℕ) (answer : Result Move ScriptKind) (behind : Told) → length behind.moves ≤ n → length (told_by line answer behind).moves ≤ n + 1
-told-one line n (Ok mv) behind h = omega arith
-told-one line n (Err kind) behind h = omega arith
+told-one : (line n : ℕ) (answer : Result Move ScriptKind) (after : Told) → length after.moves ≤ n → length (told_by line answer after).moves ≤ n + 1
+told-one line n (Ok mv) after h = omega arith
+told-one line n (Err kind) after h = omega arith
 
-told-next : (skipped : Bool) (line n : ℕ) (answer : Result Move ScriptKind) (behind : Told) → length behind.moves ≤ n → length (if skipped then behind else told_by line answer behind).moves ≤ n + 1
-told-next true line n answer behind h = omega arith
-told-next false line n answer behind h = told-one line n answer behind h
+told-next : (skipped : Bool) (line n : ℕ) (answer : Result Move ScriptKind) (after : Told) → length after.moves ≤ n → length (if skipped then after else told_by line answer after).moves ≤ n + 1
+told-next true line n answer after h = omega arith
+told-next false line n answer after h = told-one line n answer after h
 
 told-lines : (above : ℕ) (lines : List (List ℕ)) → length (told_from above lines).moves ≤ length lines
 told-lines above [] = omega arith

@@ -2,7 +2,7 @@
 use Rattle.std.proofs.Common.{◌≡◌, ℕ, List, [], length, sym, ◌∙◌, ap, None, Ok}
 use Rattle.rv_text.specs.Lines.{text_lines}
 use Rattle.rv_text.proofs.LineCuts.{no_lines}
-use Rattle.cf_scripts.specs.Scripts.{Told, told_from, next_of, behind_next}
+use Rattle.cf_scripts.specs.Scripts.{Told, told_from, next_of, after_next}
 
 ended : (above : ℕ) (text : List ℕ) (told : Told) → length text ≡ 0 → told_from above (text_lines text) ≡ told
     → told ≡ record { moves = []; refused = None }
@@ -13,7 +13,7 @@ pub next-ended : (above : ℕ) (text : List ℕ) (told : Told) → length text �
 next-ended above text told none same = sym (ap next_of (ended above text told none same))
 
 pub left-ended : (above : ℕ) (text : List ℕ) (told : Told) → length text ≡ 0 → told_from above (text_lines text) ≡ told
-    → told_from above (text_lines text) ≡ behind_next told
+    → told_from above (text_lines text) ≡ after_next told
 left-ended above text told none same =
     let end = ended above text told none same in
-    same ∙ end ∙ sym (ap behind_next end)
+    same ∙ end ∙ sym (ap after_next end)

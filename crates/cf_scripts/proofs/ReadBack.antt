@@ -57,8 +57,8 @@ unfolding words_read move_read kind_named guess_read
 aimed t h =
     let name : IsWord (codes "issue") = record { some = lit< tt; bytes = refl } in
     let to : IsWord (codes "to") = record { some = lit< tt; bytes = refl } in
-    let behind = says-append (codes "to") (hex8 t) _ _ (says-word (codes "to") to) (says-word (hex8 t) (address-word t)) in
-    let line = says-append (codes "issue") (codes "to " ++ hex8 t) _ _ (says-word (codes "issue") name) behind in
+    let after = says-append (codes "to") (hex8 t) _ _ (says-word (codes "to") to) (says-word (hex8 t) (address-word t)) in
+    let line = says-append (codes "issue") (codes "to " ++ hex8 t) _ _ (says-word (codes "issue") name) after in
     by_words _ (codes "issue" ∷ codes "to" ∷ hex8 t ∷ []) line
     ∙ rw (address_first t h) refl
 

@@ -43,8 +43,8 @@ no_words : words_of [] ≡ []
 unfolding words_of
 no_words = refl
 
-words-behind : (y : ℕ) (ys : List ℕ) → is_blank y ≡ true → words_of (y ∷ ys) ≡ words_of ys
-words-behind y ys h = words-at [] y ys h ∙ ap (λ words. words ++ words_of ys) no_words
+words-after : (y : ℕ) (ys : List ℕ) → is_blank y ≡ true → words_of (y ∷ ys) ≡ words_of ys
+words-after y ys h = words-at [] y ys h ∙ ap (λ words. words ++ words_of ys) no_words
 
 words-before : (xs : List ℕ) (y : ℕ) → is_blank y ≡ true → words_of (xs ++ y ∷ []) ≡ words_of xs
 words-before xs y h = words-at xs y [] h ∙ ap (λ words. words_of xs ++ words) no_words ∙ append-nil (words_of xs)
@@ -53,7 +53,7 @@ front_by : (b : Bool) (x : ℕ) (xs : List ℕ) (n : ℕ) → is_blank x ≡ b �
     → words_of (drop (cond b (1 + n) 0) (x ∷ xs)) ≡ words_of (x ∷ xs)
 front_by true x xs n e ih =
     let next : 1 + n ≡ suc n = omega arith in
-    rw next (ih ∙ sym (words-behind x xs e))
+    rw next (ih ∙ sym (words-after x xs e))
 front_by false x xs n e ih = refl
 
 words-without_front : (text : List ℕ) → words_of (without_front text) ≡ words_of text
@@ -117,7 +117,7 @@ begun-trimmed text = begun-take _ (without_front text) (begun-front text)
 rest_by : (b : Bool) (x : ℕ) (xs : List ℕ) (n : ℕ) (parts : List (List ℕ)) → is_blank x ≡ b → words_of xs ≡ filter is_word parts
     → words_of (drop n xs) ≡ filter is_word (drop 1 parts)
     → words_of (drop (cond (not b) (1 + n) 0) (x ∷ xs)) ≡ filter is_word (drop 1 (cond b ([] ∷ parts) (onto_first x parts)))
-rest_by true x xs n parts e same ih = words-behind x xs e ∙ same
+rest_by true x xs n parts e same ih = words-after x xs e ∙ same
 rest_by false x xs n [] e same ih = let next : 1 + n ≡ suc n = omega arith in rw next ih
 rest_by false x xs n (part ∷ parts) e same ih = let next : 1 + n ≡ suc n = omega arith in rw next ih
 

@@ -19,8 +19,8 @@ is_skipped line = starts_with nat_eq line (codes "#") || length (words_of line) 
 
 -- what a script says from a line on, where that line gives this
 abbrev pub told_by : ℕ → Result Move ScriptKind → Told → Told
-told_by line (Ok mv) behind = record behind { moves = (line, mv) ∷ behind.moves }
-told_by line (Err kind) behind = record { moves = []; refused = Some (record { line = line; kind = kind }) }
+told_by line (Ok mv) after = record after { moves = (line, mv) ∷ after.moves }
+told_by line (Err kind) after = record { moves = []; refused = Some (record { line = line; kind = kind }) }
 
 -- what the lines after that many others say; lines are counted from 1
 abbrev pub told_from : ℕ → List (List ℕ) → Told
@@ -44,5 +44,5 @@ abbrev pub next_of : Told → Result (Option (ℕ × Move)) ScriptErr
 next_of told = first_of told.moves told.refused
 
 -- what is left after that; the end and a refusal stay
-abbrev pub behind_next : Told → Told
-behind_next told = record told { moves = drop 1 told.moves }
+abbrev pub after_next : Told → Told
+after_next told = record told { moves = drop 1 told.moves }

@@ -2,7 +2,7 @@
 
 ghost use Rattle.std.specs.Prelude.{◌≡◌, ◌<◌, ◌≤◌, ◌^◌, length};
 ghost use Rattle.cf_scripts.specs.Limits.{most_script};
-ghost use Rattle.cf_scripts.specs.Scripts.{is_skipped, script_of, next_of, behind_next};
+ghost use Rattle.cf_scripts.specs.Scripts.{is_skipped, script_of, next_of, after_next};
 
 use crate::reading::read_move;
 use crate::refusal::ScriptErr;
@@ -64,20 +64,20 @@ impl<'a> Script<'a> {
     #[tactic(auto, using(crate::proofs::Counted::counting))]
     pub fn next(&mut self) -> Result<Option<(u32, Move)>, ScriptErr>
         ensures next { result ≡ next_of self.old }
-        ensures left { self.new ≡ behind_next self.old }
+        ensures left { self.new ≡ after_next self.old }
         ensures few { length self.old.moves < 2 ^ 25 }
     {
         while !self.rest.is_empty() {
-            let (line, behind) = cut_line(self.rest);
+            let (line, after) = cut_line(self.rest);
             let number = self.above + 1;
             if !is_skipped(line) {
                 let mv = read_move(line).map_err(|kind| ScriptErr { line: number, kind })?;
                 self.above = number;
-                self.rest = behind;
+                self.rest = after;
                 return Ok(Some((number, mv)));
             }
             self.above = number;
-            self.rest = behind;
+            self.rest = after;
         }
         Ok(None)
     }

@@ -44,8 +44,8 @@ impl<'a> Words<'a> {
         ensures word { result.now ≡ first_word self.old }
         ensures left { self.new ≡ drop 1 self.old }
     {
-        let (word, behind) = split_name(self.rest);
-        self.rest = behind;
+        let (word, after) = split_name(self.rest);
+        self.rest = after;
         word
     }
 

@@ -6,7 +6,7 @@ use Rattle.cf_bind.specs.declared.moves.Move.{Move}
 use Rattle.cf_index.specs.Sites.{shares}
 use Rattle.cf_index.proofs.SharedSites.{shared_at, shared_place}
 use Rattle.cf_timed.specs.Delays.{delay}
-use Rattle.cf_timed.specs.Times.{Done, before, done_at, done_behind, greatest_time, time_behind, times, times_behind}
+use Rattle.cf_timed.specs.Times.{Done, before, done_at, done_after, greatest_time, time_after, times, times_after}
 use Rattle.cf_timed.specs.Chains.{AreLinked, ArePart, IsChain, IsLongest, sum_of_delays}
 use Rattle.cf_timed.proofs.Greatest.{where_more, where_none}
 
@@ -89,8 +89,8 @@ latest_of plan delays moves test (done ∷ earlier) h = subst (λ (n : ℕ). Lat
     by false e (inr z) = inr (omega (arith, z))
 
 -- a further move ends a chain at its time
-ends_more : (plan : Plan) (delays : List ℕ) (moves : List Move) (earlier : List Done) (mv : Move) → AllEnd plan delays moves earlier → EndsAt plan delays (moves ++ mv ∷ []) mv (time_behind plan delays earlier mv)
-unfolding time_behind
+ends_more : (plan : Plan) (delays : List ℕ) (moves : List Move) (earlier : List Done) (mv : Move) → AllEnd plan delays moves earlier → EndsAt plan delays (moves ++ mv ∷ []) mv (time_after plan delays earlier mv)
+unfolding time_after
 ends_more plan delays moves earlier mv h = by (latest_of plan delays moves (shares plan mv) earlier h)
   where
     by : Latest plan delays moves (shares plan mv) (greatest_time (before plan mv earlier)) ⊎ (greatest_time (before plan mv earlier) ≡ 0) → EndsAt plan delays (moves ++ mv ∷ []) mv (greatest_time (before plan mv earlier) + delay delays mv)
@@ -108,11 +108,11 @@ ends_more plan delays moves earlier mv h = by (latest_of plan delays moves (shar
     }
 
 -- so each move of a run ends a chain
-all_ends : (plan : Plan) (delays : List ℕ) (moves : List Move) (earlier : List Done) (rest : List Move) → AllEnd plan delays moves earlier → AllEnd plan delays (moves ++ rest) (times_behind plan delays earlier rest)
+all_ends : (plan : Plan) (delays : List ℕ) (moves : List Move) (earlier : List Done) (rest : List Move) → AllEnd plan delays moves earlier → AllEnd plan delays (moves ++ rest) (times_after plan delays earlier rest)
 all_ends plan delays moves earlier [] h = subst (λ (l : List Move). AllEnd plan delays l earlier) (sym (append-nil moves)) h
 all_ends plan delays moves earlier (mv ∷ rest) h =
-    subst (λ (l : List Move). AllEnd plan delays l (times_behind plan delays (done_behind plan delays earlier mv ∷ earlier) rest)) (append_assoc moves (mv ∷ []) rest)
-    (all_ends plan delays (moves ++ mv ∷ []) (done_behind plan delays earlier mv ∷ earlier) rest (ends_more plan delays moves earlier mv h, all_more plan delays moves mv earlier h))
+    subst (λ (l : List Move). AllEnd plan delays l (times_after plan delays (done_after plan delays earlier mv ∷ earlier) rest)) (append_assoc moves (mv ∷ []) rest)
+    (all_ends plan delays (moves ++ mv ∷ []) (done_after plan delays earlier mv ∷ earlier) rest (ends_more plan delays moves earlier mv h, all_more plan delays moves mv earlier h))
 
 -- every move passes a test that always holds
 pub always : (moves : List Done) → filter (λ done. true) moves ≡ moves
@@ -153,22 +153,22 @@ linked_rest : (plan : Plan) (mv : Move) (chain : List Move) → AreLinked plan (
 linked_rest plan mv [] h = tt
 linked_rest plan mv (next ∷ chain) h = h.1
 
-waits : (plan : Plan) (delays : List ℕ) (earlier : List Done) (mv : Move) (s : ℕ) → s ≤ greatest_time (before plan mv earlier) → s + delay delays mv ≤ time_behind plan delays earlier mv
-unfolding time_behind
+waits : (plan : Plan) (delays : List ℕ) (earlier : List Done) (mv : Move) (s : ℕ) → s ≤ greatest_time (before plan mv earlier) → s + delay delays mv ≤ time_after plan delays earlier mv
+unfolding time_after
 waits plan delays earlier mv s h = omega (arith, h)
 
 -- no chain has a greater sum
-most_of : (plan : Plan) (delays : List ℕ) (earlier : List Done) (rest chain : List Move) (s : ℕ) → s ≤ greatest_time earlier → IsReady plan earlier s chain → ArePart chain rest → AreLinked plan chain → s + sum_of_delays delays chain ≤ greatest_time (times_behind plan delays earlier rest)
+most_of : (plan : Plan) (delays : List ℕ) (earlier : List Done) (rest chain : List Move) (s : ℕ) → s ≤ greatest_time earlier → IsReady plan earlier s chain → ArePart chain rest → AreLinked plan chain → s + sum_of_delays delays chain ≤ greatest_time (times_after plan delays earlier rest)
 most_of plan delays earlier [] [] s most ready part linked = let z = sum_none delays in omega (arith, z)
 most_of plan delays earlier [] (c ∷ chain) s most ready part linked = absurd part
 most_of plan delays earlier (mv ∷ rest) [] s most ready part linked =
-    let done = done_behind plan delays earlier mv in
+    let done = done_after plan delays earlier mv in
     most_of plan delays (done ∷ earlier) rest [] s (let g = all_grows done earlier in omega (arith, g)) tt tt tt
 most_of plan delays earlier (mv ∷ rest) (c ∷ chain) s most ready (inr part) linked =
-    let done = done_behind plan delays earlier mv in
+    let done = done_after plan delays earlier mv in
     most_of plan delays (done ∷ earlier) rest (c ∷ chain) s (let g = all_grows done earlier in omega (arith, g)) (ready_more plan done earlier s (c ∷ chain) ready) part linked
 most_of plan delays earlier (mv ∷ rest) (c ∷ chain) s most ready (inl h) linked =
-    let done = done_behind plan delays earlier mv in
+    let done = done_after plan delays earlier mv in
     let same : c ≡ mv = h.0 in
     let later : s + delay delays mv ≤ done.time = waits plan delays earlier mv s (subst (λ (x : Move). s ≤ greatest_time (before plan x earlier)) same ready) in
     let links : AreLinked plan (mv ∷ chain) = subst (λ (x : Move). AreLinked plan (x ∷ chain)) same linked in
@@ -180,18 +180,18 @@ most_of plan delays earlier (mv ∷ rest) (c ∷ chain) s most ready (inl h) lin
 -- the greatest time of a run is that of its longest chain
 pub longest : (plan : Plan) (delays : List ℕ) (moves : List Move) → IsLongest plan delays moves (greatest_time (times plan delays moves))
 unfolding times
-longest plan delays moves = by (latest_of plan delays moves (λ mv. true) (times_behind plan delays [] moves) (all_ends plan delays [] [] moves tt))
+longest plan delays moves = by (latest_of plan delays moves (λ mv. true) (times_after plan delays [] moves) (all_ends plan delays [] [] moves tt))
   where
-    most : (other : List Move) → IsChain plan moves other → sum_of_delays delays other ≤ greatest_time (times_behind plan delays [] moves)
+    most : (other : List Move) → IsChain plan moves other → sum_of_delays delays other ≤ greatest_time (times_after plan delays [] moves)
     most other h = let r = most_of plan delays [] moves other 0 (omega arith) (ready other) h.part h.linked in omega (arith, r)
       where
         ready : (chain : List Move) → IsReady plan [] 0 chain
         ready [] = tt
         ready (mv ∷ chain) = omega arith
 
-    all : greatest_time (filter (λ done. true) (times_behind plan delays [] moves)) ≡ greatest_time (times_behind plan delays [] moves)
-    all = ap greatest_time (always (times_behind plan delays [] moves))
+    all : greatest_time (filter (λ done. true) (times_after plan delays [] moves)) ≡ greatest_time (times_after plan delays [] moves)
+    all = ap greatest_time (always (times_after plan delays [] moves))
 
-    by : Latest plan delays moves (λ mv. true) (greatest_time (filter (λ done. true) (times_behind plan delays [] moves))) ⊎ (greatest_time (filter (λ done. true) (times_behind plan delays [] moves)) ≡ 0) → IsLongest plan delays moves (greatest_time (times_behind plan delays [] moves))
+    by : Latest plan delays moves (λ mv. true) (greatest_time (filter (λ done. true) (times_after plan delays [] moves))) ⊎ (greatest_time (filter (λ done. true) (times_after plan delays [] moves)) ≡ 0) → IsLongest plan delays moves (greatest_time (times_after plan delays [] moves))
     by (inl l) = record { chain = l.ends.front ++ l.move ∷ []; is_chain = record { part = l.ends.part; linked = l.ends.linked }; is = l.ends.is ∙ all; most = most }
     by (inr z) = record { chain = []; is_chain = record { part = tt; linked = tt }; is = sum_none delays ∙ sym z ∙ all; most = most }

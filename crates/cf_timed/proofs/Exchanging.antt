@@ -18,10 +18,10 @@ use Rattle.cf_timed.specs.Exchanges.{CanExchange}
 use Rattle.cf_timed.proofs.Swapping.{keeps_times}
 
 -- moves, and then others
-pub run-behind : (plan : Plan) (m : Moment) (front rest : List Move) → run plan m (front ++ rest) ≡ run plan (run plan m front) rest
+pub run-after : (plan : Plan) (m : Moment) (front rest : List Move) → run plan m (front ++ rest) ≡ run plan (run plan m front) rest
 unfolding run
-run-behind plan m [] rest = refl
-run-behind plan m (mv ∷ front) rest = run-behind plan (next plan m mv) front rest
+run-after plan m [] rest = refl
+run-after plan m (mv ∷ front) rest = run-after plan (next plan m mv) front rest
 
 allowed-front : (plan : Plan) (m : Moment) (front rest : List Move) → IsRun plan m (front ++ rest) → IsRun plan m front
 unfolding IsRun
@@ -73,10 +73,10 @@ can-exchange plan x delays front a b rest h apart first second =
     let at : Moment = run plan m front in
     let begun = allowed-front plan m front (a ∷ b ∷ rest) h in
     let there = allowed-rest plan m front (a ∷ b ∷ rest) h in
-    let alone : stands_alone plan (next plan at a).state b ≡ false = subst (λ (q : Moment). stands_alone plan q.state b ≡ false) (run-behind plan m front (a ∷ [])) second in
+    let alone : stands_alone plan (next plan at a).state b ≡ false = subst (λ (q : Moment). stands_alone plan q.state b ≡ false) (run-after plan m front (a ∷ [])) second in
     let e = exchanged plan at a b rest (sidings-run plan m front begun (sidings-start plan x)) there apart first alone in
     record {
       allowed = allowed-both plan m front (b ∷ a ∷ rest) begun e.0;
-      same = run-behind plan m front (b ∷ a ∷ rest) ∙ e.1 ∙ sym (run-behind plan m front (a ∷ b ∷ rest));
+      same = run-after plan m front (b ∷ a ∷ rest) ∙ e.1 ∙ sym (run-after plan m front (a ∷ b ∷ rest));
       keeps = keeps_times plan delays front a b rest apart;
     }

@@ -11,7 +11,7 @@ use Rattle.cf_index.specs.Sites.{AreThere, IsPlace, shares, used, uses_place}
 use Rattle.cf_index.proofs.SharedSites.{IsOne, is_other, same_site_is, used_ones}
 use Rattle.cf_index.proofs.SiteWords.{siding_within}
 use Rattle.cf_timed.specs.Delays.{delay}
-use Rattle.cf_timed.specs.Times.{Done, done_at, done_behind, greatest, greatest_time, time_behind, times, times_behind}
+use Rattle.cf_timed.specs.Times.{Done, done_at, done_after, greatest, greatest_time, time_after, times, times_after}
 use Rattle.cf_timed.specs.Clocks.{SiteTimes, Tells, allowed, finish, made, made_all, number_at, put_time, put_times, row_at, stamped, started, time_at}
 use Rattle.cf_timed.proofs.SiteTimes.{at_start, put_delays, put_latest, put_same, same_times}
 use Rattle.cf_timed.proofs.Greatest.{greatest_where, where_any, where_more, where_none}
@@ -57,8 +57,8 @@ map_same f g (x ∷ xs) kept same =
     rw (h, r) refl
 
 -- when a further move is done
-pub finish_follows : (plan : Plan) (delays : List ℕ) (moves : List Done) (c : SiteTimes) (mv : Move) → Follows plan delays moves c → AreKept plan mv → finish c mv ≡ time_behind plan delays moves mv
-unfolding finish time_behind shares
+pub finish_follows : (plan : Plan) (delays : List ℕ) (moves : List Done) (c : SiteTimes) (mv : Move) → Follows plan delays moves c → AreKept plan mv → finish c mv ≡ time_after plan delays moves mv
+unfolding finish time_after shares
 finish_follows plan delays moves c mv h kept =
     let p = h.plan_is in
     let d = h.delays_are in
@@ -206,18 +206,18 @@ unfolding greatest_time
 latest_more moves mv t = omega arith
 
 -- no place that a move uses has a later time than the move
-pub no_later : (plan : Plan) (delays : List ℕ) (moves : List Done) (mv : Move) (x : Site) → uses_place plan mv x ≡ true → last_at plan moves x ≤ time_behind plan delays moves mv
-unfolding time_behind shares uses_place
+pub no_later : (plan : Plan) (delays : List ℕ) (moves : List Done) (mv : Move) (x : Site) → uses_place plan mv x ≡ true → last_at plan moves x ≤ time_after plan delays moves mv
+unfolding time_after shares uses_place
 no_later plan delays moves mv x e =
     let r = reaches (last_at plan moves) x (used plan mv) e in
     let a = where_any (λ y done. uses_place plan done.move y) (used plan mv) moves in
     omega (arith, r, a)
 
 -- a clock that is told one more move
-pub follows_more : (plan : Plan) (delays : List ℕ) (moves : List Done) (c : SiteTimes) (mv : Move) → Follows plan delays moves c → AreKept plan mv → Follows plan delays (done_behind plan delays moves mv ∷ moves) (stamped c mv (time_behind plan delays moves mv))
+pub follows_more : (plan : Plan) (delays : List ℕ) (moves : List Done) (c : SiteTimes) (mv : Move) → Follows plan delays moves c → AreKept plan mv → Follows plan delays (done_after plan delays moves mv ∷ moves) (stamped c mv (time_after plan delays moves mv))
 follows_more plan delays moves c mv h kept =
-    let t : ℕ = time_behind plan delays moves mv in
-    subst (λ (l : Plan). Follows plan delays (done_behind plan delays moves mv ∷ moves) (put_times (allowed c t) t (used l mv))) (sym h.plan_is) (record {
+    let t : ℕ = time_after plan delays moves mv in
+    subst (λ (l : Plan). Follows plan delays (done_after plan delays moves mv ∷ moves) (put_times (allowed c t) t (used l mv))) (sym h.plan_is) (record {
       plan_is = put_same (allowed c t) t (used plan mv) ∙ h.plan_is;
       delays_are = put_delays (allowed c t) t (used plan mv) ∙ h.delays_are;
       room = room_times (allowed c t) t (used plan mv) (record { stages = h.room.stages; sidings = h.room.sidings; cells = h.room.cells }) kept;
@@ -275,15 +275,15 @@ follows_tells plan delays moves c a h = record {
 }
 
 -- and so does a clock that is told the moves of a run
-pub follows_all : (plan : Plan) (delays : List ℕ) (earlier : List Done) (c : SiteTimes) (moves : List Move) → IsAccepted plan → AllByRecursion (AreThere plan) moves → Follows plan delays earlier c → Follows plan delays (times_behind plan delays earlier moves) (made_all c moves)
+pub follows_all : (plan : Plan) (delays : List ℕ) (earlier : List Done) (c : SiteTimes) (moves : List Move) → IsAccepted plan → AllByRecursion (AreThere plan) moves → Follows plan delays earlier c → Follows plan delays (times_after plan delays earlier moves) (made_all c moves)
 unfolding made
 follows_all plan delays earlier c [] a there h = h
 follows_all plan delays earlier c (mv ∷ moves) a there h =
     let kept = moves_kept plan mv a there.0 in
     let e = finish_follows plan delays earlier c mv h kept in
-    let next : Follows plan delays (done_behind plan delays earlier mv ∷ earlier) (stamped c mv (finish c mv)) = rw e (follows_more plan delays earlier c mv h kept) in
-    follows_all plan delays (done_behind plan delays earlier mv ∷ earlier) (stamped c mv (finish c mv)) moves a there.1 next
+    let next : Follows plan delays (done_after plan delays earlier mv ∷ earlier) (stamped c mv (finish c mv)) = rw e (follows_more plan delays earlier c mv h kept) in
+    follows_all plan delays (done_after plan delays earlier mv ∷ earlier) (stamped c mv (finish c mv)) moves a there.1 next
 
 pub run_told : (plan : Plan) (delays : List ℕ) (moves : List Move) → IsAccepted plan → AllByRecursion (AreThere plan) moves → Tells plan delays (times plan delays moves) (made_all (started plan delays) moves)
 unfolding times
-run_told plan delays moves a there = follows_tells plan delays (times_behind plan delays [] moves) (made_all (started plan delays) moves) a (follows_all plan delays [] (started plan delays) moves a there (follows_start plan delays))
+run_told plan delays moves a there = follows_tells plan delays (times_after plan delays [] moves) (made_all (started plan delays) moves) a (follows_all plan delays [] (started plan delays) moves a there (follows_start plan delays))

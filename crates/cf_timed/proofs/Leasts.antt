@@ -33,8 +33,8 @@ least-of_all time moves place least d h =
     here = list_all-from_AllPass (λ other. nat_le (time (get_or moves place d)) (time other)) moves (λ k e below. let m = h.most k e below in let i = h.is d in grind (arith, nat_tests, m, i))
 
 -- after a move that is later it is still the least
-behind_one : (time : Move → ℕ) (x : Move) (moves : List Move) (place least : ℕ) → least < time x → IsLeast time moves place least → IsLeast time (x ∷ moves) (suc place) least
-behind_one time x moves place least later h = record {
+after_one : (time : Move → ℕ) (x : Move) (moves : List Move) (place least : ℕ) → least < time x → IsLeast time moves place least → IsLeast time (x ∷ moves) (suc place) least
+after_one time x moves place least later h = record {
   within = let w = h.within in omega (arith, w);
   is = h.is;
   most = most;
@@ -50,13 +50,13 @@ behind_one time x moves place least later h = record {
     first (suc k) d before = h.first k d (omega arith)
 
 -- and after some that are later
-pub least-behind : (time : Move → ℕ) (front moves : List Move) (place least : ℕ) → ((k : ℕ) (d : Move) → k < length front → least < time (get_or front k d)) → IsLeast time moves place least →
+pub least-after : (time : Move → ℕ) (front moves : List Move) (place least : ℕ) → ((k : ℕ) (d : Move) → k < length front → least < time (get_or front k d)) → IsLeast time moves place least →
     IsLeast time (front ++ moves) (length front + place) least
-least-behind time [] moves place least later h = let z : 0 + place ≡ place = omega arith in rw z h
-least-behind time (x ∷ front) moves place least later h =
-    let r = least-behind time front moves place least (λ k d below. later (suc k) d (omega arith)) h in
+least-after time [] moves place least later h = let z : 0 + place ≡ place = omega arith in rw z h
+least-after time (x ∷ front) moves place least later h =
+    let r = least-after time front moves place least (λ k d below. later (suc k) d (omega arith)) h in
     let e : suc (length front) + place ≡ suc (length front + place) = omega arith in
-    rw e (behind_one time x (front ++ moves) (length front + place) least (later 0 x (omega arith)) r)
+    rw e (after_one time x (front ++ moves) (length front + place) least (later 0 x (omega arith)) r)
 
 -- the first of some moves of one time, where the moves after them are no sooner
 pub least-front : (time : Move → ℕ) (front moves : List Move) (least : ℕ) → 0 < length front → ((k : ℕ) (d : Move) → k < length front → time (get_or front k d) ≡ least) → ((k : ℕ) (d : Move) → k < length moves → least ≤ time (get_or moves k d)) →

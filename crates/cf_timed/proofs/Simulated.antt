@@ -11,12 +11,12 @@ use Rattle.cf_semantics.specs.state.State.{State}
 use Rattle.cf_index.specs.Order.{kind_place}
 use Rattle.cf_index.specs.Sites.{shares}
 use Rattle.cf_run.specs.Made.{Made, moves_of}
-use Rattle.cf_run.specs.Policies.{Chooser, Picks, behind_choice, choice}
+use Rattle.cf_run.specs.Policies.{Chooser, Picks, after_choice, choice}
 use Rattle.cf_timed.specs.Delays.{AreDelays, delay}
-use Rattle.cf_timed.specs.Times.{Done, done_behind, greatest_time, time_behind, times_behind}
+use Rattle.cf_timed.specs.Times.{Done, done_after, greatest_time, time_after, times_after}
 use Rattle.cf_timed.specs.Clocks.{capped}
-use Rattle.cf_timed.specs.Earliest.{behind_earliest, earliest}
-use Rattle.cf_timed.specs.Timings.{Pending, behind_pick, marked, pending_pick, told}
+use Rattle.cf_timed.specs.Earliest.{after_earliest, earliest}
+use Rattle.cf_timed.specs.Timings.{Pending, after_pick, marked, pending_pick, told}
 use Rattle.cf_timed.proofs.Following.{AreKept, Follows, finish_follows, follows_more}
 use Rattle.cf_timed.proofs.Greatest.{where_more, where_none}
 use Rattle.cf_timed.proofs.Leasts.{least-same}
@@ -50,8 +50,8 @@ kept_time test (done ∷ moves) =
     few true = omega arith
     few false = omega arith
 
-pub time_few : (plan : Plan) (delays : List ℕ) (moves : List Done) (mv : Move) → AreDelays delays → time_behind plan delays moves mv ≤ greatest_time moves + 1000
-unfolding time_behind
+pub time_few : (plan : Plan) (delays : List ℕ) (moves : List Done) (mv : Move) → AreDelays delays → time_after plan delays moves mv ≤ greatest_time moves + 1000
+unfolding time_after
 time_few plan delays moves mv h = let k = kept_time (λ done. shares plan mv done.move) moves in let d = delay_few delays mv h in omega (arith, k, d)
 
 -- the clock was told what the policy by times has picked, and n more moves are no later than the greatest number of 64 bits
@@ -60,25 +60,25 @@ pub record Ahead (n : ℕ) (plan : Plan) (delays : List ℕ) (p : Pending) (pick
   pub early : greatest_time picked + 1000 * n < 2 ^ 64
 
 -- the time of a move by the clock
-capped_is : (n : ℕ) (plan : Plan) (delays : List ℕ) (p : Pending) (picked : List Done) (mv : Move) → AreDelays delays → Ahead (suc n) plan delays p picked → AreKept plan mv → capped (told p) mv ≡ time_behind plan delays picked mv
+capped_is : (n : ℕ) (plan : Plan) (delays : List ℕ) (p : Pending) (picked : List Done) (mv : Move) → AreDelays delays → Ahead (suc n) plan delays p picked → AreKept plan mv → capped (told p) mv ≡ time_after plan delays picked mv
 capped_is n plan delays p picked mv few h kept =
     let f = finish_follows plan delays picked (told p) mv h.follows kept in
     let t = time_few plan delays picked mv few in
     let e = h.early in
     omega (arith, f, t, e)
 
-each_capped : (n : ℕ) (plan : Plan) (delays : List ℕ) (p : Pending) (picked : List Done) (moves : List Move) → AreDelays delays → Ahead (suc n) plan delays p picked → AllByRecursion (AreKept plan) moves → AllByRecursion (λ mv. capped (told p) mv ≡ time_behind plan delays picked mv) moves
+each_capped : (n : ℕ) (plan : Plan) (delays : List ℕ) (p : Pending) (picked : List Done) (moves : List Move) → AreDelays delays → Ahead (suc n) plan delays p picked → AllByRecursion (AreKept plan) moves → AllByRecursion (λ mv. capped (told p) mv ≡ time_after plan delays picked mv) moves
 each_capped n plan delays p picked [] few h kept = tt
 each_capped n plan delays p picked (mv ∷ moves) few h kept = (capped_is n plan delays p picked mv few h kept.0, each_capped n plan delays p picked moves few h kept.1)
 
 -- so both pick one move
 pub picks-same : (n : ℕ) (plan : Plan) (delays : List ℕ) (p : Pending) (picked : List Done) (moves : List Move) → AreDelays delays → Ahead (suc n) plan delays p picked → AllByRecursion (AreKept plan) moves → pending_pick p moves ≡ earliest plan delays picked moves
 unfolding pending_pick
-picks-same n plan delays p picked moves few h kept = least-same (capped (told p)) (time_behind plan delays picked) moves (each_capped n plan delays p picked moves few h kept)
+picks-same n plan delays p picked moves few h kept = least-same (capped (told p)) (time_after plan delays picked) moves (each_capped n plan delays p picked moves few h kept)
 
 -- and after that the clock is told of it
-pub ahead-more : (n : ℕ) (plan : Plan) (delays : List ℕ) (p : Pending) (picked : List Done) (moves : List Move) (mv : Move) → AreDelays delays → Ahead (suc n) plan delays p picked → AllByRecursion (AreKept plan) moves → slice_get moves (pending_pick p moves) ≡ Some mv → Ahead n plan delays (behind_pick p moves) (done_behind plan delays picked mv ∷ picked)
-unfolding told behind_pick marked
+pub ahead-more : (n : ℕ) (plan : Plan) (delays : List ℕ) (p : Pending) (picked : List Done) (moves : List Move) (mv : Move) → AreDelays delays → Ahead (suc n) plan delays p picked → AllByRecursion (AreKept plan) moves → slice_get moves (pending_pick p moves) ≡ Some mv → Ahead n plan delays (after_pick p moves) (done_after plan delays picked mv ∷ picked)
+unfolding told after_pick marked
 ahead-more n plan delays p picked moves mv few h kept e =
     let one = one_of_all (AreKept plan) moves (pending_pick p moves) mv kept e in
     let t = capped_is n plan delays p picked mv few h one in
@@ -86,22 +86,22 @@ ahead-more n plan delays p picked moves mv few h kept e =
     let y = h.early in
     record {
       follows = rw (e, t) (follows_more plan delays picked (told p) mv h.follows one);
-      early = let a = all_time (done_behind plan delays picked mv) picked in omega (arith, a, g, y);
+      early = let a = all_time (done_after plan delays picked mv) picked in omega (arith, a, g, y);
     }
 
 -- the policy by times after the move that it picks
-pub behind-earliest : (plan : Plan) (delays : List ℕ) (picked : List Done) (moves : List Move) (mv : Move) → slice_get moves (earliest plan delays picked moves) ≡ Some mv → behind_earliest plan delays picked moves ≡ done_behind plan delays picked mv ∷ picked
-behind-earliest plan delays picked moves mv e = rw e refl
+pub after-earliest : (plan : Plan) (delays : List ℕ) (picked : List Done) (moves : List Move) (mv : Move) → slice_get moves (earliest plan delays picked moves) ≡ Some mv → after_earliest plan delays picked moves ≡ done_after plan delays picked mv ∷ picked
+after-earliest plan delays picked moves mv e = rw e refl
 
 -- the picks of one are the picks of the other
 pub record Simulated (n : ℕ) (plan : Plan) (delays : List ℕ) (to : Chooser (List Done)) (s : State) (trace : List Made) (last : Chooser Pending) : Type 0 where
   pub later : Chooser (List Done)
-  pub picks : Picks (earliest plan delays) (behind_earliest plan delays) plan to s trace later
+  pub picks : Picks (earliest plan delays) (after_earliest plan delays) plan to s trace later
   pub count_is : last.count ≡ later.count
   pub ahead : Ahead n plan delays last.policy later.policy
-  pub times_are : later.policy ≡ times_behind plan delays to.policy (moves_of trace)
+  pub times_are : later.policy ≡ times_after plan delays to.policy (moves_of trace)
 
-pub simulated : (n : ℕ) (plan : Plan) (delays : List ℕ) (at : Chooser Pending) (to : Chooser (List Done)) (s : State) (trace : List Made) (last : Chooser Pending) → IsAccepted plan → AreDelays delays → at.count ≡ to.count → Ahead (length trace + n) plan delays at.policy to.policy → Picks pending_pick behind_pick plan at s trace last → Simulated n plan delays to s trace last
+pub simulated : (n : ℕ) (plan : Plan) (delays : List ℕ) (at : Chooser Pending) (to : Chooser (List Done)) (s : State) (trace : List Made) (last : Chooser Pending) → IsAccepted plan → AreDelays delays → at.count ≡ to.count → Ahead (length trace + n) plan delays at.policy to.policy → Picks pending_pick after_pick plan at s trace last → Simulated n plan delays to s trace last
 unfolding Picks
 simulated n plan delays at to s [] last acc few count ahead picks =
     subst (λ (c : Chooser Pending). Simulated n plan delays to s [] c) (sym picks) (record {
@@ -118,14 +118,14 @@ simulated n plan delays at to s (made ∷ trace) last acc few count ahead (pick,
     let chosen : choice (earliest plan delays) plan to s ≡ Some made.move =
     subst (λ (k : ℕ). slice_get (offered plan k s) (earliest plan delays to.policy (offered plan k s)) ≡ Some made.move) count (sym (ap (slice_get (offered plan at.count s)) same) ∙ pick) in
     let next = ahead-more (length trace + n) plan delays at.policy to.policy (offered plan at.count s) made.move few more kept pick in
-    let on_is : (behind_choice (behind_earliest plan delays) plan to s made).policy ≡ done_behind plan delays to.policy made.move ∷ to.policy = behind-earliest plan delays to.policy (offered plan to.count s) made.move chosen in
-    let there : Ahead (length trace + n) plan delays (behind_choice behind_pick plan at s made).policy (behind_choice (behind_earliest plan delays) plan to s made).policy =
-    subst (λ (q : List Done). Ahead (length trace + n) plan delays (behind_pick at.policy (offered plan at.count s)) q) (sym on_is) next in
-    let r = simulated n plan delays (behind_choice behind_pick plan at s made) (behind_choice (behind_earliest plan delays) plan to s made) made.state trace last acc few (ap (λ (k : ℕ). paced k made.move made.event (is_drained made.state)) count) there picks in
+    let on_is : (after_choice (after_earliest plan delays) plan to s made).policy ≡ done_after plan delays to.policy made.move ∷ to.policy = after-earliest plan delays to.policy (offered plan to.count s) made.move chosen in
+    let there : Ahead (length trace + n) plan delays (after_choice after_pick plan at s made).policy (after_choice (after_earliest plan delays) plan to s made).policy =
+    subst (λ (q : List Done). Ahead (length trace + n) plan delays (after_pick at.policy (offered plan at.count s)) q) (sym on_is) next in
+    let r = simulated n plan delays (after_choice after_pick plan at s made) (after_choice (after_earliest plan delays) plan to s made) made.state trace last acc few (ap (λ (k : ℕ). paced k made.move made.event (is_drained made.state)) count) there picks in
     record {
       later = r.later;
       picks = (chosen, r.picks);
       count_is = r.count_is;
       ahead = r.ahead;
-      times_are = r.times_are ∙ ap (λ (q : List Done). times_behind plan delays q (moves_of trace)) on_is;
+      times_are = r.times_are ∙ ap (λ (q : List Done). times_after plan delays q (moves_of trace)) on_is;
     }

@@ -21,7 +21,7 @@ use Rattle.cf_timed.specs.Earliest.{first_least}
 use Rattle.cf_timed.specs.Seeking.{Seeking, nothing, shown}
 use Rattle.cf_timed.specs.Soonest.{AreLater, IsIssueBy, IsSoonest, due_of}
 use Rattle.cf_timed.specs.declared.soonest.Due.{Due}
-use Rattle.cf_timed.proofs.Leasts.{least-behind, least-front, least-of_all}
+use Rattle.cf_timed.proofs.Leasts.{least-after, least-front, least-of_all}
 use Rattle.cf_timed.proofs.Sought.{found-bound, found-least}
 
 -- all that issue use the same places, and are of one kind
@@ -101,7 +101,7 @@ other_soonest c plan s held seek few e later = by (nat_lt seek.time (2 ^ 64 - 1)
         let r = found-least c others seek (omega (arith, few)) e below in
         let w = r.least.within in
         let parts = withheld_others plan s held (omega (arith, w)) in
-        let place = least-of_all (capped c) (issues ++ others) (length issues + seek.place) seek.time seek.move (least-behind (capped c) issues others seek.place seek.time later r.least) in
+        let place = least-of_all (capped c) (issues ++ others) (length issues + seek.place) seek.time seek.move (least-after (capped c) issues others seek.place seek.time later r.least) in
         let at = beyond issues others (length issues) (length issues + seek.place) seek.move refl (omega arith) (rw (past (length issues) seek.place) (sym r.move)) in
         record { mv = rw (parts, ← place) at; time = sym r.time }
       where

@@ -5,7 +5,7 @@ use Rattle.cf_bind.specs.declared.moves.Move.{Move}
 use Rattle.cf_semantics.specs.moves.Sites.{Site, Stage, SidingCell, Lane, Fetching, Memory, Code}
 use Rattle.cf_index.specs.Sites.{AreThere, used}
 use Rattle.cf_timed.specs.Delays.{delay}
-use Rattle.cf_timed.specs.Times.{Done, greatest, greatest_time, time_behind}
+use Rattle.cf_timed.specs.Times.{Done, greatest, greatest_time, time_after}
 
 -- the layout and the delays; the time of each stage by its number, and of each cell by those of its siding and of itself; that of the lane, of fetch, of the memory and of the code; and the greatest of all
 pub record SiteTimes : Type 0 where
@@ -103,4 +103,4 @@ pub record Tells (plan : Plan) (delays : List ℕ) (moves : List Done) (c : Site
   -- its greatest time is theirs
   pub latest_is : c.latest ≡ greatest_time moves
   -- a further move is done when their times say
-  pub finishes : (mv : Move) → AreThere plan mv → finish c mv ≡ time_behind plan delays moves mv
+  pub finishes : (mv : Move) → AreThere plan mv → finish c mv ≡ time_after plan delays moves mv

@@ -16,7 +16,7 @@ use Rattle.cf_run.specs.Reaching.{no_tally}
 use Rattle.cf_timed.specs.declared.answer.Timed.{Timed}
 use Rattle.cf_timed.specs.declared.answer.Timed.TheVariants.{Exit, Trap, Limit, ReadFault, WriteFault}
 use Rattle.cf_timed.specs.Clocks.{SiteTimes, Tells, started}
-use Rattle.cf_timed.specs.Earliest.{behind_earliest, earliest}
+use Rattle.cf_timed.specs.Earliest.{after_earliest, earliest}
 use Rattle.cf_timed.specs.Times.{Done, times}
 
 -- the answer of a timed run as that of any run
@@ -55,7 +55,7 @@ pub record RunsTimed (delays : List ℕ) (limit : ℕ) (begin : Place) (core : P
   pub tally : Tally
   pub counted : tally.moves ≡ moves
   pub picked : List Done
-  pub right : RunsRight (earliest begin.core.plan delays) (behind_earliest begin.core.plan delays) limit show.Report begin (place_of core streams None tally) [] picked (answer_of answer)
+  pub right : RunsRight (earliest begin.core.plan delays) (after_earliest begin.core.plan delays) limit show.Report begin (place_of core streams None tally) [] picked (answer_of answer)
   pub told : Tells begin.core.plan delays (times begin.core.plan delays right.moves) clock
   -- it ends as the sequential machine does under the same limit
   pub ends : EndsSequentially limit begin (place_of core streams None tally) (Ran (answer_of answer))

@@ -28,18 +28,18 @@ abbrev pub before : Plan → Move → List Done → List Done
 before plan mv earlier = filter (λ done. shares plan mv done.move) earlier
 
 -- the time of a move after earlier ones: the greatest time of those that use a place which it uses, and its delay
-unfoldable pub time_behind : Plan → List ℕ → List Done → Move → ℕ
-time_behind plan delays earlier mv = greatest_time (before plan mv earlier) + delay delays mv
+unfoldable pub time_after : Plan → List ℕ → List Done → Move → ℕ
+time_after plan delays earlier mv = greatest_time (before plan mv earlier) + delay delays mv
 
 -- the move after earlier ones, with its time
-abbrev pub done_behind : Plan → List ℕ → List Done → Move → Done
-done_behind plan delays earlier mv = done_at mv (time_behind plan delays earlier mv)
+abbrev pub done_after : Plan → List ℕ → List Done → Move → Done
+done_after plan delays earlier mv = done_at mv (time_after plan delays earlier mv)
 
 -- the moves of a run after earlier ones, each with its time; the last comes first
-abbrev pub times_behind : Plan → List ℕ → List Done → List Move → List Done
-times_behind plan delays earlier [] = earlier
-times_behind plan delays earlier (mv ∷ moves) = times_behind plan delays (done_behind plan delays earlier mv ∷ earlier) moves
+abbrev pub times_after : Plan → List ℕ → List Done → List Move → List Done
+times_after plan delays earlier [] = earlier
+times_after plan delays earlier (mv ∷ moves) = times_after plan delays (done_after plan delays earlier mv ∷ earlier) moves
 
 -- the moves of a run, each with its time; the last comes first
 unfoldable pub times : Plan → List ℕ → List Move → List Done
-times plan delays moves = times_behind plan delays [] moves
+times plan delays moves = times_after plan delays [] moves

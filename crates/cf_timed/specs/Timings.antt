@@ -25,12 +25,12 @@ unfoldable pub pending_pick : Pending → List Move → ℕ
 pending_pick p moves = first_least (capped (told p)) moves
 
 -- and what it is after that
-unfoldable pub behind_pick : Pending → List Move → Pending
-behind_pick p moves = record { clock = told p; last = slice_get moves (pending_pick p moves) }
+unfoldable pub after_pick : Pending → List Move → Pending
+after_pick p moves = record { clock = told p; last = slice_get moves (pending_pick p moves) }
 
 -- the clock after the moves that were made: a fault occurs at a move that was picked and not made
-unfoldable pub clock_behind : Pending → Answer → SiteTimes
-clock_behind p ran.ReadFault = p.clock
-clock_behind p ran.WriteFault = p.clock
-clock_behind p ran.ReportFault = p.clock
-clock_behind p answer = told p
+unfoldable pub clock_after : Pending → Answer → SiteTimes
+clock_after p ran.ReadFault = p.clock
+clock_after p ran.WriteFault = p.clock
+clock_after p ran.ReportFault = p.clock
+clock_after p answer = told p

@@ -29,7 +29,7 @@ impl<'a> Model for Least<'a> {
 }
 
 impl<'a> Visitor for Least<'a> {
-    ghost behind = { shown };
+    ghost after = { shown };
 
     #[inline(always)]
     fn visit(&mut self, mv: Move) {

@@ -19,5 +19,5 @@ pub use clock::Clock;
 pub use delays::{Delays, kind_place};
 pub use reaching::port;
 pub use reading::{MOST_DELAYS, read_delays};
-pub use run::{clock_behind, run_timed, run_unreported, timed};
+pub use run::{clock_after, run_timed, run_unreported, timed};
 pub use timing::Timing;

@@ -69,13 +69,13 @@ pub fn read_delays(text: &[u8]) -> Result<Delays, DelayErr>
     let mut rest = text;
     let mut above = 0;
     while !rest.is_empty() {
-        let (line, behind) = cut_line(rest);
+        let (line, after) = cut_line(rest);
         let number = above + 1;
         if !is_skipped(line) {
             read_line(&mut named, line).map_err(|kind| DelayErr { line: number, kind })?;
         }
         above = number;
-        rest = behind;
+        rest = after;
     }
     Ok(Delays::filled(&named))
 }

@@ -7,7 +7,7 @@ ghost use Rattle.cf_run.specs.declared.answer.Ran.TheVariants as answers;
 ghost use Rattle.cf_run.specs.Policies.{CanRun, most_moves};
 ghost use Rattle.cf_timed.specs.Delays.{AreDelays};
 ghost use Rattle.cf_timed.specs.TimedRuns.{CanBegin, HasCauses, RunsTimed, RunsUnreported, answer_of, begins};
-ghost use Rattle.cf_timed.specs.Timings.{clock_behind};
+ghost use Rattle.cf_timed.specs.Timings.{clock_after};
 
 use crate::answer::Timed;
 use crate::clock::Clock;
@@ -87,14 +87,14 @@ pub fn run_timed<S: Source, K: Sink>(
     clock.known();
     let mut timing = Timing::new(*clock);
     let ran = run_unreported(core, candidates, &mut timing, limit, input, output, moves);
-    *clock = clock_behind(&timing, ran);
+    *clock = clock_after(&timing, ran);
     timed(ran)
 }
 
 /// The clock after the moves that were made: a fault occurs at a move that was picked and not made.
-#[tactic(auto, unfolding(crate::specs::Timings::clock_behind))]
-pub fn clock_behind(timing: &Timing, ran: Ran) -> Clock
-    ensures { result ≡ clock_behind timing.now ran }
+#[tactic(auto, unfolding(crate::specs::Timings::clock_after))]
+pub fn clock_after(timing: &Timing, ran: Ran) -> Clock
+    ensures { result ≡ clock_after timing.now ran }
 {
     match ran {
         Ran::ReadFault | Ran::WriteFault | Ran::ReportFault => timing.clock(),

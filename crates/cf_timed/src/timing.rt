@@ -5,7 +5,7 @@ ghost use Rattle.cf_sched.specs.Paces.{offers};
 ghost use Rattle.cf_timed.specs.Clocks.{capped};
 ghost use Rattle.cf_timed.specs.Earliest.{first_least};
 ghost use Rattle.cf_timed.specs.Soonest.{IsSoonest};
-ghost use Rattle.cf_timed.specs.Timings.{behind_pick, pending_pick, told};
+ghost use Rattle.cf_timed.specs.Timings.{after_pick, pending_pick, told};
 
 use crate::clock::Clock;
 use crate::least::Least;
@@ -151,12 +151,12 @@ impl Timing {
 
     /// Tells the clock of the last pick, and picks one of the candidates, by its place.
     #[inline(always)]
-    #[tactic(auto, unfolding(crate::specs::Timings::pending_pick, crate::specs::Timings::behind_pick))]
+    #[tactic(auto, unfolding(crate::specs::Timings::pending_pick, crate::specs::Timings::after_pick))]
     fn place_of_pick(&mut self, candidates: &Candidates) -> usize
         requires { 0 < length candidates.now }
         ensures place { result ≡ pending_pick self.old candidates.now }
         ensures within { result < length candidates.now }
-        ensures onward { self.new ≡ behind_pick self.old candidates.now }
+        ensures onward { self.new ≡ after_pick self.old candidates.now }
     {
         self.tell();
         let (place, mv) = self.clock.first_least(candidates);
@@ -167,12 +167,12 @@ impl Timing {
 
     /// Tells the clock of the last pick, and picks one of the moves that are offered.
     #[inline(always)]
-    #[tactic(auto, unfolding(crate::specs::Timings::pending_pick, crate::specs::Timings::behind_pick))]
+    #[tactic(auto, unfolding(crate::specs::Timings::pending_pick, crate::specs::Timings::after_pick))]
     fn earliest(&mut self, core: &Core, candidates: &mut Candidates, pace: &Pace) -> Move
         requires { 0 < length (offers pace.now core.now.plan core.now.state) }
         ensures choice { Some result ≡ slice_get (offers pace.now core.now.plan core.now.state)
             (pending_pick self.old (offers pace.now core.now.plan core.now.state)) }
-        ensures onward { self.new ≡ behind_pick self.old (offers pace.now core.now.plan core.now.state) }
+        ensures onward { self.new ≡ after_pick self.old (offers pace.now core.now.plan core.now.state) }
     {
         self.tell();
         let due = self.clock.earliest(core, candidates, pace);
@@ -184,7 +184,7 @@ impl Timing {
 impl Policy for Timing {
     ghost picked = { pending_pick };
 
-    ghost onward = { behind_pick };
+    ghost onward = { after_pick };
 
     #[inline(always)]
     fn pick(&mut self, candidates: &Candidates) -> usize {

@@ -41,9 +41,9 @@ unfolding LeadsTo
 paid plan start m last [] written later acc (same, none) h =
     let e : weight plan last.state ≡ weight plan m.state = ap (λ (t : Moment). weight plan t.state) same in
     omega (arith, e)
-paid plan start m last (mv ∷ moves) written later acc (rest, behind, free, leads, is) h =
+paid plan start m last (mv ∷ moves) written later acc (rest, after, free, leads, is) h =
     let a = costs_anew plan start m mv rest written acc free h in
-    let b = paid plan start (next plan (finding rest m) mv) last moves (written ++ retires plan m.state mv) behind acc leads (anew_kept plan start m mv rest written acc free h) in
+    let b = paid plan start (next plan (finding rest m) mv) last moves (written ++ retires plan m.state mv) after acc leads (anew_kept plan start m mv rest written acc free h) in
     let c : moves_per_issue plan * (counts (is_issue mv) 1 + issues moves) ≡ moves_per_issue plan * counts (is_issue mv) 1 + moves_per_issue plan * issues moves = grind arith in
     omega (arith, a, b, c)
 

@@ -191,11 +191,11 @@ paced_run plan start m last count done [] written later acc (is, none) h p =
   where
     zero_more : (n : ℕ) → n ≡ n + 0
     zero_more n = omega arith
-paced_run plan start m last count done (mv ∷ moves) written later acc (rest, behind, e, free, hold, event, paces, is) h p =
+paced_run plan start m last count done (mv ∷ moves) written later acc (rest, after, e, free, hold, event, paces, is) h p =
     let t : Moment = next plan (finding rest m) mv in
     let q = step plan start m mv rest e count done written acc free hold event h p in
     let k = anew_kept plan start m mv rest written acc free h in
-    let z = paced_run plan start t last (paced count mv e (is_drained t.state)) (done + counts (is_issue mv) 1) moves (written ++ retires plan m.state mv) behind acc paces k q in
+    let z = paced_run plan start t last (paced count mv e (is_drained t.state)) (done + counts (is_issue mv) 1) moves (written ++ retires plan m.state mv) after acc paces k q in
     (z.0, subst (λ (n : ℕ). Pacing plan start last z.0 n) (sums done (counts (is_issue mv) 1) (issues moves)) z.1)
   where
     sums : (a b c : ℕ) → (a + b) + c ≡ a + (b + c)

@@ -160,9 +160,9 @@ unfolding LeadsTo
 anew_after plan start m last [] written later acc (same, none) h =
     subst (λ (l : List Line). HoldsAnew plan start (written ++ l) last) (sym none)
     (subst (λ (l : List Line). HoldsAnew plan start l last) (sym (append-nil written)) (subst (HoldsAnew plan start written) (sym same) h))
-anew_after plan start m last (mv ∷ moves) written later acc (rest, behind, free, leads, is) h =
-    subst (λ (l : List Line). HoldsAnew plan start l last) (append_assoc written (retires plan m.state mv) behind ∙ ap (λ (l : List Line). written ++ l) (sym is))
-    (anew_after plan start (next plan (finding rest m) mv) last moves (written ++ retires plan m.state mv) behind acc leads (anew_kept plan start m mv rest written acc free h))
+anew_after plan start m last (mv ∷ moves) written later acc (rest, following, free, leads, is) h =
+    subst (λ (l : List Line). HoldsAnew plan start l last) (append_assoc written (retires plan m.state mv) following ∙ ap (λ (l : List Line). written ++ l) (sym is))
+    (anew_after plan start (next plan (finding rest m) mv) last moves (written ++ retires plan m.state mv) following acc leads (anew_kept plan start m mv rest written acc free h))
 
 -- the invariant holds after every run
 pub holds_anew : (plan : Plan) (x : Machine) (moves : List Move) (m : Moment) (written : List Line) → IsAccepted plan → length x.hart.regs ≡ 32 → LeadsTo plan (start plan x) moves m written → HoldsAnew plan x written m

@@ -82,11 +82,11 @@ whole words command same =
     (omega arith) in
     sym c ∙ (same ∙ w)
 
-bad-behind : (words : List (List ℕ)) (state : State) → reads start words ≡ Some state →
+bad-after : (words : List (List ℕ)) (state : State) → reads start words ≡ Some state →
     completed words state ≡ None →
     (command : List (List ℕ)) (asked : Asked) → Asks command asked →
     take (length words + 1) command ≡ take (length words + 1) words → ⊥
-bad-behind words state h none command asked asks same =
+bad-after words state h none command asked asks same =
     let r = asks-read command asked asks in
     let c : reads start words ≡ Some r.last =
     ap (λ (ws : List (List ℕ)). reads start ws) (sym (whole words command same)) ∙ r.read in
@@ -105,7 +105,7 @@ bad-end words index state at-end h none =
     record {
       within = omega arith;
       begun = begun-at words index state (omega arith) h;
-      no_further = λ command asked asks same. bad-behind words state h1 none command asked asks
+      no_further = λ command asked asks same. bad-after words state h1 none command asked asks
           (subst (λ (n : ℕ). take (n + 1) command ≡ take (n + 1) words) at-end same);
     }
 

@@ -34,10 +34,10 @@ reads-more : (words more : List (List ℕ)) (state : State) → reads start word
 reads-more words more state h =
     reads-append start words more ∙ ap (λ (o : Option State). after o (λ s. reads s more)) h
 
-reads-word : (words : List (List ℕ)) (word : List ℕ) (state behind : State) → reads start words ≡ Some state →
-    follow state word ≡ Some behind → reads start (words ++ word ∷ []) ≡ Some behind
-reads-word words word state behind h followed =
-    reads-more words (word ∷ []) state h ∙ reads-step state word [] behind followed
+reads-word : (words : List (List ℕ)) (word : List ℕ) (state later : State) → reads start words ≡ Some state →
+    follow state word ≡ Some later → reads start (words ++ word ∷ []) ≡ Some later
+reads-word words word state later h followed =
+    reads-more words (word ∷ []) state h ∙ reads-step state word [] later followed
 
 complete-word : (words : List (List ℕ)) (word : List ℕ) → Completion (words ++ word ∷ []) → Completion words
 complete-word words word c =

@@ -105,7 +105,7 @@ placing : (words : List (List ℕ)) (subject : Subject) (last : State) → subje
 placing [] subject last few h whole = placing-none subject last few h
 placing (word ∷ words) subject last few h whole =
     let s = reads-split (placed subject) word words last h in
-    elim (placed-read subject word s.behind s.followed) [
+    elim (placed-read subject word s.later s.followed) [
       | inl (place, is) ↦
           let t = place-tests subject word place in
           placing-word subject word words last t.1
@@ -114,7 +114,7 @@ placing (word ∷ words) subject last few h whole =
       | inr (enough, followed) ↦
           placing-options subject (word ∷ words) last few
           (tail-read (word ∷ words) subject nothing_given last
-          (reads-step (options subject nothing_given) word words s.behind followed ∙ s.rest) whole)
+          (reads-step (options subject nothing_given) word words s.later followed ∙ s.rest) whole)
     ]
 
 -- where something is asked no value is missing
@@ -164,10 +164,10 @@ asked-enough names.HelpOption words given asked h = omega arith
 asked-enough names.Version words given asked h = omega arith
 
 -- the positional words of a command are those after its first word
-positional-are : (first : List ℕ) (more behind : List (List ℕ)) →
-    positional_in (length more) (first ∷ (more ++ behind)) ≡ more
-positional-are first more behind =
-    take-append-le (length more) more behind (omega arith) ∙ take-length more
+positional-are : (first : List ℕ) (more later : List (List ℕ)) →
+    positional_in (length more) (first ∷ (more ++ later)) ≡ more
+positional-are first more later =
+    take-append-le (length more) more later (omega arith) ∙ take-length more
 
 placing-asks : (name : Name) (words : List (List ℕ)) (last : State) (asked : Asked) →
     completed (word_of name ∷ words) last ≡ Some asked → Placing (bare name) words last →
@@ -204,9 +204,9 @@ reads-sound [] last asked h done =
     absurd (subst IsWhole (sym (none-left start last h)) (asked-whole [] last asked done))
 reads-sound (word ∷ words) last asked h done =
     let s = reads-split start word words last h in
-    let r = start-read word s.behind s.followed in
+    let r = start-read word s.later s.followed in
     let h1 : reads (placed (bare r.name)) words ≡ Some last =
-    subst (λ b. reads b words ≡ Some last) r.behind_is s.rest in
+    subst (λ b. reads b words ≡ Some last) r.after_is s.rest in
     let whole = asked-whole (word ∷ words) last asked done in
     let d : completed (word_of r.name ∷ words) last ≡ Some asked =
     subst (λ (w : List ℕ). completed (w ∷ words) last ≡ Some asked) r.word_is done in
@@ -252,9 +252,9 @@ pub positional-read : (words : List (List ℕ)) (last : State) (subject : Subjec
 positional-read [] last subject h whole of = absurd (subst IsWhole (sym (none-left start last h)) whole)
 positional-read (word ∷ words) last subject h whole of =
     let s = reads-split start word words last h in
-    let r = start-read word s.behind s.followed in
+    let r = start-read word s.later s.followed in
     let h1 : reads (placed (bare r.name)) words ≡ Some last =
-    subst (λ b. reads b words ≡ Some last) r.behind_is s.rest in
+    subst (λ b. reads b words ≡ Some last) r.after_is s.rest in
     subst (λ (w : List ℕ). HasPositional (w ∷ words) subject) (sym r.word_is)
     (placing-positional r.name words last subject of (placing words (bare r.name) last (omega arith) h1 whole))
 
@@ -280,17 +280,17 @@ pub record Read (words : List (List ℕ)) (asked : Asked) : Type 0 where
   pub done : completed words last ≡ Some asked
 
 -- options after enough positional words
-behind-places : (subject : Subject) (settings : List Setting) (all : List (List ℕ)) (asked : Asked) →
+after-places : (subject : Subject) (settings : List Setting) (all : List (List ℕ)) (asked : Asked) →
     fewest subject.name ≤ subject.count → list_all (takes subject.name) settings ≡ true →
     Fresh nothing_given settings →
     asked_by subject.name (positional_in subject.count all) (put_all nothing_given settings) ≡ Some asked →
     (last : State) × (reads (placed subject) (written settings) ≡ Some last) × (completed all last ≡ Some asked)
 unfolding completed
-behind-places subject [] all asked enough taken fresh means = (placed subject, refl, means)
-behind-places subject (setting ∷ settings) all asked enough taken fresh means =
+after-places subject [] all asked enough taken fresh means = (placed subject, refl, means)
+after-places subject (setting ∷ settings) all asked enough taken fresh means =
     let rest : List (List ℕ) = value_words setting ++ written settings in (
       options subject (put_all nothing_given (setting ∷ settings)),
-      ap (λ (o : Option State). after o (λ behind. reads behind rest))
+      ap (λ (o : Option State). after o (λ later. reads later rest))
           (first-option subject (key_of setting) enough)
           ∙ settings-read (setting ∷ settings) subject nothing_given taken fresh,
       means,
@@ -310,7 +310,7 @@ asks-read words asked asks =
     (positional-are (word_of asks.name) asks.positional (written asks.settings))
     ∙ (ap (λ (g : Given). asked_by asks.name asks.positional g) (put-given asks.settings fresh)
     ∙ asks.means)) in
-    let b = behind-places (grown (bare asks.name) count) asks.settings all asked (omega (arith, c.enough)) c.taken fresh means in
+    let b = after-places (grown (bare asks.name) count) asks.settings all asked (omega (arith, c.enough)) c.taken fresh means in
     record {
       last = b.0;
       read = ap (λ (ws : List (List ℕ)). reads start ws) c.words_are

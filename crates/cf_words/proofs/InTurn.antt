@@ -9,26 +9,26 @@ after (Some x) f = f x
 
 abbrev pub reads : State → List (List ℕ) → Option State
 reads state [] = Some state
-reads state (word ∷ words) = after (follow state word) (λ behind. reads behind words)
+reads state (word ∷ words) = after (follow state word) (λ later. reads later words)
 
 pub record Split (state : State) (word : List ℕ) (words : List (List ℕ)) (last : State) : Type 0 where
-  pub behind : State
-  pub followed : follow state word ≡ Some behind
-  pub rest : reads behind words ≡ Some last
+  pub later : State
+  pub followed : follow state word ≡ Some later
+  pub rest : reads later words ≡ Some last
 
 split-at : (found : Option State) (state : State) (word : List ℕ) (words : List (List ℕ)) (last : State) →
-    follow state word ≡ found → after found (λ behind. reads behind words) ≡ Some last →
+    follow state word ≡ found → after found (λ later. reads later words) ≡ Some last →
     Split state word words last
 split-at None state word words last e h = absurd (cc)
-split-at (Some behind) state word words last e h = record { behind = behind; followed = e; rest = h }
+split-at (Some later) state word words last e h = record { later = later; followed = e; rest = h }
 
 pub reads-split : (state : State) (word : List ℕ) (words : List (List ℕ)) (last : State) →
     reads state (word ∷ words) ≡ Some last → Split state word words last
 reads-split state word words last h = split-at (follow state word) state word words last refl h
 
-pub reads-step : (state : State) (word : List ℕ) (words : List (List ℕ)) (behind : State) →
-    follow state word ≡ Some behind → reads state (word ∷ words) ≡ reads behind words
-reads-step state word words behind h = ap (λ (o : Option State). after o (λ behind. reads behind words)) h
+pub reads-step : (state : State) (word : List ℕ) (words : List (List ℕ)) (later : State) →
+    follow state word ≡ Some later → reads state (word ∷ words) ≡ reads later words
+reads-step state word words later h = ap (λ (o : Option State). after o (λ later. reads later words)) h
 
 pub none-left : (state last : State) → reads state [] ≡ Some last → state ≡ last
 none-left state last h = cc

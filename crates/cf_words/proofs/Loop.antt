@@ -33,16 +33,16 @@ stops bytes items index count item state word inside at counted h word-is none =
 
 -- a word that has a place
 pub goes-on : {X : Type 0} → (bytes : X →
-    List ℕ) (items : List X) (index count : ℕ) (item : X) (state behind : State)
+    List ℕ) (items : List X) (index count : ℕ) (item : X) (state later : State)
     (word : List ℕ) → index < length items → item ≡ get_or items index item → count ≡ index →
     reads start (take count (map bytes items)) ≡ Some state → word ≡ bytes item →
-    Some behind ≡ follow state word →
-    reads start (take (count + 1) (map bytes items)) ≡ Some behind
-goes-on bytes items index count item state behind word inside at counted h word-is some =
+    Some later ≡ follow state word →
+    reads start (take (count + 1) (map bytes items)) ≡ Some later
+goes-on bytes items index count item state later word inside at counted h word-is some =
     let w : get_or (map bytes items) count [] ≡ word =
     ap (λ (n : ℕ). get_or (map bytes items) n []) counted
     ∙ (word-at bytes items index item inside at ∙ sym word-is) in
-    let f : follow state (get_or (map bytes items) count []) ≡ Some behind =
+    let f : follow state (get_or (map bytes items) count []) ≡ Some later =
     ap (λ (v : List ℕ). follow state v) w ∙ sym some in
     ap (λ (ws : List (List ℕ)). reads start ws)
     (take_more (map bytes items) count [] (omega (arith, length-map items bytes)))

@@ -8,7 +8,7 @@ use Rattle.cf_words.specs.declared.options.Key.TheVariants as keys
 use Rattle.cf_words.specs.declared.reading.Subject.{Subject}
 use Rattle.cf_words.specs.Commands.{fewest, most}
 use Rattle.cf_words.specs.Options.{key_of, takes_key, Setting, limit_to, show_lines, show_sites, script_from, seed_from, with_mul, with_run, Given}
-use Rattle.cf_words.specs.Reading.{State, start, placed, options, valued, follow, behind_key, has_key, is_there, nothing_given}
+use Rattle.cf_words.specs.Reading.{State, start, placed, options, valued, follow, after_key, has_key, is_there, nothing_given}
 use Rattle.cf_words.proofs.Steps.{put, start-read, place-tests, placed-read, option-read, value-read}
 use Rattle.cf_words.proofs.InTurn.{reads, reads-split, none-left}
 
@@ -35,7 +35,7 @@ Reached (valued subject given key) =
 
 reached-key : (key : Key) (subject : Subject) (given : Given) → HasPlaces subject →
     takes_key subject.name key ≡ true → has_key given key ≡ false →
-    Reached (behind_key subject given key)
+    Reached (after_key subject given key)
 reached-key keys.Limit subject given places taken fresh = (places, taken, refl, fresh)
 reached-key keys.Show subject given places taken fresh = (places, taken, refl, fresh)
 reached-key keys.Script subject given places taken fresh = (places, taken, refl, fresh)
@@ -43,34 +43,34 @@ reached-key keys.Seed subject given places taken fresh = (places, taken, refl, f
 reached-key keys.Mul subject given places taken fresh = places
 reached-key keys.Run subject given places taken fresh = places
 
-reached-option : (subject : Subject) (given : Given) (word : List ℕ) (behind : State) → HasPlaces subject →
-    follow (options subject given) word ≡ Some behind → Reached behind
-reached-option subject given word behind places h =
-    let r = option-read subject given word behind h in
-    subst Reached (sym r.behind_is) (reached-key r.key subject given places r.taken r.fresh)
+reached-option : (subject : Subject) (given : Given) (word : List ℕ) (later : State) → HasPlaces subject →
+    follow (options subject given) word ≡ Some later → Reached later
+reached-option subject given word later places h =
+    let r = option-read subject given word later h in
+    subst Reached (sym r.after_is) (reached-key r.key subject given places r.taken r.fresh)
 
-reached-next : (state : State) (word : List ℕ) (behind : State) → Reached state →
-    follow state word ≡ Some behind → Reached behind
-reached-next start word behind reached h =
-    let r = start-read word behind h in subst Reached (sym r.behind_is) (omega arith)
-reached-next (placed subject) word behind reached h = elim (placed-read subject word behind h) [
+reached-next : (state : State) (word : List ℕ) (later : State) → Reached state →
+    follow state word ≡ Some later → Reached later
+reached-next start word later reached h =
+    let r = start-read word later h in subst Reached (sym r.after_is) (omega arith)
+reached-next (placed subject) word later reached h = elim (placed-read subject word later h) [
   | inl (place, is) ↦
       let t = place-tests subject word place in subst Reached (sym is) (omega (arith, t.0))
   | inr (enough, followed) ↦
       let n : fewest subject.name ≤ subject.count = grind (arith, nat_tests, enough) in
-      reached-option subject nothing_given word behind (record { enough = n; few = reached }) followed
+      reached-option subject nothing_given word later (record { enough = n; few = reached }) followed
 ]
-reached-next (options subject given) word behind reached h =
-    reached-option subject given word behind reached h
-reached-next (valued subject given key) word behind reached h =
-    let r = value-read key subject given word behind h in subst Reached (sym r.behind_is) reached.0
+reached-next (options subject given) word later reached h =
+    reached-option subject given word later reached h
+reached-next (valued subject given key) word later reached h =
+    let r = value-read key subject given word later h in subst Reached (sym r.after_is) reached.0
 
 pub reached-last : (words : List (List ℕ)) (state last : State) → Reached state →
     reads state words ≡ Some last → Reached last
 reached-last [] state last reached h = subst Reached (none-left state last h) reached
 reached-last (word ∷ words) state last reached h =
     let s = reads-split state word words last h in
-    reached-last words s.behind last (reached-next state word s.behind reached s.followed) s.rest
+    reached-last words s.later last (reached-next state word s.later reached s.followed) s.rest
 
 -- how many words were read
 abbrev size_of : {A : Type 0} → Option A → ℕ
@@ -105,7 +105,7 @@ neither true b h = absurd (cc)
 neither false b h = (refl, h)
 
 size-key : (key : Key) (subject : Subject) (given : Given) → has_key given key ≡ false →
-    size (behind_key subject given key) ≡ size (options subject given) + 1
+    size (after_key subject given key) ≡ size (options subject given) + 1
 size-key keys.Limit subject given fresh = omega arith
 size-key keys.Show subject given fresh = omega arith
 size-key keys.Script subject given fresh = omega arith
@@ -126,37 +126,37 @@ size-value (seed_from digits) subject given value fresh = omega (arith, not-ther
 size-value with_mul subject given value fresh = absurd (cc)
 size-value with_run subject given value fresh = absurd (cc)
 
-size-option : (subject : Subject) (given : Given) (word : List ℕ) (behind : State) →
-    follow (options subject given) word ≡ Some behind →
-    size behind ≡ size (options subject given) + 1
-size-option subject given word behind h =
-    let r = option-read subject given word behind h in
-    ap size r.behind_is ∙ size-key r.key subject given r.fresh
+size-option : (subject : Subject) (given : Given) (word : List ℕ) (later : State) →
+    follow (options subject given) word ≡ Some later →
+    size later ≡ size (options subject given) + 1
+size-option subject given word later h =
+    let r = option-read subject given word later h in
+    ap size r.after_is ∙ size-key r.key subject given r.fresh
 
-size-next : (state : State) (word : List ℕ) (behind : State) → Reached state →
-    follow state word ≡ Some behind → size behind ≡ size state + 1
-size-next start word behind reached h = let r = start-read word behind h in ap size r.behind_is
-size-next (placed subject) word behind reached h = elim (placed-read subject word behind h) [
+size-next : (state : State) (word : List ℕ) (later : State) → Reached state →
+    follow state word ≡ Some later → size later ≡ size state + 1
+size-next start word later reached h = let r = start-read word later h in ap size r.after_is
+size-next (placed subject) word later reached h = elim (placed-read subject word later h) [
   | inl (place, is) ↦ let e = ap size is in omega (arith, e)
-  | inr (enough, followed) ↦ let e = size-option subject nothing_given word behind followed in omega (arith, e)
+  | inr (enough, followed) ↦ let e = size-option subject nothing_given word later followed in omega (arith, e)
 ]
-size-next (options subject given) word behind reached h = size-option subject given word behind h
-size-next (valued subject given key) word behind reached h =
-    let r = value-read key subject given word behind h in
+size-next (options subject given) word later reached h = size-option subject given word later h
+size-next (valued subject given key) word later reached h =
+    let r = value-read key subject given word later h in
     let v : has_value (key_of r.setting) ≡ true = subst (λ k. has_value k ≡ true) (sym r.key_is)
     reached.2 in
     let f : has_key given (key_of r.setting) ≡ false = subst (λ k. has_key given k ≡ false)
     (sym r.key_is) reached.3 in
-    ap size r.behind_is ∙ size-value r.setting subject given v f
+    ap size r.after_is ∙ size-value r.setting subject given v f
 
 size-last : (words : List (List ℕ)) (state last : State) → Reached state → reads state words ≡ Some last →
     size last ≡ size state + length words
 size-last [] state last reached h = let s = ap size (none-left state last h) in omega (arith, s)
 size-last (word ∷ words) state last reached h =
     let s = reads-split state word words last h in
-    let a : size s.behind ≡ size state + 1 = size-next state word s.behind reached s.followed in
-    let b : size last ≡ size s.behind + length words =
-    size-last words s.behind last (reached-next state word s.behind reached s.followed) s.rest in
+    let a : size s.later ≡ size state + 1 = size-next state word s.later reached s.followed in
+    let b : size last ≡ size s.later + length words =
+    size-last words s.later last (reached-next state word s.later reached s.followed) s.rest in
     omega arith
 
 -- the words that were read are as many as its state says

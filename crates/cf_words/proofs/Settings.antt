@@ -6,7 +6,7 @@ use Rattle.cf_words.specs.declared.options.Key.{Key}
 use Rattle.cf_words.specs.declared.options.Key.TheVariants as keys
 use Rattle.cf_words.specs.declared.reading.Subject.{Subject}
 use Rattle.cf_words.specs.Options.{key_word, show_word, key_of, value_words, written, takes_key, is_value, takes, Matter, limits, showing, schedules, multiplies, running, matter_of, Without, NoneTwice, Setting, limit_to, show_lines, show_sites, script_from, seed_from, with_mul, with_run, Given, given_in}
-use Rattle.cf_words.specs.Reading.{State, start, placed, options, valued, behind_key, has_key, is_settled, is_there, nothing_given}
+use Rattle.cf_words.specs.Reading.{State, start, placed, options, valued, after_key, has_key, is_settled, is_there, nothing_given}
 use Rattle.cf_words.proofs.InTurn.{reads, reads-split, reads-step, none-left}
 use Rattle.cf_words.proofs.Steps.{put, option-read, value-read, option-follows, limit-follows, lines-follow, sites-follow, script-follows, seed-follows}
 
@@ -267,9 +267,9 @@ tail-valued key subject given [] last taken fresh h whole later =
     absurd (subst IsWhole (sym (none-left (valued subject given key) last h)) whole)
 tail-valued key subject given (value ∷ words) last taken fresh h whole later =
     let s = reads-split (valued subject given key) value words last h in
-    let v = value-read key subject given value s.behind s.followed in
+    let v = value-read key subject given value s.later s.followed in
     let r : reads (options subject (put given v.setting)) words ≡ Some last =
-    subst (λ b. reads b words ≡ Some last) v.behind_is s.rest in
+    subst (λ b. reads b words ≡ Some last) v.after_is s.rest in
     let t : Tail subject (put given v.setting) words last = later value words refl
     (put given v.setting) r in
     let a : takes_key subject.name (key_of v.setting) ≡ true =
@@ -284,7 +284,7 @@ tail-valued key subject given (value ∷ words) last taken fresh h whole later =
 
 tail-keyed : (key : Key) (subject : Subject) (given : Given) (words : List (List ℕ)) (last : State) →
     takes_key subject.name key ≡ true → has_key given key ≡ false →
-    reads (behind_key subject given key) words ≡ Some last → IsWhole last →
+    reads (after_key subject given key) words ≡ Some last → IsWhole last →
     ((more : Given) → reads (options subject more) words ≡ Some last → Tail subject more words last) →
     ((value : List ℕ) (later : List (List ℕ)) → words ≡ value ∷ later → (more : Given) →
     reads (options subject more) later ≡ Some last → Tail subject more later last) →
@@ -310,9 +310,9 @@ tail-word : (subject : Subject) (given : Given) (word : List ℕ) (words : List 
     Tail subject given (word ∷ words) last
 tail-word subject given word words last h whole next later =
     let s = reads-split (options subject given) word words last h in
-    let k = option-read subject given word s.behind s.followed in
-    let r : reads (behind_key subject given k.key) words ≡ Some last =
-    subst (λ b. reads b words ≡ Some last) k.behind_is s.rest in
+    let k = option-read subject given word s.later s.followed in
+    let r : reads (after_key subject given k.key) words ≡ Some last =
+    subst (λ b. reads b words ≡ Some last) k.after_is s.rest in
     let t : Tail subject given (key_word k.key ∷ words) last =
     tail-keyed k.key subject given words last k.taken k.fresh r whole next later in
     subst (λ (w : List ℕ). Tail subject given (w ∷ words) last) (sym k.word_is) t

@@ -12,7 +12,7 @@ use Rattle.cf_words.specs.declared.reading.Subject.{Subject}
 use Rattle.cf_words.specs.Values.{is_file_name, is_number, count_in}
 use Rattle.cf_words.specs.Commands.{word_of, fewest, most, counts, is_positional}
 use Rattle.cf_words.specs.Options.{key_word, show_word, key_of, value_words, takes_key, has_lines, has_sites, is_value, most_seed, Setting, limit_to, show_lines, show_sites, script_from, seed_from, with_mul, with_run, by_script, by_seed, Given}
-use Rattle.cf_words.specs.Reading.{State, start, placed, options, valued, bare, one_more, follow, when, behind_name, behind_key, behind_option, behind_value, has_place, has_key, is_text, with_value, with_limit, with_seed, with_lines, name_in, key_in, lines_in, number_in, nothing_given}
+use Rattle.cf_words.specs.Reading.{State, start, placed, options, valued, bare, one_more, follow, when, after_name, after_key, after_option, after_value, has_place, has_key, is_text, with_value, with_limit, with_seed, with_lines, name_in, key_in, lines_in, number_in, nothing_given}
 use Rattle.cf_words.proofs.Texts.{is-text, name-read, name-written, key-read, key-written, lines-read, lines-written, lines-no-sites}
 
 -- what is given with one more option
@@ -44,20 +44,20 @@ true-both true false g h = refl
 true-both false b g h = absurd (cc)
 
 -- the command's word
-pub record NameRead (word : List ℕ) (behind : State) : Type 0 where
+pub record NameRead (word : List ℕ) (later : State) : Type 0 where
   pub name : Name
   pub word_is : word ≡ word_of name
-  pub behind_is : behind ≡ placed (bare name)
+  pub after_is : later ≡ placed (bare name)
 
-name-found : (found : Option Name) (word : List ℕ) (behind : State) → name_in word ≡ found →
-    behind_name found ≡ Some behind → NameRead word behind
-name-found None word behind e h = absurd (cc)
-name-found (Some name) word behind e h =
-    record { name = name; word_is = name-read word name e; behind_is = cc }
+name-found : (found : Option Name) (word : List ℕ) (later : State) → name_in word ≡ found →
+    after_name found ≡ Some later → NameRead word later
+name-found None word later e h = absurd (cc)
+name-found (Some name) word later e h =
+    record { name = name; word_is = name-read word name e; after_is = cc }
 
-pub start-read : (word : List ℕ) (behind : State) → follow start word ≡ Some behind → NameRead word behind
+pub start-read : (word : List ℕ) (later : State) → follow start word ≡ Some later → NameRead word later
 unfolding follow
-start-read word behind h = name-found (name_in word) word behind refl h
+start-read word later h = name-found (name_in word) word later refl h
 
 pub start-follows : (name : Name) → follow start (word_of name) ≡ Some (placed (bare name))
 unfolding follow
@@ -81,25 +81,25 @@ pub tests-place : (subject : Subject) (word : List ℕ) → subject.count < most
 tests-place subject word room h =
     let b : nat_lt subject.count (most subject.name) ≡ true = grind (arith, nat_tests) in rw (b, h) refl
 
-place-tried : (has enough : Bool) (subject : Subject) (word : List ℕ) (behind : State) →
+place-tried : (has enough : Bool) (subject : Subject) (word : List ℕ) (later : State) →
     has_place subject word ≡ has → nat_le (fewest subject.name) subject.count ≡ enough →
     (if has then Some (placed (one_more subject))
-    else if enough then behind_option subject nothing_given (key_in word) else None) ≡ Some behind →
-    ((has_place subject word ≡ true) × (behind ≡ placed (one_more subject)))
+    else if enough then after_option subject nothing_given (key_in word) else None) ≡ Some later →
+    ((has_place subject word ≡ true) × (later ≡ placed (one_more subject)))
     ⊎ ((nat_le (fewest subject.name) subject.count ≡ true)
-    × (behind_option subject nothing_given (key_in word) ≡ Some behind))
-place-tried true enough subject word behind e f h = inl (e, cc)
-place-tried false true subject word behind e f h = inr (f, h)
-place-tried false false subject word behind e f h = absurd (cc)
+    × (after_option subject nothing_given (key_in word) ≡ Some later))
+place-tried true enough subject word later e f h = inl (e, cc)
+place-tried false true subject word later e f h = inr (f, h)
+place-tried false false subject word later e f h = absurd (cc)
 
-pub placed-read : (subject : Subject) (word : List ℕ) (behind : State) →
-    follow (placed subject) word ≡ Some behind →
-    ((has_place subject word ≡ true) × (behind ≡ placed (one_more subject)))
+pub placed-read : (subject : Subject) (word : List ℕ) (later : State) →
+    follow (placed subject) word ≡ Some later →
+    ((has_place subject word ≡ true) × (later ≡ placed (one_more subject)))
     ⊎ ((nat_le (fewest subject.name) subject.count ≡ true)
-    × (follow (options subject nothing_given) word ≡ Some behind))
+    × (follow (options subject nothing_given) word ≡ Some later))
 unfolding follow
-placed-read subject word behind h =
-    place-tried (has_place subject word) (nat_le (fewest subject.name) subject.count) subject word behind
+placed-read subject word later h =
+    place-tried (has_place subject word) (nat_le (fewest subject.name) subject.count) subject word later
     refl refl h
 
 pub placed-follows : (subject : Subject) (word : List ℕ) → has_place subject word ≡ true →
@@ -151,45 +151,45 @@ first-option subject key enough =
     rw (key-no-place subject key, b) refl
 
 -- an option's own word
-pub record KeyRead (subject : Subject) (given : Given) (word : List ℕ) (behind : State) : Type 0 where
+pub record KeyRead (subject : Subject) (given : Given) (word : List ℕ) (later : State) : Type 0 where
   pub key : Key
   pub word_is : word ≡ key_word key
   pub taken : takes_key subject.name key ≡ true
   pub fresh : has_key given key ≡ false
-  pub behind_is : behind ≡ behind_key subject given key
+  pub after_is : later ≡ after_key subject given key
 
-key-found : (found : Option Key) (subject : Subject) (given : Given) (word : List ℕ) (behind : State) →
-    key_in word ≡ found → behind_option subject given found ≡ Some behind →
-    KeyRead subject given word behind
-key-found None subject given word behind e h = absurd (cc)
-key-found (Some key) subject given word behind e h =
+key-found : (found : Option Key) (subject : Subject) (given : Given) (word : List ℕ) (later : State) →
+    key_in word ≡ found → after_option subject given found ≡ Some later →
+    KeyRead subject given word later
+key-found None subject given word later e h = absurd (cc)
+key-found (Some key) subject given word later e h =
     let w = when-some (takes_key subject.name key && not (has_key given key))
-    (behind_key subject given key) behind h in
+    (after_key subject given key) later h in
     let b = both-true (takes_key subject.name key) (has_key given key) w.0 in
-    record { key = key; word_is = key-read word key e; taken = b.0; fresh = b.1; behind_is = w.1 }
+    record { key = key; word_is = key-read word key e; taken = b.0; fresh = b.1; after_is = w.1 }
 
-pub option-read : (subject : Subject) (given : Given) (word : List ℕ) (behind : State) →
-    follow (options subject given) word ≡ Some behind → KeyRead subject given word behind
+pub option-read : (subject : Subject) (given : Given) (word : List ℕ) (later : State) →
+    follow (options subject given) word ≡ Some later → KeyRead subject given word later
 unfolding follow
-option-read subject given word behind h = key-found (key_in word) subject given word behind refl h
+option-read subject given word later h = key-found (key_in word) subject given word later refl h
 
 pub option-follows : (subject : Subject) (given : Given) (key : Key) →
     takes_key subject.name key ≡ true → has_key given key ≡ false →
-    follow (options subject given) (key_word key) ≡ Some (behind_key subject given key)
+    follow (options subject given) (key_word key) ≡ Some (after_key subject given key)
 unfolding follow
 option-follows subject given key taken fresh =
     rw (key-written key)
-    (when-true (takes_key subject.name key && not (has_key given key)) (behind_key subject given key)
+    (when-true (takes_key subject.name key && not (has_key given key)) (after_key subject given key)
     (true-both (takes_key subject.name key) (has_key given key) taken fresh))
 
 -- an option's value
-pub record ValueRead (subject : Subject) (given : Given) (key : Key) (word : List ℕ) (behind : State) :
+pub record ValueRead (subject : Subject) (given : Given) (key : Key) (word : List ℕ) (later : State) :
     Type 0 where
   pub setting : Setting
   pub key_is : key_of setting ≡ key
   pub word_is : value_words setting ≡ word ∷ []
   pub allowed : is_value subject.name setting ≡ true
-  pub behind_is : behind ≡ options subject (put given setting)
+  pub after_is : later ≡ options subject (put given setting)
 
 if-some : {A : Type 0} → (b : Bool) (x y : A) → (if b then Some x else None) ≡ Some y →
     (b ≡ true) × (y ≡ x)
@@ -201,91 +201,91 @@ number-test : (most : ℕ) (word : List ℕ) (number : ℕ) → number_in most w
 unfolding number_in
 number-test most word number h = if-some (is_number most word) (digits_value 10 word) number h
 
-limit-found : (found : Option ℕ) (subject : Subject) (given : Given) (word : List ℕ) (behind : State) →
-    number_in most_limit word ≡ found → behind_value subject (with_limit given found) ≡ Some behind →
-    ValueRead subject given keys.Limit word behind
-limit-found None subject given word behind e h = absurd (cc)
-limit-found (Some number) subject given word behind e h =
+limit-found : (found : Option ℕ) (subject : Subject) (given : Given) (word : List ℕ) (later : State) →
+    number_in most_limit word ≡ found → after_value subject (with_limit given found) ≡ Some later →
+    ValueRead subject given keys.Limit word later
+limit-found None subject given word later e h = absurd (cc)
+limit-found (Some number) subject given word later e h =
     let n = number-test most_limit word number e in
-    record { setting = limit_to word; key_is = refl; word_is = refl; allowed = n.0; behind_is = cc (n.1) }
+    record { setting = limit_to word; key_is = refl; word_is = refl; allowed = n.0; after_is = cc (n.1) }
 
-lines-tested : (b : Bool) (subject : Subject) (given : Given) (word : List ℕ) (behind : State)
+lines-tested : (b : Bool) (subject : Subject) (given : Given) (word : List ℕ) (later : State)
     (lines : Show) →
     lines_in word ≡ Some lines → has_lines subject.name lines ≡ b →
-    behind_value subject (when b (record given { show = Some lines })) ≡ Some behind →
-    ValueRead subject given keys.Show word behind
-lines-tested true subject given word behind lines e t h =
+    after_value subject (when b (record given { show = Some lines })) ≡ Some later →
+    ValueRead subject given keys.Show word later
+lines-tested true subject given word later lines e t h =
     record {
       setting = show_lines lines;
       key_is = refl;
       word_is = ap (λ (w : List ℕ). w ∷ [])
           (sym (lines-read word lines e));
       allowed = t;
-      behind_is = cc;
+      after_is = cc;
     }
-lines-tested false subject given word behind lines e t h = absurd (cc)
+lines-tested false subject given word later lines e t h = absurd (cc)
 
-sites-tested : (b : Bool) (subject : Subject) (given : Given) (word : List ℕ) (behind : State) →
+sites-tested : (b : Bool) (subject : Subject) (given : Given) (word : List ℕ) (later : State) →
     is_text word (codes "sites") ≡ true → has_sites subject.name ≡ b →
-    behind_value subject (when b (record given { sites = true })) ≡ Some behind →
-    ValueRead subject given keys.Show word behind
-sites-tested true subject given word behind e t h =
+    after_value subject (when b (record given { sites = true })) ≡ Some later →
+    ValueRead subject given keys.Show word later
+sites-tested true subject given word later e t h =
     record {
       setting = show_sites;
       key_is = refl;
       word_is = ap (λ (w : List ℕ). w ∷ []) (sym (is-text word (codes "sites") e));
       allowed = t;
-      behind_is = cc;
+      after_is = cc;
     }
-sites-tested false subject given word behind e t h = absurd (cc)
+sites-tested false subject given word later e t h = absurd (cc)
 
-lines-found : (found : Option Show) (subject : Subject) (given : Given) (word : List ℕ) (behind : State) →
+lines-found : (found : Option Show) (subject : Subject) (given : Given) (word : List ℕ) (later : State) →
     lines_in word ≡ found →
-    behind_value subject (with_lines subject.name given found) ≡ Some behind →
-    ValueRead subject given keys.Show word behind
-lines-found None subject given word behind e h = absurd (cc)
-lines-found (Some lines) subject given word behind e h =
-    lines-tested (has_lines subject.name lines) subject given word behind lines e refl h
+    after_value subject (with_lines subject.name given found) ≡ Some later →
+    ValueRead subject given keys.Show word later
+lines-found None subject given word later e h = absurd (cc)
+lines-found (Some lines) subject given word later e h =
+    lines-tested (has_lines subject.name lines) subject given word later lines e refl h
 
-shown-found : (sites : Bool) (subject : Subject) (given : Given) (word : List ℕ) (behind : State) →
+shown-found : (sites : Bool) (subject : Subject) (given : Given) (word : List ℕ) (later : State) →
     is_text word (codes "sites") ≡ sites →
-    behind_value subject (if sites then when (has_sites subject.name) (record given { sites = true })
-    else with_lines subject.name given (lines_in word)) ≡ Some behind →
-    ValueRead subject given keys.Show word behind
-shown-found true subject given word behind e h =
-    sites-tested (has_sites subject.name) subject given word behind e refl h
-shown-found false subject given word behind e h =
-    lines-found (lines_in word) subject given word behind refl h
+    after_value subject (if sites then when (has_sites subject.name) (record given { sites = true })
+    else with_lines subject.name given (lines_in word)) ≡ Some later →
+    ValueRead subject given keys.Show word later
+shown-found true subject given word later e h =
+    sites-tested (has_sites subject.name) subject given word later e refl h
+shown-found false subject given word later e h =
+    lines-found (lines_in word) subject given word later refl h
 
-script-tested : (b : Bool) (subject : Subject) (given : Given) (word : List ℕ) (behind : State) →
+script-tested : (b : Bool) (subject : Subject) (given : Given) (word : List ℕ) (later : State) →
     is_file_name word ≡ b →
-    behind_value subject (when b (record given { schedule = Some (by_script word) })) ≡ Some behind →
-    ValueRead subject given keys.Script word behind
-script-tested true subject given word behind t h =
-    record { setting = script_from word; key_is = refl; word_is = refl; allowed = t; behind_is = cc }
-script-tested false subject given word behind t h = absurd (cc)
+    after_value subject (when b (record given { schedule = Some (by_script word) })) ≡ Some later →
+    ValueRead subject given keys.Script word later
+script-tested true subject given word later t h =
+    record { setting = script_from word; key_is = refl; word_is = refl; allowed = t; after_is = cc }
+script-tested false subject given word later t h = absurd (cc)
 
-seed-found : (found : Option ℕ) (subject : Subject) (given : Given) (word : List ℕ) (behind : State) →
-    number_in most_seed word ≡ found → behind_value subject (with_seed given found) ≡ Some behind →
-    ValueRead subject given keys.Seed word behind
-seed-found None subject given word behind e h = absurd (cc)
-seed-found (Some number) subject given word behind e h =
+seed-found : (found : Option ℕ) (subject : Subject) (given : Given) (word : List ℕ) (later : State) →
+    number_in most_seed word ≡ found → after_value subject (with_seed given found) ≡ Some later →
+    ValueRead subject given keys.Seed word later
+seed-found None subject given word later e h = absurd (cc)
+seed-found (Some number) subject given word later e h =
     let n = number-test most_seed word number e in
-    record { setting = seed_from word; key_is = refl; word_is = refl; allowed = n.0; behind_is = cc (n.1) }
+    record { setting = seed_from word; key_is = refl; word_is = refl; allowed = n.0; after_is = cc (n.1) }
 
-pub value-read : (key : Key) (subject : Subject) (given : Given) (word : List ℕ) (behind : State) →
-    follow (valued subject given key) word ≡ Some behind → ValueRead subject given key word behind
+pub value-read : (key : Key) (subject : Subject) (given : Given) (word : List ℕ) (later : State) →
+    follow (valued subject given key) word ≡ Some later → ValueRead subject given key word later
 unfolding follow with_value
-value-read keys.Limit subject given word behind h =
-    limit-found (number_in most_limit word) subject given word behind refl h
-value-read keys.Show subject given word behind h =
-    shown-found (is_text word (codes "sites")) subject given word behind refl h
-value-read keys.Script subject given word behind h =
-    script-tested (is_file_name word) subject given word behind refl h
-value-read keys.Seed subject given word behind h =
-    seed-found (number_in most_seed word) subject given word behind refl h
-value-read keys.Mul subject given word behind h = absurd (cc)
-value-read keys.Run subject given word behind h = absurd (cc)
+value-read keys.Limit subject given word later h =
+    limit-found (number_in most_limit word) subject given word later refl h
+value-read keys.Show subject given word later h =
+    shown-found (is_text word (codes "sites")) subject given word later refl h
+value-read keys.Script subject given word later h =
+    script-tested (is_file_name word) subject given word later refl h
+value-read keys.Seed subject given word later h =
+    seed-found (number_in most_seed word) subject given word later refl h
+value-read keys.Mul subject given word later h = absurd (cc)
+value-read keys.Run subject given word later h = absurd (cc)
 
 number-is : (most : ℕ) (word : List ℕ) → is_number most word ≡ true →
     number_in most word ≡ Some (digits_value 10 word)

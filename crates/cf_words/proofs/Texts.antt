@@ -22,11 +22,11 @@ some_same h = cc
 -- a word is that of what it names: by the first text that it is, and if it is none, by those after it
 first-named : {T : Type 0} (word text : List ℕ) (written : T → List ℕ) (here : T) (others : Option T) → written here ≡ text → ((name : T) → others ≡ Some name → word ≡ written name)
     → (name : T) → (if is_text word text then Some here else others) ≡ Some name → word ≡ written name
-first-named {T} word text written here others same behind name = by (is_text word text) refl
+first-named {T} word text written here others same later name = by (is_text word text) refl
   where
     by : (b : Bool) → is_text word text ≡ b → (if b then Some here else others) ≡ Some name → word ≡ written name
     by true is h = is-text word text is ∙ sym same ∙ ap written (some_same h)
-    by false is h = behind name h
+    by false is h = later name h
 
 -- no text is left
 none-named : {T : Type 0} (word : List ℕ) (written : T → List ℕ) (name : T) → None ≡ Some name → word ≡ written name

@@ -104,34 +104,34 @@ abbrev pub one_more : Subject → Subject
 one_more subject = record { name = subject.name; count = subject.count + 1 }
 
 -- after the first word
-abbrev pub behind_name : Option Name → Option State
-behind_name None = None
-behind_name (Some name) = Some (placed (bare name))
+abbrev pub after_name : Option Name → Option State
+after_name None = None
+after_name (Some name) = Some (placed (bare name))
 
 -- after an option's own word
-abbrev pub behind_key : Subject → Given → Key → State
-behind_key subject given keys.Limit = valued subject given keys.Limit
-behind_key subject given keys.Show = valued subject given keys.Show
-behind_key subject given keys.Script = valued subject given keys.Script
-behind_key subject given keys.Seed = valued subject given keys.Seed
-behind_key subject given keys.Mul = options subject (record given { mul = true })
-behind_key subject given keys.Run = options subject (record given { run = true })
+abbrev pub after_key : Subject → Given → Key → State
+after_key subject given keys.Limit = valued subject given keys.Limit
+after_key subject given keys.Show = valued subject given keys.Show
+after_key subject given keys.Script = valued subject given keys.Script
+after_key subject given keys.Seed = valued subject given keys.Seed
+after_key subject given keys.Mul = options subject (record given { mul = true })
+after_key subject given keys.Run = options subject (record given { run = true })
 
 -- the same, where the command has the option and what it settles is not settled yet
-abbrev pub behind_option : Subject → Given → Option Key → Option State
-behind_option subject given None = None
-behind_option subject given (Some key) =
-    when (takes_key subject.name key && not (has_key given key)) (behind_key subject given key)
+abbrev pub after_option : Subject → Given → Option Key → Option State
+after_option subject given None = None
+after_option subject given (Some key) =
+    when (takes_key subject.name key && not (has_key given key)) (after_key subject given key)
 
 -- whether one more positional word may stand there, and this is one
 abbrev pub has_place : Subject → List ℕ → Bool
 has_place subject word = nat_lt subject.count (most subject.name) && is_positional subject.name word
 
 -- after one more positional word, or after the first option's own word where there are enough of them
-abbrev pub behind_place : Subject → List ℕ → Option State
-behind_place subject word =
+abbrev pub after_place : Subject → List ℕ → Option State
+after_place subject word =
     if has_place subject word then Some (placed (one_more subject))
-    else if nat_le (fewest subject.name) subject.count then behind_option subject nothing_given (key_in word)
+    else if nat_le (fewest subject.name) subject.count then after_option subject nothing_given (key_in word)
     else None
 
 -- what is given with one more value: lines that the command can show
@@ -166,16 +166,16 @@ with_value name given keys.Mul word = None
 with_value name given keys.Run word = None
 
 -- after an option's value
-abbrev pub behind_value : Subject → Option Given → Option State
-behind_value subject None = None
-behind_value subject (Some given) = Some (options subject given)
+abbrev pub after_value : Subject → Option Given → Option State
+after_value subject None = None
+after_value subject (Some given) = Some (options subject given)
 
 -- what is known after one more word, which has no place where there is no answer
 unfoldable pub follow : State → List ℕ → Option State
-follow start word = behind_name (name_in word)
-follow (placed subject) word = behind_place subject word
-follow (options subject given) word = behind_option subject given (key_in word)
-follow (valued subject given key) word = behind_value subject (with_value subject.name given key word)
+follow start word = after_name (name_in word)
+follow (placed subject) word = after_place subject word
+follow (options subject given) word = after_option subject given (key_in word)
+follow (valued subject given key) word = after_value subject (with_value subject.name given key word)
 
 -- the positional words: that many words after the first
 abbrev pub positional_in : ℕ → List (List ℕ) → List (List ℕ)

@@ -270,8 +270,8 @@ fn with_words<'a>(name: Name, positional: &'a [String], options: Options<'a>) ->
 fn positional(words: &[String], count: usize) -> &[String]
     ensures { result.now ≡ take count (drop 1 words.now) }
 {
-    let behind = words.get(1..).unwrap_or(&[]);
-    behind.get(..count).unwrap_or(behind)
+    let later = words.get(1..).unwrap_or(&[]);
+    later.get(..count).unwrap_or(later)
 }
 
 /// What is asked where no word is left, or None where one is missing.
@@ -303,10 +303,10 @@ pub fn read_words(words: &[String]) -> Result<Command<'_>, u32>
     // No command has more than twenty-two words, so the index stays small.
     let mut index: u32 = 0;
     for word in words {
-        let Some(behind) = reading.follow(word.as_str()) else {
+        let Some(later) = reading.follow(word.as_str()) else {
             return Err(index);
         };
-        reading = behind;
+        reading = later;
         index += 1;
     }
     complete(words, reading).ok_or(index)

@@ -2,7 +2,7 @@
 #![tactic(auto, unfolding(crate::specs::Reading::follow))]
 
 ghost use Rattle.std.specs.Prelude.{◌≡◌, ◌+◌, ◌<◌, ◌^◌, option_map};
-ghost use Rattle.cf_words.specs.Reading.{follow, has_place, one_more, behind_option, behind_place, nothing_given};
+ghost use Rattle.cf_words.specs.Reading.{follow, has_place, one_more, after_option, after_place, nothing_given};
 ghost use Rattle.cf_words.specs.Views.{given_of, state_of};
 
 use crate::names::Name;
@@ -49,12 +49,12 @@ impl Subject {
 }
 
 /// What is known after an option's own word.
-fn behind_subject<'a>(
+fn after_subject<'a>(
     subject: Subject,
     options: Options<'a>,
     key: Option<Key>,
 ) -> Option<Reading<'a>>
-    ensures { option_map state_of result ≡ behind_option subject (given_of options.entry) key }
+    ensures { option_map state_of result ≡ after_option subject (given_of options.entry) key }
 {
     let key = key?;
     if !key.is_of(subject.name) || options.has(key) {
@@ -82,8 +82,8 @@ fn behind_subject<'a>(
 }
 
 /// What is known after one more positional word, or after the first option's own word.
-fn behind_place<'a>(subject: Subject, word: &'a str) -> Option<Reading<'a>>
-    ensures { option_map state_of result ≡ behind_place subject word.entry.now }
+fn after_place<'a>(subject: Subject, word: &'a str) -> Option<Reading<'a>>
+    ensures { option_map state_of result ≡ after_place subject word.entry.now }
 {
     if subject.has_place(word) {
         return Some(Reading::Placed(subject.one_more()));
@@ -91,7 +91,7 @@ fn behind_place<'a>(subject: Subject, word: &'a str) -> Option<Reading<'a>>
     if subject.name.fewest() > subject.count {
         return None;
     }
-    behind_subject(subject, Options::new(), Key::from_word(word))
+    after_subject(subject, Options::new(), Key::from_word(word))
 }
 
 impl<'a> Reading<'a> {
@@ -104,9 +104,9 @@ impl<'a> Reading<'a> {
                 let name = Name::from_word(word)?;
                 Some(Reading::Placed(Subject { name, count: 0 }))
             }
-            Reading::Placed(subject) => behind_place(subject, word),
+            Reading::Placed(subject) => after_place(subject, word),
             Reading::Options(subject, options) => {
-                behind_subject(subject, options, Key::from_word(word))
+                after_subject(subject, options, Key::from_word(word))
             }
             Reading::Value(subject, options, key) => {
                 let options = options.with_value(subject.name, key, word)?;

@@ -27,17 +27,17 @@ use Rattle.cf_untold.specs.Anew.{GoesTo}
 use Rattle.cf_closing.specs.Closing.{head_text, machine_closing}
 use Rattle.cf_closing.specs.Lines.{first_line}
 use Rattle.cfpp_cli.specs.Finish.{opening, Runs}
-use Rattle.cfpp_cli.specs.Lines.{LeadsBy, ReachesBy, lines_of, text_of}
+use Rattle.cfpp_cli.specs.Lines.{LeadsBy, ReachesBy, retired_lines, text_of}
 use Rattle.cli_files.specs.Outside.{Report}
 use Rattle.cfpp_cli.specs.Options.{chosen_of}
 use Rattle.cfpp_cli.specs.Reporting.{Puts, Adds, Carries, Comes}
 use Rattle.cli_files.specs.Memory.{LacksProcessor}
 use Rattle.cfpp_cli.specs.Run.{start_of, chosen_by, head_of, AgreesWithMachine, IsMachines, IsComplete, RunsCore, RunsWithTail, RunsOpened, BreaksCore, ComesOf}
 use Rattle.cfpp_cli.specs.Statuses.{status_of}
-use Rattle.cfpp_cli.specs.Tail.{lines_behind}
+use Rattle.cfpp_cli.specs.Tail.{lines_after}
 use Rattle.cfpp_cli.specs.declared.reporting.Reported.{Reported}
 use Rattle.cfpp_cli.specs.declared.tail.Tail.{Tail}
-use Rattle.cfpp_cli.proofs.PutReports.{shows-none, adds-behind}
+use Rattle.cfpp_cli.proofs.PutReports.{shows-none, adds-after}
 use Rattle.cli_files.specs.Schedules.{ReadySchedule, in_script, drawn_from, in_turn}
 use Rattle.cli_files.specs.declared.status.Status.{Status}
 use Rattle.cli_files.specs.declared.status.Status.TheVariants as status
@@ -66,7 +66,7 @@ leads_by isa start (suc n) at written (before, next, earlier, goes, is, same, mo
     (sooner.0 ++ text_of (Next next s.line), (before, sooner.0, s.line, next, sooner.1, s.is, same, refl))
 
 reaches_by : (isa : Isa) (told : Option (List ℕ)) (hart : Hart) (n : ℕ) (at : Machine) → IsAfter isa told hart n at → (lines : List ℕ) × ReachesBy isa told (opening hart told) n at lines
-reaches_by isa (Some rest) hart n at is = (lines_of isa (opening hart (Some rest)) n, (is, refl))
+reaches_by isa (Some rest) hart n at is = (retired_lines isa (opening hart (Some rest)) n, (is, refl))
 reaches_by isa None hart n at (written, goes) = leads_by isa (opening hart None) n at written goes
 
 -- a machine that is reached from a hart that has retired nothing
@@ -245,16 +245,16 @@ OpensWithTail limit show tail core last schedule before after blank full result 
     Comes (RunsWithTail limit show tail core last (chosen_by limit show schedule) before after blank.written) (BreaksCore limit show core (chosen_by limit show schedule) before after blank.written full.written) blank full result
 
 -- once that was put
-pub tail-comes : (limit : ℕ) (show : Show) (tail : Tail) (core last : Processor) (schedule : ReadySchedule) (before after : Streams) (blank half full : Report) (reported behind : Reported)
-    → Opens limit show core last schedule before after blank half (Ok reported) → behind.status ≡ reported.status → Adds reported.put half full (lines_behind tail reported.status last) behind.put
-    → OpensWithTail limit show tail core last schedule before after blank full (Ok behind)
-tail-comes limit show tail core last schedule before after blank half full reported behind run said added =
+pub tail-comes : (limit : ℕ) (show : Show) (tail : Tail) (core last : Processor) (schedule : ReadySchedule) (before after : Streams) (blank half full : Report) (reported later : Reported)
+    → Opens limit show core last schedule before after blank half (Ok reported) → later.status ≡ reported.status → Adds reported.put half full (lines_after tail reported.status last) later.put
+    → OpensWithTail limit show tail core last schedule before after blank full (Ok later)
+tail-comes limit show tail core last schedule before after blank half full reported later run said added =
     let text : List ℕ = run.1 in (
       run.0,
-      text ++ lines_behind tail reported.status last,
-      subst (λ (s : Status). RunsWithTail limit show tail core last (chosen_by limit show schedule) before after blank.written s run.0 (text ++ lines_behind tail reported.status last)) (sym said)
+      text ++ lines_after tail reported.status last,
+      subst (λ (s : Status). RunsWithTail limit show tail core last (chosen_by limit show schedule) before after blank.written s run.0 (text ++ lines_after tail reported.status last)) (sym said)
           (record { text = text; runs = run.2; closes = refl }),
-      adds-behind blank half full run.0 text (lines_behind tail reported.status last) reported.put behind.put run.3 added,
+      adds-after blank half full run.0 text (lines_after tail reported.status last) reported.put later.put run.3 added,
     )
 
 -- is what comes of the layout, the hart and the schedule

@@ -22,7 +22,7 @@ use Rattle.cf_run.specs.Scripts.{Stand, stand_of, first_moves, RunsScript, DoesL
 use Rattle.cf_closing.specs.Closing.{closing, is_report_fault}
 use Rattle.cli_files.specs.Causes.{files_answered, input_answered, output_answered}
 use Rattle.cli_files.specs.Outside.{Report, report_of}
-use Rattle.cfpp_cli.specs.Finishing.{Closes, ClosesCore}
+use Rattle.cfpp_cli.specs.Finishing.{PutsClosing, ClosesCore}
 use Rattle.cfpp_cli.specs.Reporting.{Puts, Comes, Tells, files_reported}
 use Rattle.cfpp_cli.specs.Run.{start_of, Chooses, ByScript, ByPolicy, ProcessorRun, RunsCore, BreaksCore}
 use Rattle.cfpp_cli.specs.Statuses.{status_of}
@@ -267,7 +267,7 @@ files-said limit moves (BadScript refusal) = refl
 files-said limit moves (BarredAt line bar) = refl
 
 pub closed-files : (cut : Bool) (limit moves : ℕ) (finish : Scripted) (lines : List ℕ) (half full : Report)
-    (result : Result Reported Failed) → Closes cut (status_of limit moves finish) lines half full result →
+    (result : Result Reported Failed) → PutsClosing cut (status_of limit moves finish) lines half full result →
     files_reported result ≡ Ok tt
 closed-files cut limit moves finish lines half full (Ok reported) (sound, closes) =
     ap files_answered closes.status_is ∙ files-said limit moves finish

@@ -9,13 +9,13 @@ use Rattle.cli_files.specs.Deciding.{Counts, Decides, files_decided}
 use Rattle.cli_files.specs.Outside.{Report, report_of}
 use Rattle.cli_files.specs.declared.answer.Answer.{Answer}
 use Rattle.cli_files.specs.declared.status.Status.{Status}
-use Rattle.cfpp_cli.specs.Finishing.{Closes}
-use Rattle.cfpp_cli.specs.Reporting.{Puts, PutsBehind, ReportsAlone, Comes, Tells, PutsDecided, Adds, files_reported}
+use Rattle.cfpp_cli.specs.Finishing.{PutsClosing}
+use Rattle.cfpp_cli.specs.Reporting.{Puts, PutsAfter, ReportsAlone, Comes, Tells, PutsDecided, Adds, files_reported}
 use Rattle.cfpp_cli.specs.declared.reporting.Reported.{Reported}
 
 -- nothing was shown before the text
 pub shows-none : (blank full : Report) (text : List ℕ) (put : Result (Unit {0}) Failed) → Puts blank full text put →
-    PutsBehind blank full [] text put
+    PutsAfter blank full [] text put
 shows-none blank full text put puts =
     record { told = blank.written; shows = writes-nothing blank.written; closes = puts }
 
@@ -79,7 +79,7 @@ tells-answered answered before now answer reported same cause =
 -- where a run was closed a count rose exactly where the status says so; where the report had failed, it has not fallen
 pub closed-tells : (answered : Status → Result (Unit {0}) (Unit {0})) (cut : Bool) (said : Status)
     (cause : Result (Unit {0}) (Unit {0})) (lines : List ℕ) (half full : Report) (result : Result Reported Failed)
-    (before now : ℕ) → (cut ≡ false → answered said ≡ cause) → Closes cut said lines half full result →
+    (before now : ℕ) → (cut ≡ false → answered said ≡ cause) → PutsClosing cut said lines half full result →
     HasCause before now cause → Tells answered before now result
 closed-tells answered cut said cause lines half full (Ok reported) before now same (sound, closes) h =
     rw (closes.status_is, same sound) h
@@ -94,10 +94,10 @@ adds blank half full text more (Err failed) put puts (same, is) =
     (subst (λ (p : Result (Unit {0}) Failed). Puts blank half (text ++ more) p) (sym is)
     (failed-more more (Err failed) refl puts))
 
-pub adds-behind : (blank half full : Report) (shown text more : List ℕ) (so_far put : Result (Unit {0}) Failed) →
-    PutsBehind blank half shown text so_far → Adds so_far half full more put →
-    PutsBehind blank full shown (text ++ more) put
-adds-behind blank half full shown text more so_far put puts more_puts = record {
+pub adds-after : (blank half full : Report) (shown text more : List ℕ) (so_far put : Result (Unit {0}) Failed) →
+    PutsAfter blank half shown text so_far → Adds so_far half full more put →
+    PutsAfter blank full shown (text ++ more) put
+adds-after blank half full shown text more so_far put puts more_puts = record {
   told = puts.told;
   shows = puts.shows;
   closes = adds (record blank { written = puts.told }) half full text more so_far put puts.closes more_puts;

@@ -10,7 +10,7 @@ use Rattle.rv_machine.specs.Hart.{Hart}
 use Rattle.rv_machine.specs.Machine.{Machine}
 use Rattle.rv_machine.specs.Streams.{Streams, IsTold, Leaves}
 use Rattle.rv_machine.specs.Outcome.{Outcome, Next, Trap, Exit}
-use Rattle.rv_machine.specs.Step.{step, step_on, behind}
+use Rattle.rv_machine.specs.Step.{step, step_on, after_output}
 use Rattle.rv_machine.specs.After.{after}
 use Rattle.rv_machine.specs.Acts.{Acts, Stops, Steps}
 use Rattle.rv_machine.proofs.Told.{rest-told, stays, leaves-again}
@@ -18,7 +18,7 @@ use Rattle.cfpp_cli.specs.Options.{Chosen, shown}
 use Rattle.cf_report.specs.Lines.{retired_line}
 use Rattle.cf_run.specs.declared.answer.Ran.{Ran}
 use Rattle.cf_run.specs.declared.answer.Ran.TheVariants as ran
-use Rattle.cfpp_cli.specs.Lines.{lines_of, LeadsBy, ReachesBy}
+use Rattle.cfpp_cli.specs.Lines.{retired_lines, LeadsBy, ReachesBy}
 use Rattle.cfpp_cli.specs.Finish.{opening, Finishes, Closes, Runs, BreaksOff}
 use Rattle.cfpp_cli.proofs.Reports.{shown-again}
 
@@ -50,7 +50,7 @@ shows-nothing false told = writes-nothing told
 -- before the first step
 reaches-none : (isa : Isa) (start : Hart) (left : Option (List ℕ)) →
     ReachesBy isa left (opening start left) 0 (opening start left) []
-unfolding after LeadsBy lines_of
+unfolding after LeadsBy retired_lines
 reaches-none isa start None = (record { hart = refl; output = refl }, refl)
 reaches-none isa start (Some told) = (refl, refl)
 
@@ -120,19 +120,19 @@ finds c start now t n rest run told =
 
 -- the step of a machine, from what its hart does on its rest
 step-is : (isa : Isa) (m : Machine) (now : Hart) (rest : List ℕ) (o : Outcome Machine) →
-    m.hart ≡ now → m.rest ≡ rest → step_on isa now rest ≡ o → step isa m ≡ behind m.output o
+    m.hart ≡ now → m.rest ≡ rest → step_on isa now rest ≡ o → step isa m ≡ after_output m.output o
 unfolding step
 step-is isa m now rest o h r e =
     let on_rest : step_on isa now m.rest ≡ o =
     subst (λ (x : List ℕ). step_on isa now x ≡ o) (sym r) e in
-    ap (behind m.output) (subst (λ (x : Hart). step_on isa x m.rest ≡ o) (sym h) on_rest)
+    ap (after_output m.output) (subst (λ (x : Hart). step_on isa x m.rest ≡ o) (sym h) on_rest)
 
 -- one more instruction, and its line
 reaches-next : (isa : Isa) (left : Option (List ℕ)) (start m next : Machine) (n : ℕ)
     (line : Retired) (lines : List ℕ) → ReachesBy isa left start n m lines →
     step isa m ≡ Next next line →
     ReachesBy isa left start (n + 1) next (lines ++ retired_line next.hart.retired line)
-unfolding after LeadsBy lines_of
+unfolding after LeadsBy retired_lines
 reaches-next isa None start m next n line lines h e =
     rw add-one (m, lines, line, next, h, e, record { hart = refl; output = refl }, refl)
 reaches-next isa (Some told) start m next n line lines h e = (
@@ -249,7 +249,7 @@ ends : (c : Chosen) (start now new : Hart) (before between after : Streams)
     now.retired ≡ start.retired + n → Stops (step_on c.isa now) o now new between after →
     ((m : Machine) (lines : List ℕ) →
     ReachesBy c.isa before.input (opening start before.input) n m lines →
-    step c.isa m ≡ behind m.output o →
+    step c.isa m ≡ after_output m.output o →
     Finishes c before.input (opening start before.input) end n m lines) →
     ((last : Hart) → new ≡ last → Closes c.isa end last new between after) →
     Ended c start new (told_of before after blank full) end

@@ -20,19 +20,19 @@ pub record ClosesWith (said : Status) (lines : List ℕ) (half full : Report) (r
   pub puts : Puts half full lines reported.put
 
 -- they were put where the report had not failed during the run; where it had, nothing more was put
-abbrev pub Closes : (cut : Bool) → Status → (lines : List ℕ) → (half full : Report) → Result Reported Failed → Type 0
-Closes cut said lines half full (Ok reported) = (cut ≡ false) × ClosesWith said lines half full reported
-Closes cut said lines half full (Err failed) = (cut ≡ true) × (full ≡ half)
+abbrev pub PutsClosing : (cut : Bool) → Status → (lines : List ℕ) → (half full : Report) → Result Reported Failed → Type 0
+PutsClosing cut said lines half full (Ok reported) = (cut ≡ false) × ClosesWith said lines half full reported
+PutsClosing cut said lines half full (Err failed) = (cut ≡ true) × (full ≡ half)
 
 -- after a run of the sequential machine
 abbrev pub ClosesMachine : (limit : ℕ) → Answer → Hart → (half full : Report) → Result Reported Failed → Type 0
 ClosesMachine limit finish last half full result =
-    Closes (is_report_fault (Ran finish)) (status_of_run limit finish) (machine_closing limit finish last.retired last.regs) half full result
+    PutsClosing (is_report_fault (Ran finish)) (status_of_run limit finish) (machine_closing limit finish last.retired last.regs) half full result
 
 -- after a run of the processor
 abbrev pub ClosesCore : (limit : ℕ) → Scripted → Processor → Tally → (half full : Report) → Result Reported Failed → Type 0
 ClosesCore limit finish last tally half full result =
-    Closes (is_report_fault finish) (status_of limit tally.moves finish) (closing limit finish last.plan last.state tally) half full result
+    PutsClosing (is_report_fault finish) (status_of limit tally.moves finish) (closing limit finish last.plan last.state tally) half full result
 
 -- after a run in rounds, whose report cannot have failed before
 abbrev pub ClosesRounds : (limit : ℕ) → Answer → (rounds : ℕ) → Processor → Tally → (half full : Report) → Reported → Type 0

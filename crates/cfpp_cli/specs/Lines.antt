@@ -20,9 +20,9 @@ text_from isa None = []
 text_from isa (Some m) = text_of (step isa m)
 
 -- the lines of the first n steps: those of the machines after 0, 1, .. and n - 1 instructions
-unfoldable pub lines_of : Isa → Machine → ℕ → List ℕ
-lines_of isa start zero = []
-lines_of isa start (suc n) = lines_of isa start n ++ text_from isa (after isa start n)
+unfoldable pub retired_lines : Isa → Machine → ℕ → List ℕ
+retired_lines isa start zero = []
+retired_lines isa start (suc n) = retired_lines isa start n ++ text_from isa (after isa start n)
 
 -- n instructions with these lines lead from one machine to another, over an input that does not tell what it has left: each finds whatever it finds
 unfoldable pub LeadsBy : Isa → Machine → ℕ → Machine → List ℕ → Type 0
@@ -35,5 +35,5 @@ LeadsBy isa start (suc n) m lines =
 -- the machine is the one after n instructions, and these are their lines, where the input tells what it has left; else n instructions with these lines lead to it
 abbrev pub ReachesBy : Isa → Option (List ℕ) → Machine → ℕ → Machine → List ℕ → Type 0
 ReachesBy isa (Some left) start n m lines =
-    (after isa start n ≡ Some m) × (lines ≡ lines_of isa start n)
+    (after isa start n ≡ Some m) × (lines ≡ retired_lines isa start n)
 ReachesBy isa None start n m lines = LeadsBy isa start n m lines

@@ -17,7 +17,7 @@ abbrev pub Puts : (half full : Report) → (text : List ℕ) → Result (Unit {0
 Puts half full text put = PutsText half.written full.written half.faults full.faults text put
 
 -- what was shown was put, and the closing lines after it, or the report failed after a front of these
-pub record PutsBehind (blank full : Report) (shown closing : List ℕ) (put : Result (Unit {0}) Failed) : Type 0 where
+pub record PutsAfter (blank full : Report) (shown closing : List ℕ) (put : Result (Unit {0}) Failed) : Type 0 where
   pub told : Option (List ℕ)
   pub shows : Writes blank.written told shown
   pub closes : Puts (record blank { written = told }) full closing put
@@ -26,7 +26,7 @@ pub record PutsBehind (blank full : Report) (shown closing : List ℕ) (put : Re
 abbrev pub Carries : (Status → List ℕ → List ℕ → Type 0) → (blank full : Report) → Reported → Type 0
 Carries answers blank full reported =
     (shown : List ℕ) × (closing : List ℕ) × answers reported.status shown closing
-    × PutsBehind blank full shown closing reported.put
+    × PutsAfter blank full shown closing reported.put
 
 -- a command that shows nothing: this is its whole report
 abbrev pub ReportsAlone : (Status → List ℕ → Type 0) → (blank full : Report) → Reported → Type 0

@@ -45,16 +45,16 @@ abbrev pub finish_of : {limit : ℕ} {core last : Processor} {before after : Str
 finish_of run = Ran (ran_of run.clocked)
 
 -- the lines that close its report
-abbrev pub lines_of : {core : Processor} {before after : Streams} (limit : ℕ) (last : Processor) →
+abbrev pub closing_of : {core : Processor} {before after : Streams} (limit : ℕ) (last : Processor) →
     RunInRounds limit core last before after → List ℕ
-lines_of limit last run = closing_in_rounds limit (finish_of run) run.rounds last.plan last.state run.tally
+closing_of limit last run = closing_in_rounds limit (finish_of run) run.rounds last.plan last.state run.tally
 
 -- the processor was run in rounds; the status says how the run finished, and this is the whole report
 pub record RunsCoreInRounds (limit : ℕ) (core last : Processor) (before after : Streams) (answer : Status)
     (report : List ℕ) : Type 0 where
   pub run : RunInRounds limit core last before after
   pub status_is : answer ≡ status_of_run limit (ran_of run.clocked)
-  pub reports : report ≡ lines_of limit last run
+  pub reports : report ≡ closing_of limit last run
 
 -- the processor of the layout, opened on the hart, was run in rounds. Where the run ends with Exit, Trap or Limit, its status, its output, its first line, its `retired` line and its registers are those of `machine`
 pub record RunsInRounds (limit : ℕ) (plan : Plan) (hart : Hart) (last : Processor) (before after : Streams)

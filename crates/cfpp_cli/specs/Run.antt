@@ -26,7 +26,7 @@ use Rattle.cfpp_cli.specs.Machine.{RunsHart}
 use Rattle.cfpp_cli.specs.Options.{chosen_of}
 use Rattle.cli_files.specs.Memory.{LacksProcessor}
 use Rattle.cfpp_cli.specs.Statuses.{status_of}
-use Rattle.cfpp_cli.specs.Tail.{lines_behind}
+use Rattle.cfpp_cli.specs.Tail.{lines_after}
 use Rattle.cfpp_cli.specs.declared.tail.Tail.{Tail}
 use Rattle.cli_files.specs.Outside.{Outside}
 use Rattle.cli_files.specs.RunFiles.{RunAsked, ReadsFiles, AnswersFiles}
@@ -94,7 +94,7 @@ pub record RunsWithTail (limit : ℕ) (show : Show) (tail : Tail) (core last : P
     (before after : Streams) (blank : Option (List ℕ)) (answer : Status) (shown closing : List ℕ) : Type 0 where
   pub text : List ℕ
   pub runs : RunsCore limit show core last by before after blank answer shown text
-  pub closes : closing ≡ text ++ lines_behind tail answer last
+  pub closes : closing ≡ text ++ lines_after tail answer last
 
 -- the answer is that of `machine` on the hart, under the same limit and with multiplication where the layout has it; it takes the same from the input and writes the same to the output, and this text closes its report
 pub record IsMachines (limit : ℕ) (plan : Plan) (hart : Hart) (before after : Streams) (answer : Status)
@@ -133,7 +133,7 @@ pub record RunsOpened (limit : ℕ) (show : Show) (tail : Tail) (plan : Plan) (h
   pub runs : RunsCore limit show (opened plan hart) last (chosen_by limit show schedule) before after blank answer shown text
   pub agrees : AgreesWithMachine limit plan hart before after runs.run.finish last runs.run.tally answer
   pub complete : IsComplete schedule answer
-  pub closes : closing ≡ text ++ lines_behind tail answer last
+  pub closes : closing ≡ text ++ lines_after tail answer last
 
 -- what comes of a layout, a hart and a schedule: the processor of that layout, opened on the hart, was run
 abbrev pub ComesOf : ℕ → Show → Tail → Plan → Hart → ReadySchedule → Streams → Streams → Option (List ℕ) → Status →

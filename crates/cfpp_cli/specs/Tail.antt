@@ -8,7 +8,7 @@ use Rattle.cfpp_cli.specs.declared.tail.Tail.{Tail}
 use Rattle.cfpp_cli.specs.declared.tail.Tail.TheVariants as tail
 
 -- under `moves`, where the script has no further move, which moves can be made; else nothing
-abbrev pub lines_behind : Tail → Status → Processor → List ℕ
-lines_behind tail.Moves (status.ScriptEnd moves) last = moves_text last.plan last.state
-lines_behind tail.Moves answer last = []
-lines_behind tail.Nothing answer last = []
+abbrev pub lines_after : Tail → Status → Processor → List ℕ
+lines_after tail.Moves (status.ScriptEnd moves) last = moves_text last.plan last.state
+lines_after tail.Moves answer last = []
+lines_after tail.Nothing answer last = []

@@ -6,7 +6,7 @@ use Rattle.cf_layout.specs.Layout.{Plan}
 use Rattle.cli_files.specs.Loading.{LacksLoaded}
 use Rattle.cli_files.specs.Reads.{layout_files, WereRead}
 use Rattle.cli_files.specs.declared.status.Status.{Status}
-use Rattle.cli_files.proofs.Reading.{AllRead, one-read, more-read, were-all, were-before, were-behind, were-lacking, loaded-read, loaded-lacking}
+use Rattle.cli_files.proofs.Reading.{AllRead, one-read, more-read, were-all, were-before, were-after, were-lacking, loaded-read, loaded-lacking}
 use Rattle.cli_audit.specs.Audit.{AuditAsked, AuditSide, ReadsTrace, StopsAtTrace, AnswersAudit}
 use Rattle.cf_audit.specs.Limits.{most_trace}
 use Rattle.cli_audit.specs.Traces.{LacksTrace}
@@ -29,7 +29,7 @@ trace-read asked a b plan hart text r =
 trace-stops : (asked : AuditAsked) (a b : Option Told) (answer : Status) (report : List ℕ) →
     StopsAtTrace asked a b answer report → WereRead (audit_files asked) a b
 trace-stops asked a b answer report s =
-    were-behind (layout_files asked.layout ++ asked.program ∷ []) (asked.trace ∷ []) a s.between b
+    were-after (layout_files asked.layout ++ asked.program ∷ []) (asked.trace ∷ []) a s.between b
     (loaded-read asked.layout asked.program a s.between s.plan s.hart s.loaded)
     (trace-lacking asked.trace s.between b answer report s.lacks)
 

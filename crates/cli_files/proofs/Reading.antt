@@ -43,11 +43,11 @@ one-read most (Some told) b name bytes front = (with_read told name, front.3, re
 pub more-read : (xs ys : List (List ℕ)) (a b c : Option Told) → AllRead xs a b → AllRead ys b c → AllRead (xs ++ ys) a c
 more-read xs ys None b c h k = tt
 more-read xs ys (Some told) b c (now, is, read, same) k =
-    let behind : AllRead ys (Some now) c = subst (λ (o : Option Told). AllRead ys o c) is k in (
-      behind.0,
-      behind.1,
-      behind.2 ∙ ap (λ (names : List (List ℕ)). names ++ ys) read ∙ append_assoc told.read xs ys,
-      behind.3 ∙ same,
+    let rest : AllRead ys (Some now) c = subst (λ (o : Option Told). AllRead ys o c) is k in (
+      rest.0,
+      rest.1,
+      rest.2 ∙ ap (λ (names : List (List ℕ)). names ++ ys) read ∙ append_assoc told.read xs ys,
+      rest.3 ∙ same,
     )
 
 -- all of the names were read
@@ -100,21 +100,21 @@ later before between after size count all same (inr (rose, fewer)) =
     inr (rose ∙ ap raised same, omega (arith, fewer))
 
 -- all of some names, and the first of others
-pub were-behind : (xs ys : List (List ℕ)) (a b c : Option Told) → AllRead xs a b → WereRead ys b c → WereRead (xs ++ ys) a c
-were-behind xs ys None b c h k = tt
-were-behind xs ys (Some told) b c (now, is, read, same) k =
-    let behind : WereRead ys (Some now) c = subst (λ (o : Option Told). WereRead ys o c) is k in
-    let f : ReadsFirst ys now behind.0 = behind.2 in
+pub were-after : (xs ys : List (List ℕ)) (a b c : Option Told) → AllRead xs a b → WereRead ys b c → WereRead (xs ++ ys) a c
+were-after xs ys None b c h k = tt
+were-after xs ys (Some told) b c (now, is, read, same) k =
+    let rest : WereRead ys (Some now) c = subst (λ (o : Option Told). WereRead ys o c) is k in
+    let f : ReadsFirst ys now rest.0 = rest.2 in
     let size : length (xs ++ ys) ≡ length xs + length ys = length-append xs ys in (
-      behind.0,
-      behind.1,
+      rest.0,
+      rest.1,
       record {
         count = length xs + f.count;
         within = omega (arith, f.within, size);
         read = f.read ∙ ap (λ (names : List (List ℕ)). names ++ take f.count ys) read ∙ append_assoc told.read xs (take f.count ys)
             ∙ ap (λ (names : List (List ℕ)). told.read ++ names) (sym (take-append-add xs ys f.count));
-        unheld = subst (λ (n : ℕ). (behind.0.unheld ≡ told.unheld) ⊎ ((behind.0.unheld ≡ raised told.unheld) × (length xs + f.count < n))) (sym size)
-            (later told.unheld now.unheld behind.0.unheld (length ys) f.count (length xs) same f.unheld);
+        unheld = subst (λ (n : ℕ). (rest.0.unheld ≡ told.unheld) ⊎ ((rest.0.unheld ≡ raised told.unheld) × (length xs + f.count < n))) (sym size)
+            (later told.unheld now.unheld rest.0.unheld (length ys) f.count (length xs) same f.unheld);
       },
     )
 
@@ -172,7 +172,7 @@ pub loaded-lacking : (word : Layout) (name : List ℕ) (a b : Option Told) (answ
 loaded-lacking word name a b answer report (inl h) =
     were-before (layout_files word) (name ∷ []) a b (layout-lacking word a b answer report h)
 loaded-lacking word name a b answer report (inr h) =
-    were-behind (layout_files word) (name ∷ []) a h.between b (layout-read word a h.between h.plan h.laid)
+    were-after (layout_files word) (name ∷ []) a h.between b (layout-read word a h.between h.plan h.laid)
     (program-lacking name h.between b answer report h.lacks)
 
 -- a script
@@ -211,7 +211,7 @@ file-lacking asked a b answer report (inl h) =
     were-before (layout_files asked.layout ++ asked.program ∷ []) (script_files asked.schedule) a b
     (loaded-lacking asked.layout asked.program a b answer report h)
 file-lacking asked a b answer report (inr h) =
-    were-behind (layout_files asked.layout ++ asked.program ∷ []) (script_files asked.schedule) a h.between b
+    were-after (layout_files asked.layout ++ asked.program ∷ []) (script_files asked.schedule) a h.between b
     (loaded-read asked.layout asked.program a h.between h.plan h.hart h.loaded)
     (schedule-lacking asked.schedule h.between b answer report h.lacks)
 

@@ -6,7 +6,7 @@ use Rattle.cf_layout.specs.Layout.{Plan}
 use Rattle.cf_words.specs.Words.{Layout}
 use Rattle.cli_files.specs.Reads.{layout_files, files_of_layouts, WereRead}
 use Rattle.cli_files.specs.declared.status.Status.{Status}
-use Rattle.cli_files.proofs.Reading.{AllRead, none-read, one-read, more-read, were-all, were-before, were-behind, were-lacking, layout-read, layout-lacking, program-read, program-lacking}
+use Rattle.cli_files.proofs.Reading.{AllRead, none-read, one-read, more-read, were-all, were-before, were-after, were-lacking, layout-read, layout-lacking, program-read, program-lacking}
 use Rattle.cli_time.specs.Asked.{TimeAsked, TimeFiles}
 use Rattle.cf_timed.specs.Limits.{most_delays}
 use Rattle.cli_time.specs.DelayFiles.{IsDelaysAt, LacksDelays}
@@ -40,7 +40,7 @@ layouts-lacking (word ∷ words) a b answer report (inl h) =
 layouts-lacking (word ∷ words) a b answer report (inr (inl (plan, first, (is, reports)))) =
     were-before (layout_files word) (files_of_layouts words) a b (were-all (layout_files word) a b (layout-read word a b plan first))
 layouts-lacking (word ∷ words) a b answer report (inr (inr (between, plan, first, h))) =
-    were-behind (layout_files word) (files_of_layouts words) a between b (layout-read word a between plan first)
+    were-after (layout_files word) (files_of_layouts words) a between b (layout-read word a between plan first)
     (layouts-lacking words between b answer report h)
 
 -- all of them
@@ -68,10 +68,10 @@ file-lacking asked a b answer report (inl h) =
     (were-before (asked.delays ∷ []) (files_of_layouts asked.layouts) a b (delays-lacking asked.delays a b answer report h))
 file-lacking asked a b answer report (inr (inl h)) =
     were-before (laid_files asked) (asked.program ∷ []) a b
-    (were-behind (asked.delays ∷ []) (files_of_layouts asked.layouts) a h.between b
+    (were-after (asked.delays ∷ []) (files_of_layouts asked.layouts) a h.between b
     (delays-read asked.delays a h.between h.delays h.delays_at) (layouts-lacking asked.layouts h.between b answer report h.lacks))
 file-lacking asked a b answer report (inr (inr h)) =
-    were-behind (laid_files asked) (asked.program ∷ []) a h.between b (laid-read asked a h.between h.delays h.plans h.laid)
+    were-after (laid_files asked) (asked.program ∷ []) a h.between b (laid-read asked a h.between h.delays h.plans h.laid)
     (program-lacking asked.program h.between b answer report h.lacks)
 
 files-read : (Comes : List ℕ → List Plan → Hart → Type 0) (asked : TimeFiles) (a b : Option Told) →

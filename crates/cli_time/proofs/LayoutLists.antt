@@ -23,14 +23,14 @@ layouts-next (w ∷ words) (p ∷ plans) word plan a b c (m, first, more) h =
     (m, first, layouts-next words plans word plan m b c more h)
 
 -- the first of those after them that is not there
-pub lacks-behind : (words more : List Layout) (plans : List Plan) (a b c : Option Told) (answer : Status) (report : List ℕ) →
+pub lacks-after : (words more : List Layout) (plans : List Plan) (a b c : Option Told) (answer : Status) (report : List ℕ) →
     AreLayoutsAt words a b plans → LacksLayouts more b c answer report → LacksLayouts (words ++ more) a c answer report
-lacks-behind [] more [] a b c answer report same h =
+lacks-after [] more [] a b c answer report same h =
     subst (λ (o : Option Told). LacksLayouts more o c answer report) same h
-lacks-behind [] more (p ∷ plans) a b c answer report same h = absurd same
-lacks-behind (w ∷ words) more [] a b c answer report all h = absurd all
-lacks-behind (w ∷ words) more (p ∷ plans) a b c answer report (m, first, rest) h =
-    inr (inr (m, p, first, lacks-behind words more plans m b c answer report rest h))
+lacks-after [] more (p ∷ plans) a b c answer report same h = absurd same
+lacks-after (w ∷ words) more [] a b c answer report all h = absurd all
+lacks-after (w ∷ words) more (p ∷ plans) a b c answer report (m, first, rest) h =
+    inr (inr (m, p, first, lacks-after words more plans m b c answer report rest h))
 
 -- the next one is refused, or memory for it after it was read
 pub refused-next : (words : List Layout) (plans : List Plan) (i : ℕ) (word : Layout) (a b c : Option Told) (answer : Status) (report : List ℕ) →
@@ -38,14 +38,14 @@ pub refused-next : (words : List Layout) (plans : List Plan) (i : ℕ) (word : L
     LacksLayouts words a c answer report
 refused-next words plans i word a b c answer report e all h =
     subst (λ (ws : List Layout). LacksLayouts ws a c answer report) (sym (split-at words i word e))
-    (lacks-behind (take i words) (word ∷ drop (i + 1) words) plans a b c answer report all (inl h))
+    (lacks-after (take i words) (word ∷ drop (i + 1) words) plans a b c answer report all (inl h))
 
 pub unheld-next : (words : List Layout) (plans : List Plan) (i : ℕ) (word : Layout) (plan : Plan) (a b c : Option Told) (answer : Status) (report : List ℕ) →
     slice_get words i ≡ Some word → AreLayoutsAt (take i words) a b plans → IsLayoutAt word b c plan →
     answer ≡ status.NoMemory → report ≡ line (codes "no memory") → LacksLayouts words a c answer report
 unheld-next words plans i word plan a b c answer report e all h is reports =
     subst (λ (ws : List Layout). LacksLayouts ws a c answer report) (sym (split-at words i word e))
-    (lacks-behind (take i words) (word ∷ drop (i + 1) words) plans a b c answer report all
+    (lacks-after (take i words) (word ∷ drop (i + 1) words) plans a b c answer report all
     (inr (inl (plan, h, (is, reports)))))
 
 -- and read

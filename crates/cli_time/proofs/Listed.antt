@@ -13,9 +13,9 @@ pub texts-next : {A : Type 0} (f : A → List ℕ) (xs : List A) (i : ℕ) (x : 
 texts-next f xs i x e = flat_map_more f [] (take i xs) x ∙ ap (flat_map f) (sym (take-next xs i x e))
 
 -- after it come those of the others
-pub texts-behind : {A : Type 0} (f : A → List ℕ) (xs : List A) (i : ℕ) (x : A) → slice_get xs i ≡ Some x →
+pub texts-after : {A : Type 0} (f : A → List ℕ) (xs : List A) (i : ℕ) (x : A) → slice_get xs i ≡ Some x →
     (rest : List ℕ) × ((flat_map f (take i xs) ++ f x) ++ rest ≡ flat_map f xs)
-texts-behind f xs i x e =
+texts-after f xs i x e =
     let rest : List ℕ = flat_map f (drop (i + 1) xs) in (
       rest,
       ap (λ (text : List ℕ). text ++ rest) (texts-next f xs i x e)

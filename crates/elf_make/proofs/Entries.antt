@@ -35,11 +35,11 @@ bound-shorter g (x ∷ xs) =
 pub entries-append : (at : ℕ) (xs ys : List Named) → entries_from at (xs ++ ys) ≡ entries_from at xs ++ entries_from (at + length (closed_names xs)) ys
 entries-append at [] ys = let end : at + 0 ≡ at = omega arith in rw end refl
 entries-append at (x ∷ xs) ys =
-    let behind : (at + length (closed x.name)) + length (closed_names xs) ≡ at + length (closed_names (x ∷ xs)) = omega (arith, length-names x xs) in
+    let after : (at + length (closed x.name)) + length (closed_names xs) ≡ at + length (closed_names (x ∷ xs)) = omega (arith, length-names x xs) in
     let rest = entries-append (at + length (closed x.name)) xs ys in
     ap (λ (e : List ℕ). entry at x ++ e) rest
     ∙ sym (append_assoc (entry at x) (entries_from (at + length (closed x.name)) xs) (entries_from ((at + length (closed x.name)) + length (closed_names xs)) ys))
-    ∙ ap (λ (end : ℕ). (entry at x ++ entries_from (at + length (closed x.name)) xs) ++ entries_from end ys) behind
+    ∙ ap (λ (end : ℕ). (entry at x ++ entries_from (at + length (closed x.name)) xs) ++ entries_from end ys) after
 
 pub names-append : (xs ys : List Named) → closed_names (xs ++ ys) ≡ closed_names xs ++ closed_names ys
 names-append xs ys = flat_map-append (λ (label : Named). closed label.name) xs ys

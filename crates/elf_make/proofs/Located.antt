@@ -7,8 +7,8 @@ use Rattle.byteorder.specs.Numbers.{little_number-reads_back}
 use Rattle.elf_view.specs.Fields.{word, bytes_at}
 
 -- after a part comes the next
-pub behind-part : (file part rest : List ℕ) (at next : ℕ) → drop at file ≡ part ++ rest → next ≡ at + length part → drop next file ≡ rest
-behind-part file part rest at next e h =
+pub after-part : (file part rest : List ℕ) (at next : ℕ) → drop at file ≡ part ++ rest → next ≡ at + length part → drop next file ≡ rest
+after-part file part rest at next e h =
     ap (λ (n : ℕ). drop n file) h ∙ sym (drop-drop (length part) at file)
     ∙ ap (λ (l : List ℕ). drop (length part) l) e ∙ drop-append_seam part rest
 

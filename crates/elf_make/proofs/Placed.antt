@@ -6,16 +6,16 @@ use Rattle.rv_asm.specs.Labels.{Named}
 use Rattle.rv_asm.specs.Small.{IsSmall, joined_names}
 use Rattle.elf_make.specs.declared.sizes.Sizes.{Sizes}
 use Rattle.elf_make.specs.Fields.{halves, words}
-use Rattle.elf_make.specs.Sizes.{padding, padded, zeros_behind, text_at, data_at, symbols_at, symbols_len, names_at, section_names_at, section_names_len, section_names_end, sections_at, AreSmall}
+use Rattle.elf_make.specs.Sizes.{padding, padded, zeros_after, text_at, data_at, symbols_at, symbols_len, names_at, section_names_at, section_names_len, section_names_end, sections_at, AreSmall}
 use Rattle.elf_make.specs.Headers.{identity, file_header, program_headers, section_headers}
 use Rattle.elf_make.specs.Symbols.{bound, closed, closed_names, in_order, names, entry, entries_from, symbol_table, section_names}
 use Rattle.elf_make.specs.Files.{sizes_of, front, contents, tables, elf_file}
 use Rattle.elf_make.proofs.Counts.{length-bound, length-closed, length-symbol_names, length-order}
-use Rattle.elf_make.proofs.Located.{behind-part}
+use Rattle.elf_make.proofs.Located.{after-part}
 
 -- the file from each of its parts on
 abbrev pub from_padding : Object → List ℕ
-from_padding o = zeros_behind (section_names_end (sizes_of o)) ++ section_headers (sizes_of o)
+from_padding o = zeros_after (section_names_end (sizes_of o)) ++ section_headers (sizes_of o)
 
 abbrev pub from_section_names : Object → List ℕ
 from_section_names o = section_names ++ from_padding o
@@ -27,13 +27,13 @@ abbrev pub from_symbols : Object → List ℕ
 from_symbols o = symbol_table o.labels ++ from_names o
 
 abbrev pub from_data_padding : Object → List ℕ
-from_data_padding o = zeros_behind (length o.data_bytes) ++ from_symbols o
+from_data_padding o = zeros_after (length o.data_bytes) ++ from_symbols o
 
 abbrev pub from_data : Object → List ℕ
 from_data o = o.data_bytes ++ from_data_padding o
 
 abbrev pub from_text_padding : Object → List ℕ
-from_text_padding o = zeros_behind (length o.text_bytes) ++ from_data o
+from_text_padding o = zeros_after (length o.text_bytes) ++ from_data o
 
 abbrev pub from_text : Object → List ℕ
 from_text o = o.text_bytes ++ from_text_padding o
@@ -46,12 +46,12 @@ regrouped f t z d y s n m p h = simp append_assoc
 pub file-is : (o : Object) → elf_file o ≡ front (sizes_of o) o.entry ++ from_text o
 unfolding elf_file contents tables
 file-is o =
-    regrouped (front (sizes_of o) o.entry) o.text_bytes (zeros_behind (length o.text_bytes)) o.data_bytes (zeros_behind (length o.data_bytes))
-    (symbol_table o.labels) (names o.labels) section_names (zeros_behind (section_names_end (sizes_of o))) (section_headers (sizes_of o))
+    regrouped (front (sizes_of o) o.entry) o.text_bytes (zeros_after (length o.text_bytes)) o.data_bytes (zeros_after (length o.data_bytes))
+    (symbol_table o.labels) (names o.labels) section_names (zeros_after (section_names_end (sizes_of o))) (section_headers (sizes_of o))
 
-pub behind-front : (s : Sizes) (start : ℕ) (rest : List ℕ) → drop 116 (front s start ++ rest) ≡ rest
+pub after-front : (s : Sizes) (start : ℕ) (rest : List ℕ) → drop 116 (front s start ++ rest) ≡ rest
 unfolding front identity halves words
-behind-front s start rest = refl
+after-front s start rest = refl
 
 length-entry : (name : ℕ) (label : Named) → length (entry name label) ≡ 16
 unfolding halves words
@@ -69,15 +69,15 @@ length-symbols labels =
 
 -- where each part begins
 pub text-placed : (o : Object) → drop text_at (elf_file o) ≡ from_text o
-text-placed o = ap (λ (f : List ℕ). drop 116 f) (file-is o) ∙ behind-front (sizes_of o) o.entry (from_text o)
+text-placed o = ap (λ (f : List ℕ). drop 116 f) (file-is o) ∙ after-front (sizes_of o) o.entry (from_text o)
 
 pub data-placed : (o : Object) → drop (data_at (sizes_of o)) (elf_file o) ≡ from_data o
 unfolding data_at
 data-placed o =
     let f = elf_file o in
     let t = length o.text_bytes in
-    let past = behind-part f o.text_bytes (from_text_padding o) text_at (text_at + t) (text-placed o) refl in
-    behind-part f (zeros_behind t) (from_data o) (text_at + t) (data_at (sizes_of o)) past (omega (arith, length-replicate {A = ℕ} (padding t) 0))
+    let past = after-part f o.text_bytes (from_text_padding o) text_at (text_at + t) (text-placed o) refl in
+    after-part f (zeros_after t) (from_data o) (text_at + t) (data_at (sizes_of o)) past (omega (arith, length-replicate {A = ℕ} (padding t) 0))
 
 pub symbols-placed : (o : Object) → drop (symbols_at (sizes_of o)) (elf_file o) ≡ from_symbols o
 unfolding symbols_at
@@ -85,20 +85,20 @@ symbols-placed o =
     let f = elf_file o in
     let s = sizes_of o in
     let d = length o.data_bytes in
-    let past = behind-part f o.data_bytes (from_data_padding o) (data_at s) (data_at s + d) (data-placed o) refl in
-    behind-part f (zeros_behind d) (from_symbols o) (data_at s + d) (symbols_at s) past (omega (arith, length-replicate {A = ℕ} (padding d) 0))
+    let past = after-part f o.data_bytes (from_data_padding o) (data_at s) (data_at s + d) (data-placed o) refl in
+    after-part f (zeros_after d) (from_symbols o) (data_at s + d) (symbols_at s) past (omega (arith, length-replicate {A = ℕ} (padding d) 0))
 
 pub names-placed : (o : Object) → drop (names_at (sizes_of o)) (elf_file o) ≡ from_names o
 unfolding names_at
 names-placed o =
     let s = sizes_of o in
-    behind-part (elf_file o) (symbol_table o.labels) (from_names o) (symbols_at s) (names_at s) (symbols-placed o) (omega (arith, length-symbols o.labels))
+    after-part (elf_file o) (symbol_table o.labels) (from_names o) (symbols_at s) (names_at s) (symbols-placed o) (omega (arith, length-symbols o.labels))
 
 pub section_names-placed : (o : Object) → drop (section_names_at (sizes_of o)) (elf_file o) ≡ from_section_names o
 unfolding section_names_at
 section_names-placed o =
     let s = sizes_of o in
-    behind-part (elf_file o) (names o.labels) (from_section_names o) (names_at s) (section_names_at s) (names-placed o) refl
+    after-part (elf_file o) (names o.labels) (from_section_names o) (names_at s) (section_names_at s) (names-placed o) refl
 
 pub sections-placed : (o : Object) → drop (sections_at (sizes_of o)) (elf_file o) ≡ section_headers (sizes_of o)
 unfolding section_names_end sections_at
@@ -106,8 +106,8 @@ sections-placed o =
     let f = elf_file o in
     let s = sizes_of o in
     let e = section_names_end s in
-    let past = behind-part f section_names (from_padding o) (section_names_at s) e (section_names-placed o) refl in
-    behind-part f (zeros_behind e) (section_headers s) e (sections_at s) past (omega (arith, length-replicate {A = ℕ} (padding e) 0))
+    let past = after-part f section_names (from_padding o) (section_names_at s) e (section_names-placed o) refl in
+    after-part f (zeros_after e) (section_headers s) e (sections_at s) past (omega (arith, length-replicate {A = ℕ} (padding e) 0))
 
 pub length-headers : (s : Sizes) → length (section_headers s) ≡ 240
 unfolding words

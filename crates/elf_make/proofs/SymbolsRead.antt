@@ -16,7 +16,7 @@ use Rattle.rv_asm.specs.Small.{HasNoNul, joined_names}
 use Rattle.elf_make.specs.Fields.{halves, words}
 use Rattle.elf_make.specs.Symbols.{is_bound, bound, closed, closed_names, in_order, entry, entries_from}
 use Rattle.elf_make.specs.Viewed.{symbol_of}
-use Rattle.elf_make.proofs.Located.{behind-part, word-in, word-is}
+use Rattle.elf_make.proofs.Located.{after-part, word-in, word-is}
 
 -- the value of a label is an address
 abbrev pub IsAddress : Named → Type 0
@@ -61,8 +61,8 @@ entries-are (l ∷ ls) file rest at name e h n =
     let grouped = e ∙ append_assoc (entry name l) (entries_from next ls) rest in
     let names = length-append (closed l.name) (closed_names ls) in
     let first = entry-in file (entry name l ++ (entries_from next ls ++ rest)) at grouped ∙ entry-is name l (entries_from next ls ++ rest) (omega arith) (All-head IsAddress l ls h) in
-    let behind = behind-part file (entry name l) (entries_from next ls ++ rest) at (at + 16) grouped (ap (λ (k : ℕ). at + k) (sym (length-entry name l))) in
-    let others = entries-are ls file rest (at + 16) next behind (All-tail IsAddress l ls h) (omega arith) in
+    let after = after-part file (entry name l) (entries_from next ls ++ rest) at (at + 16) grouped (ap (λ (k : ℕ). at + k) (sym (length-entry name l))) in
+    let others = entries-are ls file rest (at + 16) next after (All-tail IsAddress l ls h) (omega arith) in
     ap (λ (x : SymbolEntry). x ∷ entries symbol_entry 16 file (at + 16) (length ls)) first
     ∙ ap (λ (xs : List SymbolEntry). entry_with name l.value 0 ∷ xs) others
 
@@ -99,8 +99,8 @@ symbols-are [] names at e h = refl
 symbols-are (l ∷ ls) names at e h =
     let grouped = e ∙ append_assoc l.name (0 ∷ []) (closed_names ls) in
     let name = ap (λ (t : List ℕ). before_first (λ byte. byte == 0) t) grouped ∙ name-is l.name (closed_names ls) (front-no-nul l.name (joined_names ls) h) in
-    let behind = behind-part names (closed l.name) (closed_names ls) at (at + length (closed l.name)) e refl in
-    let others = symbols-are ls names (at + length (closed l.name)) behind (back-no-nul l.name (joined_names ls) h) in
+    let after = after-part names (closed l.name) (closed_names ls) at (at + length (closed l.name)) e refl in
+    let others = symbols-are ls names (at + length (closed l.name)) after (back-no-nul l.name (joined_names ls) h) in
     ap (λ (n : List ℕ). symbol_with n l.value 0 ∷ map (symbol_read names) (entries_read (at + length (closed l.name)) ls)) name
     ∙ ap (λ (s : List NamedSymbol). symbol_with l.name l.value 0 ∷ s) others
 

@@ -27,7 +27,7 @@ use Rattle.elf_make.specs.Symbols.{in_order, closed_names, names, entries_from, 
 use Rattle.elf_make.specs.Files.{sizes_of, front, elf_file}
 use Rattle.elf_make.specs.Viewed.{text_segment, data_segment, no_symbol, symbol_of, IsView}
 use Rattle.elf_make.proofs.Counts.{length-order, length-symbol_names, length-in_order}
-use Rattle.elf_make.proofs.Located.{part-at, behind-part}
+use Rattle.elf_make.proofs.Located.{part-at, after-part}
 use Rattle.elf_make.proofs.Placed.{file-is, from_text, from_text_padding, from_data_padding, from_names, from_section_names, text-placed, data-placed, symbols-placed, names-placed, sections-placed, length-file, small-sizes, AreOrdered, ordered}
 use Rattle.elf_make.proofs.HeadersRead.{header_with, load_with, two_programs, header-is, programs-are}
 use Rattle.elf_make.proofs.SectionsRead.{section_with, symbols_header, names_header, some-sections, table-is, symbols-read, names-read}
@@ -92,9 +92,9 @@ symbol-entries o h a =
     let count : symbols_len (sizes_of o) / 16 ≡ suc (length ls) = omega (arith, length-order o.labels) in
     let grouped = symbols-placed o ∙ append_assoc (replicate 16 0) (entries_from 1 ls) (from_names o) in
     let first = entry-in f (replicate 16 0 ++ (entries_from 1 ls ++ from_names o)) at grouped ∙ none-is (entries_from 1 ls ++ from_names o) in
-    let behind = behind-part f (replicate 16 0) (entries_from 1 ls ++ from_names o) at (at + 16) grouped refl in
+    let after = after-part f (replicate 16 0) (entries_from 1 ls ++ from_names o) at (at + 16) grouped refl in
     let small = small-sizes o h in
-    let others = entries-are ls f (from_names o) (at + 16) 1 behind a (omega (arith, small.names, length-symbol_names o.labels, length-in_order o.labels)) in
+    let others = entries-are ls f (from_names o) (at + 16) 1 after a (omega (arith, small.names, length-symbol_names o.labels, length-in_order o.labels)) in
     ap (λ (n : ℕ). entries symbol_entry 16 f at n) count
     ∙ ap (λ (e : SymbolEntry). e ∷ entries symbol_entry 16 f (at + 16) (length ls)) first
     ∙ ap (λ (es : List SymbolEntry). record { name = 0; value = 0; size = 0 } ∷ es) others

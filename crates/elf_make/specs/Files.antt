@@ -3,7 +3,7 @@ use Rattle.std.specs.Prelude.{ℕ, false, List, ◌++◌, length}
 use Rattle.rv_asm.specs.declared.object.Object.{Object}
 use Rattle.rv_asm.specs.Labels.{Named}
 use Rattle.elf_make.specs.declared.sizes.Sizes.{Sizes}
-use Rattle.elf_make.specs.Sizes.{zeros_behind, section_names_end}
+use Rattle.elf_make.specs.Sizes.{zeros_after, section_names_end}
 use Rattle.elf_make.specs.Headers.{file_header, program_headers, section_headers}
 use Rattle.elf_make.specs.Symbols.{bound, names, symbol_table, section_names}
 
@@ -24,12 +24,12 @@ front s entry = file_header s entry ++ program_headers s
 -- text and data, each with zeros after it
 unfoldable pub contents : (text data_bytes : List ℕ) → List ℕ
 contents text data_bytes =
-    text ++ zeros_behind (length text) ++ data_bytes ++ zeros_behind (length data_bytes)
+    text ++ zeros_after (length text) ++ data_bytes ++ zeros_after (length data_bytes)
 
 -- the symbols and all names, with zeros after them
 unfoldable pub tables : List Named → Sizes → List ℕ
 tables labels s =
-    symbol_table labels ++ names labels ++ section_names ++ zeros_behind (section_names_end s)
+    symbol_table labels ++ names labels ++ section_names ++ zeros_after (section_names_end s)
 
 -- the whole file
 unfoldable pub elf_file : Object → List ℕ

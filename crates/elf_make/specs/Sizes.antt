@@ -7,8 +7,8 @@ abbrev pub padding : ℕ → ℕ
 padding len = (4 - len % 4) % 4
 
 -- that many zeros
-abbrev pub zeros_behind : ℕ → List ℕ
-zeros_behind len = replicate (padding len) 0
+abbrev pub zeros_after : ℕ → List ℕ
+zeros_after len = replicate (padding len) 0
 
 -- the length with them
 abbrev pub padded : ℕ → ℕ

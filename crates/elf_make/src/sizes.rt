@@ -61,9 +61,9 @@ fn closed_names_len(labels: &[Label]) -> usize
 {
     let mut len = 0;
     let mut rest = labels;
-    while let [label, behind @ ..] = rest {
+    while let [label, after @ ..] = rest {
         len += label.name.as_str().len() + 1;
-        rest = behind;
+        rest = after;
     }
     len
 }

@@ -58,7 +58,7 @@ fn push_bound_entry(
 ) -> Result<u32, AllocError>
     requires { name + length (closed (named label.now).name) ≤ 4000000 }
     ensures entries { OnOk result (file.new.items ≡ file.old.items ++ entries_from name (bound global (named label.now ∷ []))) }
-    ensures behind { IfOk result (λ end. end ≡ name + length (closed_names (bound global (named label.now ∷ [])))) }
+    ensures after { IfOk result (λ end. end ≡ name + length (closed_names (bound global (named label.now ∷ [])))) }
     ensures address { OnOk result (are_addresses (bound global (named label.now ∷ [])) ≡ true) }
 {
     if !is_bound(global, label) {
@@ -78,14 +78,14 @@ fn push_entries(
 ) -> Result<u32, AllocError>
     requires { start + length (closed_names (map named labels.now)) ≤ 4000000 }
     ensures entries { OnOk result (file.new.items ≡ file.old.items ++ entries_from start (bound global (map named labels.now))) }
-    ensures behind { IfOk result (λ end. end ≡ start + length (closed_names (bound global (map named labels.now)))) }
+    ensures after { IfOk result (λ end. end ≡ start + length (closed_names (bound global (map named labels.now)))) }
     ensures addresses { OnOk result (are_addresses (bound global (map named labels.now)) ≡ true) }
 {
     let mut name = start;
     let mut rest = labels;
-    while let [label, behind @ ..] = rest {
+    while let [label, after @ ..] = rest {
         name = push_bound_entry(file, name, label, global)?;
-        rest = behind;
+        rest = after;
     }
     Ok(name)
 }
@@ -107,9 +107,9 @@ fn push_bound_names(file: &mut Vec<u8>, labels: &[Label], global: bool) -> Resul
     ensures { OnOk result (file.new.items ≡ file.old.items ++ closed_names (bound global (map named labels.now))) }
 {
     let mut rest = labels;
-    while let [label, behind @ ..] = rest {
+    while let [label, after @ ..] = rest {
         push_bound_name(file, label, global)?;
-        rest = behind;
+        rest = after;
     }
     Ok(())
 }

@@ -3,7 +3,7 @@
 ghost use Rattle.std.specs.Prelude.{◌≡◌, ◌≤◌, ◌++◌, length, map, IfOk, OnOk, true};
 ghost use Rattle.rv_asm.specs.Small.{IsSmall};
 ghost use Rattle.rv_asm.specs.Labels.{named};
-ghost use Rattle.elf_make.specs.Sizes.{AreSmall, zeros_behind};
+ghost use Rattle.elf_make.specs.Sizes.{AreSmall, zeros_after};
 ghost use Rattle.elf_make.specs.Symbols.{closed_names, in_order, are_addresses};
 ghost use Rattle.elf_make.specs.Viewed.{IsView};
 ghost use Rattle.elf_make.specs.Files.{front, contents, tables, elf_file};
@@ -16,7 +16,7 @@ use std::alloc::{AllocError, Global};
 
 /// Puts zeros after something of this length, up to a multiple of 4.
 fn push_zeros(file: &mut Vec<u8>, len: u32) -> Result<(), AllocError>
-    ensures { OnOk result (file.new.items ≡ file.old.items ++ zeros_behind len) }
+    ensures { OnOk result (file.new.items ≡ file.old.items ++ zeros_after len) }
 {
     for _ in 0..padding(len) {
         file.push(0)?;
@@ -27,7 +27,7 @@ fn push_zeros(file: &mut Vec<u8>, len: u32) -> Result<(), AllocError>
 /// Puts bytes, and zeros after them.
 fn push_content(file: &mut Vec<u8>, bytes: &[u8]) -> Result<(), AllocError>
     requires { length bytes.now ≤ 1048576 }
-    ensures { OnOk result (file.new.items ≡ file.old.items ++ bytes.now ++ zeros_behind (length bytes.now)) }
+    ensures { OnOk result (file.new.items ≡ file.old.items ++ bytes.now ++ zeros_after (length bytes.now)) }
 {
     file.extend_from_slice(bytes)?;
     push_zeros(file, bytes.len() as u32)

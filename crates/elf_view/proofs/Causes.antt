@@ -113,12 +113,12 @@ earlier file at size (suc k) index fits below others = let there : ((at + size) 
 
 -- one place of a list of places
 cut_at : (file : List ℕ) (at size count place : ℕ) (t : Bool) (o : Option ℕ) → nat_lt (length file) (at + size) ≡ t → cond t (Some at) o ≡ Some place → (at + size ≤ length file → o ≡ Some place → IsFirstCut file (at + size) size count place) → IsFirstCut file at size (suc count) place
-cut_at file at size count place true o e told behind =
+cut_at file at size count place true o e told after =
     let here : at ≡ place = cc in
     record { index = 0; within = omega arith; begins = omega arith; beyond = grind (arith, nat_tests); first = λ k below. absurd (omega arith) }
-cut_at file at size count place false o e told behind =
+cut_at file at size count place false o e told after =
     let fits : at + size ≤ length file = grind (arith, nat_tests) in
-    let r = behind fits told in
+    let r = after fits told in
     let step : size * (r.index + 1) ≡ size * r.index + size = grind arith in
     let begins : place ≡ (at + size) + size * r.index = r.begins in
     record {

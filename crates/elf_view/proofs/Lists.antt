@@ -3,10 +3,10 @@ use Rattle.std.proofs.Common.{◌≡◌, suc, List, [], ◌∷◌, All, Option, 
 use Rattle.std.specs.Prelude.{MatchOption}
 
 -- what holds of each element holds of those after the first
-all_behind : {X : Type 0} (P : X → Type 0) (x : X) (xs : List X) → All P (x ∷ xs) → All P xs
-all_behind P x xs all k d within = all (suc k) d (omega arith)
+all_after : {X : Type 0} (P : X → Type 0) (x : X) (xs : List X) → All P (x ∷ xs) → All P xs
+all_after P x xs all k d within = all (suc k) d (omega arith)
 
 -- what holds of each element that is left holds of those that are left after the next
 pub all_left : {X : Type 0} (P : X → Type 0) (r : Option X) (old new : List X) → MatchOption r ((old ≡ []) × (new ≡ [])) (λ x. old ≡ x ∷ new) → All P old → All P new
 all_left {X = X} P None old new e all = subst (λ (xs : List X). All P xs) (sym e.1) (λ k d within. absurd (omega arith))
-all_left {X = X} P (Some x) old new e all = all_behind P x new (subst (λ (xs : List X). All P xs) e all)
+all_left {X = X} P (Some x) old new e all = all_after P x new (subst (λ (xs : List X). All P xs) e all)

@@ -25,13 +25,13 @@ pub goes_to_end : (text : List ℕ) → None ≡ position (λ byte. byte == 0) t
 goes_to_end text e = sym (take_all _ text (none_told (nat_lt (position_or_len is_nul text) (length text)) (position_or_len is_nul text) (length text) refl (sym e)))
 
 -- a text that begins with NUL ends there
-ended : (byte : ℕ) (behind : List ℕ) → is_nul byte ≡ true → length (first_text (byte ∷ behind)) ≡ 0
-ended byte behind e = rw e refl
+ended : (byte : ℕ) (after : List ℕ) → is_nul byte ≡ true → length (first_text (byte ∷ after)) ≡ 0
+ended byte after e = rw e refl
 
 -- and any other has at least its first byte
-begun : (byte : ℕ) (behind : List ℕ) → is_nul byte ≡ false → 1 ≤ length (first_text (byte ∷ behind))
-begun byte behind e =
-    let count = prefix_len (λ b. not (b == 0)) behind in
+begun : (byte : ℕ) (after : List ℕ) → is_nul byte ≡ false → 1 ≤ length (first_text (byte ∷ after))
+begun byte after e =
+    let count = prefix_len (λ b. not (b == 0)) after in
     let one : 1 + count ≡ suc count = omega arith in
     rw (e, one) (omega arith)
 
@@ -42,6 +42,6 @@ by_first byte n false e none some = let h = some e in grind (arith, nat_tests)
 -- a name is not empty where its first byte is not NUL
 pub named_first : (names : List ℕ) → 1 ≤ length names → not (slice_index_or names 0 0 == 0) ≡ not (length (first_text names) == 0)
 named_first [] some = absurd (omega arith)
-named_first (byte ∷ behind) some = by_first byte (length (first_text (byte ∷ behind))) (is_nul byte) refl (ended byte behind) (begun byte behind)
+named_first (byte ∷ after) some = by_first byte (length (first_text (byte ∷ after))) (is_nul byte) refl (ended byte after) (begun byte after)
 
 pub ruleset names = (named_first)

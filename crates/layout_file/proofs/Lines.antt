@@ -23,4 +23,4 @@ next_siding plan i within = rw (add-one) (next_at plan.sidings i within)
 
 -- after the last siding there are none
 pub no_siding_left : (plan : Plan) (i : ℕ) → length plan.sidings ≤ i → siding_lines (drop i plan.sidings) ≡ []
-no_siding_left plan i behind = rw (drop_all i plan.sidings behind) refl
+no_siding_left plan i after = rw (drop_all i plan.sidings after) refl

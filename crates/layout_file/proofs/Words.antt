@@ -13,8 +13,8 @@ AllSmall (c ∷ cs) = IsComputed c × AllSmall cs
 
 -- a class, or what comes after it, is computed where both are
 either : (b : Bool) (c : Class) (rest : Option Class) → IsComputed c → IfSome rest IsComputed → IfSome (cond b (Some c) rest) IsComputed
-either true c rest here behind = here
-either false c rest here behind = behind
+either true c rest here after = here
+either false c rest here after = after
 
 -- so is what is found among them
 pub found_computed : (classes : List Class) (word : List ℕ) → AllSmall classes → IfSome (class_among classes word) IsComputed

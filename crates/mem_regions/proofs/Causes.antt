@@ -30,8 +30,8 @@ pub wraps-in : (p : Part) → wraps p ≡ false → ¬ Wraps p
 wraps-in p e = λ h. grind (arith, nat_tests)
 
 -- an index at or after another is that one or comes after it
-here_or_behind : (m n : ℕ) → m ≤ n → (n ≡ m) ⊎ (m + 1 ≤ n)
-here_or_behind m n le = grind arith
+here_or_after : (m n : ℕ) → m ≤ n → (n ≡ m) ⊎ (m + 1 ≤ n)
+here_or_after m n le = grind arith
 
 -- a part to use as a default
 abbrev no_part : Part
@@ -85,17 +85,17 @@ found_here before p ps k e = record {
 }
 
 -- parts apart, by whether the second is the part itself or comes after it
-behind_second : (before : List Part) (p : Part) (ps : List Part) (i j : ℕ) → position (λ b. overlaps b p) before ≡ None → IsOverlapFrom (before ++ p ∷ ps) (length before + 1) i j → (k n : ℕ) → k < n → length before ≤ n → n < j → (n ≡ length before) ⊎ (length before + 1 ≤ n) → ApartAt (before ++ p ∷ ps) k n
-behind_second before p ps i j e r k n below from to (inl here) = rw here (apart_here before p ps k e (omega arith))
-behind_second before p ps i j e r k n below from to (inr behind) = r.least_second k n below behind to
+after_second : (before : List Part) (p : Part) (ps : List Part) (i j : ℕ) → position (λ b. overlaps b p) before ≡ None → IsOverlapFrom (before ++ p ∷ ps) (length before + 1) i j → (k n : ℕ) → k < n → length before ≤ n → n < j → (n ≡ length before) ⊎ (length before + 1 ≤ n) → ApartAt (before ++ p ∷ ps) k n
+after_second before p ps i j e r k n below from to (inl here) = rw here (apart_here before p ps k e (omega arith))
+after_second before p ps i j e r k n below from to (inr after) = r.least_second k n below after to
 
 -- where a part overlaps none before it, the first overlap after it is the first from it on
-found_behind : (before : List Part) (p : Part) (ps : List Part) (i j : ℕ) → position (λ b. overlaps b p) before ≡ None → IsOverlapFrom (before ++ p ∷ ps) (length before + 1) i j → IsOverlapFrom (before ++ p ∷ ps) (length before) i j
-found_behind before p ps i j e r = record {
+found_after : (before : List Part) (p : Part) (ps : List Part) (i j : ℕ) → position (λ b. overlaps b p) before ≡ None → IsOverlapFrom (before ++ p ∷ ps) (length before + 1) i j → IsOverlapFrom (before ++ p ∷ ps) (length before) i j
+found_after before p ps i j e r = record {
   before = r.before;
   within = r.within;
   share = r.share;
-  least_second = λ k n below from to. behind_second before p ps i j e r k n below from to (here_or_behind (length before) n from);
+  least_second = λ k n below from to. after_second before p ps i j e r k n below from to (here_or_after (length before) n from);
   least_first = r.least_first;
 }
 
@@ -108,9 +108,9 @@ one_more : (before : List Part) (p : Part) → length (before ++ p ∷ []) ≡ l
 one_more before p = length-append before (p ∷ [])
 
 -- the first overlap from a part on, by whether the part overlaps one before it
-found_step : (before : List Part) (p : Part) (ps : List Part) (i j : ℕ) (o : Option ℕ) (behind : Option LoadErr) → position (λ b. overlaps b p) before ≡ o → overlap_or o (length before) behind ≡ Some (Overlap i j) → (behind ≡ Some (Overlap i j) → IsOverlapFrom (before ++ p ∷ ps) (length before + 1) i j) → IsOverlapFrom (before ++ p ∷ ps) (length before) i j
-found_step before p ps i j None behind e h later = found_behind before p ps i j e (later h)
-found_step before p ps i j (Some k) behind e h later =
+found_step : (before : List Part) (p : Part) (ps : List Part) (i j : ℕ) (o : Option ℕ) (after : Option LoadErr) → position (λ b. overlaps b p) before ≡ o → overlap_or o (length before) after ≡ Some (Overlap i j) → (after ≡ Some (Overlap i j) → IsOverlapFrom (before ++ p ∷ ps) (length before + 1) i j) → IsOverlapFrom (before ++ p ∷ ps) (length before) i j
+found_step before p ps i j None after e h later = found_after before p ps i j e (later h)
+found_step before p ps i j (Some k) after e h later =
     let first : k ≡ i = cc in let second : length before ≡ j = cc in
     subst (λ (n : ℕ). IsOverlapFrom (before ++ p ∷ ps) (length before) i n) second
     (subst (λ (n : ℕ). IsOverlapFrom (before ++ p ∷ ps) (length before) n (length before)) first (found_here before p ps k e))
@@ -133,14 +133,14 @@ abbrev ApartFrom : List Part → ℕ → Type 0
 ApartFrom whole from = (k n : ℕ) → k < n → from ≤ n → n < length whole → ApartAt whole k n
 
 -- the same by whether the second is the part itself or comes after it
-behind_apart : (before : List Part) (p : Part) (ps : List Part) → position (λ b. overlaps b p) before ≡ None → ApartFrom (before ++ p ∷ ps) (length before + 1) → (k n : ℕ) → k < n → n < length (before ++ p ∷ ps) → (n ≡ length before) ⊎ (length before + 1 ≤ n) → ApartAt (before ++ p ∷ ps) k n
-behind_apart before p ps e later k n below to (inl here) = rw here (apart_here before p ps k e (omega arith))
-behind_apart before p ps e later k n below to (inr behind) = later k n below behind to
+after_apart : (before : List Part) (p : Part) (ps : List Part) → position (λ b. overlaps b p) before ≡ None → ApartFrom (before ++ p ∷ ps) (length before + 1) → (k n : ℕ) → k < n → n < length (before ++ p ∷ ps) → (n ≡ length before) ⊎ (length before + 1 ≤ n) → ApartAt (before ++ p ∷ ps) k n
+after_apart before p ps e later k n below to (inl here) = rw here (apart_here before p ps k e (omega arith))
+after_apart before p ps e later k n below to (inr after) = later k n below after to
 
 -- a part and those after it are apart from all before them where the test finds no overlap
-apart_step : (before : List Part) (p : Part) (ps : List Part) (o : Option ℕ) (behind : Option LoadErr) → position (λ b. overlaps b p) before ≡ o → overlap_or o (length before) behind ≡ None → (behind ≡ None → ApartFrom (before ++ p ∷ ps) (length before + 1)) → ApartFrom (before ++ p ∷ ps) (length before)
-apart_step before p ps None behind e h later = λ k n below from to. behind_apart before p ps e (later h) k n below to (here_or_behind (length before) n from)
-apart_step before p ps (Some k) behind e h later = cc
+apart_step : (before : List Part) (p : Part) (ps : List Part) (o : Option ℕ) (after : Option LoadErr) → position (λ b. overlaps b p) before ≡ o → overlap_or o (length before) after ≡ None → (after ≡ None → ApartFrom (before ++ p ∷ ps) (length before + 1)) → ApartFrom (before ++ p ∷ ps) (length before)
+apart_step before p ps None after e h later = λ k n below from to. after_apart before p ps e (later h) k n below to (here_or_after (length before) n from)
+apart_step before p ps (Some k) after e h later = cc
 
 -- the same for all parts from the index on where the test begins
 apart_from : (whole before ps : List Part) → before ++ ps ≡ whole → overlap_from before ps ≡ None → ApartFrom whole (length before)
@@ -194,10 +194,10 @@ TellsOverlap (Some (Overlap i j)) = Unit
 TellsOverlap None = Unit
 
 -- an overlap, or what the later parts give
-tells-overlap_or : (o : Option ℕ) (j : ℕ) (behind : Option LoadErr) → TellsOverlap behind → TellsOverlap (overlap_or o j behind)
+tells-overlap_or : (o : Option ℕ) (j : ℕ) (after : Option LoadErr) → TellsOverlap after → TellsOverlap (overlap_or o j after)
 unfolding TellsOverlap
-tells-overlap_or None j behind t = t
-tells-overlap_or (Some i) j behind t = tt
+tells-overlap_or None j after t = t
+tells-overlap_or (Some i) j after t = tt
 
 -- from each index on
 tells-overlap_from : (before ps : List Part) → TellsOverlap (overlap_from before ps)

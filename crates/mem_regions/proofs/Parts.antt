@@ -43,8 +43,8 @@ unfolding first_overlap
 overlap_here parts j p i within so_far here = rw (← so_far, overlap_step parts j p within, ← here) refl
 
 -- where the part overlaps none before it, the first overlap comes after it
-pub overlap_behind : (parts : List Part) (j : ℕ) (p : Part) → j < length parts → overlap_from (take j parts) (drop j parts) ≡ overlap_from [] parts → position (λ b. overlaps b (get_or parts j p)) (take j parts) ≡ None → overlap_from (take (j + 1) parts) (drop (j + 1) parts) ≡ overlap_from [] parts
-overlap_behind parts j p within so_far none = rw (← so_far, overlap_step parts j p within, none) refl
+pub overlap_after : (parts : List Part) (j : ℕ) (p : Part) → j < length parts → overlap_from (take j parts) (drop j parts) ≡ overlap_from [] parts → position (λ b. overlaps b (get_or parts j p)) (take j parts) ≡ None → overlap_from (take (j + 1) parts) (drop (j + 1) parts) ≡ overlap_from [] parts
+overlap_after parts j p within so_far none = rw (← so_far, overlap_step parts j p within, none) refl
 
 -- a refusal as an answer gives it
 told_again : Option LoadErr → Option LoadErr
@@ -76,10 +76,10 @@ told-too_large true n = refl
 told-too_large false n = refl
 
 -- so is that of a part that overlaps one before it
-told-overlap_or : (o : Option ℕ) (j : ℕ) (behind : Option LoadErr) → told_again behind ≡ behind → told_again (overlap_or o j behind) ≡ overlap_or o j behind
+told-overlap_or : (o : Option ℕ) (j : ℕ) (after : Option LoadErr) → told_again after ≡ after → told_again (overlap_or o j after) ≡ overlap_or o j after
 unfolding told_again
-told-overlap_or None j behind e = e
-told-overlap_or (Some i) j behind e = refl
+told-overlap_or None j after e = e
+told-overlap_or (Some i) j after e = refl
 
 -- so is that of overlapping parts
 told-overlap : (before parts : List Part) → told_again (overlap_from before parts) ≡ overlap_from before parts

@@ -25,14 +25,14 @@ place_here : {A : Type 0} (p : A → Bool) (x : A) (xs : List A) (d : A) → p x
 place_here p x xs d e = record { below = omega arith; passes = e; found = rw e refl; any = rw e refl; changed = λ f. rw e refl }
 
 -- the first element fails, and the place comes after it
-place_behind : {A : Type 0} (p : A → Bool) (x : A) (xs : List A) (i : ℕ) (d : A) → p x ≡ false → IsPlace p xs i d → IsPlace p (x ∷ xs) (suc i) d
-place_behind p x xs i d e r = record { below = let b = r.below in omega arith; passes = r.passes; found = rw e r.found; any = rw e r.any; changed = λ f. rw e (ap (λ ys. x ∷ ys) (r.changed f)) }
+place_after : {A : Type 0} (p : A → Bool) (x : A) (xs : List A) (i : ℕ) (d : A) → p x ≡ false → IsPlace p xs i d → IsPlace p (x ∷ xs) (suc i) d
+place_after p x xs i d e r = record { below = let b = r.below in omega arith; passes = r.passes; found = rw e r.found; any = rw e r.any; changed = λ f. rw e (ap (λ ys. x ∷ ys) (r.changed f)) }
 
 -- by whether the first element passes
 place_step : {A : Type 0} (p : A → Bool) (x : A) (xs : List A) (i : ℕ) (d : A) (b : Bool) (rest : Option ℕ) → p x ≡ b → Some i ≡ cond b (Some 0) (option_map (λ n. suc n) rest) → ((j : ℕ) → Some j ≡ rest → IsPlace p xs j d) → IsPlace p (x ∷ xs) i d
 place_step p x xs i d true rest e h k = let same : 0 ≡ i = cc in subst (λ (n : ℕ). IsPlace p (x ∷ xs) n d) same (place_here p x xs d e)
 place_step p x xs i d false None e h k = cc
-place_step p x xs i d false (Some j) e h k = let same : suc j ≡ i = cc in subst (λ (n : ℕ). IsPlace p (x ∷ xs) n d) same (place_behind p x xs j d e (k j refl))
+place_step p x xs i d false (Some j) e h k = let same : suc j ≡ i = cc in subst (λ (n : ℕ). IsPlace p (x ∷ xs) n d) same (place_after p x xs j d e (k j refl))
 
 -- what the index of the first that passes says
 pub place_of : {A : Type 0} (p : A → Bool) (xs : List A) (i : ℕ) (d : A) → Some i ≡ position p xs → IsPlace p xs i d

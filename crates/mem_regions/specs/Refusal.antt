@@ -39,8 +39,8 @@ too_large parts = if nat_lt 67108864 (total_size parts) then Some (TooLarge (tot
 
 -- the first overlap of a part with those before it, or else that of the later parts
 abbrev pub overlap_or : Option ℕ → ℕ → Option LoadErr → Option LoadErr
-overlap_or None j behind = behind
-overlap_or (Some i) j behind = Some (Overlap i j)
+overlap_or None j after = after
+overlap_or (Some i) j after = Some (Overlap i j)
 
 -- the first overlap whose second part comes after the parts `before`
 abbrev pub overlap_from : List Part → List Part → Option LoadErr

@@ -86,7 +86,7 @@ fn a_range_lies_in_one_region(rt: HostRuntime) {
         "over two regions that touch"
     );
     assert!(rt; memory.part(112, 0).is_some(), "empty, at the end");
-    assert!(rt; memory.part(113, 0).is_none(), "empty, behind the end");
+    assert!(rt; memory.part(113, 0).is_none(), "empty, after the end");
 }
 
 #[test]

@@ -94,7 +94,7 @@ fn spell(bytes: &[u8], words: &[u32]) -> bool {
     let mut rest = bytes;
     for word in words {
         match rest.strip_prefix(&word.to_le_bytes()) {
-            Some(behind) => rest = behind,
+            Some(after) => rest = after,
             None => return false,
         }
     }

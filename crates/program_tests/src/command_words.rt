@@ -4,7 +4,7 @@ use std::alloc::{AllocError, Global};
 use std::process::Abort;
 
 /// The words of a line, each of which ends at a blank or at the end of the line: a last word that is empty has a blank
-/// behind it too.
+/// after it too.
 fn owned(alloc: Global, line: &str) -> Result<Vec<String>, AllocError> {
     let mut owned = Vec::new(alloc);
     for word in line.split_terminator(' ') {

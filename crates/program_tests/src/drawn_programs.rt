@@ -69,7 +69,7 @@ L4:
 }
 
 #[test]
-fn output_fails_behind_the_first_statement(rt: HostRuntime) {
+fn output_fails_after_the_first_statement(rt: HostRuntime) {
     let mut out = sink_of(&rt, 1000, &[3]);
     assert!(rt; generate(3, &mut out) == Err(Failed));
     assert!(rt; out.bytes().ends_with(b"L1:\n    or x15, x12, x8\n"));

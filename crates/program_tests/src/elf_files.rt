@@ -187,7 +187,7 @@ const LABELS: [(usize, u32); 26] = [
     // The names.
     (52, 0x6572_6f00),
     (56, 0x0000_7473),
-    // The symbols behind the empty one.
+    // The symbols after the empty one.
     (80, 1),
     (84, 0x0001_0000),
     (88, 8),

@@ -8,7 +8,7 @@ use std::alloc::Global;
 use std::io::{self, Read};
 use std::process::Abort;
 
-/// The answer of a take into a slice of four zeros, and the slice behind it.
+/// The answer of a take into a slice of four zeros, and the slice after it.
 type Taken = (Result<usize, Failed>, [u8; 4]);
 
 /// Whether two takes through the trait, each into a fresh slice of four, are these.

@@ -15,7 +15,7 @@ fn assert_moves(rt: &impl Abort, candidates: &Candidates, moves: &[Move]) {
 }
 
 /// With the first instruction in stage 2, where it can be executed or passed on, the branch can be issued by three guesses.
-const BEHIND: [Move; 5] = [
+const AFTER: [Move; 5] = [
     Move::Issue(Guess::Next),
     Move::Issue(Guess::Taken),
     Move::Issue(Guess::Wait),
@@ -23,17 +23,17 @@ const BEHIND: [Move; 5] = [
     Move::Execute(2),
 ];
 
-/// Of these candidates Climb(2) has the last behind it, and Serve, which is behind them all, the first. Holding back takes the
+/// Of these candidates Climb(2) has the last after it, and Serve, which comes after them all, the first. Holding back takes the
 /// Issues out.
-fn assert_behind(rt: &impl Abort, candidates: &mut Candidates) {
-    assert_moves(rt, candidates, &BEHIND);
+fn assert_after(rt: &impl Abort, candidates: &mut Candidates) {
+    assert_moves(rt, candidates, &AFTER);
     assert!(rt;
-        candidates.first_behind(Some(Move::Climb(2))) == 4,
-        "behind Climb(2)"
+        candidates.first_after(Some(Move::Climb(2))) == 4,
+        "after Climb(2)"
     );
     assert!(rt;
-        candidates.first_behind(Some(Move::Serve)) == 0,
-        "behind Serve"
+        candidates.first_after(Some(Move::Serve)) == 0,
+        "after Serve"
     );
     candidates.hold();
     assert_moves(rt, candidates, &[Move::Climb(2), Move::Execute(2)]);
@@ -41,12 +41,12 @@ fn assert_behind(rt: &impl Abort, candidates: &mut Candidates) {
 
 /// At first nothing but the first Issue can be made.
 #[test]
-fn an_instruction_and_the_branch_behind_it(rt: HostRuntime) {
+fn an_instruction_and_the_branch_after_it(rt: HostRuntime) {
     let mut core = core_of(&rt, plain(), BRANCH_BEHIND);
     let mut candidates = Candidates::new(rt.alloc()).expect(&rt, "memory");
     candidates.fill(&core);
     assert_moves(&rt, &candidates, &[Move::Issue(Guess::Next)]);
     enter_stage_2(&rt, &mut core);
     candidates.fill(&core);
-    assert_behind(&rt, &mut candidates);
+    assert_after(&rt, &mut candidates);
 }

@@ -137,10 +137,10 @@ const LEAVE: &[Leg] = &[
 
 /// The state after the moves, and others after them, in which nothing stands any more: the branch has retired, and fetch goes
 /// on at its target.
-fn drained(rt: &(impl Abort + AllocGlobal), moves: &[Leg], behind: &[Leg]) -> Core {
+fn drained(rt: &(impl Abort + AllocGlobal), moves: &[Leg], after: &[Leg]) -> Core {
     let mut core = guessed(rt);
     make_all(rt, &mut core, moves);
-    make_all(rt, &mut core, behind);
+    make_all(rt, &mut core, after);
     assert!(rt; core.drained(), "not drained");
     assert!(rt; core.fetch() == Fetch::Running(0x1_0010), "elsewhere");
     assert!(rt; core.retired() == 1, "another count of retired");

@@ -31,7 +31,7 @@ fn check_ascii(source: &[u8]) -> Result<(), AsmErr>
     let mut above = 0;
     let mut rest = source;
     while !rest.is_empty() {
-        let (line, behind) = cut_line(rest);
+        let (line, after) = cut_line(rest);
         above += 1;
         if !is_ascii(line) {
             return Err(AsmErr {
@@ -39,7 +39,7 @@ fn check_ascii(source: &[u8]) -> Result<(), AsmErr>
                 kind: AsmKind::NotAscii,
             });
         }
-        rest = behind;
+        rest = after;
     }
     Ok(())
 }

@@ -90,9 +90,9 @@ pub fn check_numbers(width: Width, text: &[u8]) -> Result<(), TextErr>
 {
     let mut rest = Some(text);
     while let Some(operands) = rest {
-        let (operand, behind) = cut_operand(operands);
+        let (operand, after) = cut_operand(operands);
         check_placeable(width, operand)?;
-        rest = behind;
+        rest = after;
     }
     Ok(())
 }

@@ -135,10 +135,10 @@ fn numbers(
     let mut bytes = Vec::new(alloc);
     let mut rest = Some(text);
     while let Some(operands) = rest {
-        let (operand, behind) = cut_operand(operands);
+        let (operand, after) = cut_operand(operands);
         let number = operand_value(labels, width, operand)?;
         push_number(&mut bytes, width, word_modulo(number))?;
-        rest = behind;
+        rest = after;
     }
     Ok(bytes)
 }

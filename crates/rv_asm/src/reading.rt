@@ -174,6 +174,6 @@ pub fn read_statement(pc: u32, text: &[u8]) -> Result<Item<'_>, AsmKind>
     if trim(text).is_empty() {
         return Ok(Item::Nothing);
     }
-    let (name, behind) = split_name(text);
-    read_named(name, pc, behind)
+    let (name, after) = split_name(text);
+    read_named(name, pc, after)
 }

@@ -83,13 +83,13 @@ pub fn second_look(alloc: Global, source: &[u8], labels: LabelTable) -> Result<O
     let mut above = 0;
     let mut rest = source;
     while !rest.is_empty() {
-        let (line, behind) = cut_line(rest);
+        let (line, later) = cut_line(rest);
         above += 1;
         match out.read(alloc, said(line)) {
             Ok(()) => {}
             Err(kind) => return Err(AsmErr { line: above, kind }),
         }
-        rest = behind;
+        rest = later;
     }
     Ok(out)
 }

@@ -29,7 +29,7 @@ fn cut_escaped(text: &[u8]) -> Option<(u8, &[u8])>
     ensures shorter { IfSome result (λ cut. length cut.1.now < length text.now) }
 {
     match text {
-        [byte, behind @ ..] => Some((escape(*byte)?, behind)),
+        [byte, after @ ..] => Some((escape(*byte)?, after)),
         [] => None,
     }
 }
@@ -43,10 +43,10 @@ fn cut_char(text: &[u8]) -> Option<(u8, &[u8])>
     ensures shorter { IfSome result (λ cut. length cut.1.now < length text.now) }
 {
     match text {
-        [byte, behind @ ..] => match *byte {
+        [byte, after @ ..] => match *byte {
             b'"' => None,
-            b'\\' => cut_escaped(behind),
-            plain => Some((plain, behind)),
+            b'\\' => cut_escaped(after),
+            plain => Some((plain, after)),
         },
         [] => None,
     }
@@ -60,9 +60,9 @@ fn open_string_len(text: &[u8]) -> Option<usize>
 {
     let mut count = 0;
     let mut rest = text;
-    while let Some((_, behind)) = cut_char(rest) {
+    while let Some((_, after)) = cut_char(rest) {
         count += 1;
-        rest = behind;
+        rest = after;
     }
     (rest == b"\"".as_slice()).then_some(count)
 }
@@ -83,9 +83,9 @@ fn push_open_string(bytes: &mut Vec<u8>, text: &[u8]) -> Result<bool, AllocError
         ≡ (if whole then Some bytes.new.items else None)) }
 {
     let mut rest = text;
-    while let Some((byte, behind)) = cut_char(rest) {
+    while let Some((byte, after)) = cut_char(rest) {
         bytes.push(byte)?;
-        rest = behind;
+        rest = after;
     }
     Ok(rest == b"\"".as_slice())
 }

@@ -189,14 +189,14 @@ pub acts-answered : (word value next : ℕ) (h new : Hart) (mem : Memory) (befor
     Does (retire (record h { mem = mem }) word next 10 value) (record h { mem = mem }) new result →
     Acts (Unit {0}) (λ rest. environment h word (call h.regs h.mem rest)) h new before after result
 unfolding retire Acts Serves
-acts-answered word value next h new mem before after result returns behind does =
+acts-answered word value next h new mem before after result returns following does =
     let outcome : List ℕ → Outcome Machine = λ rest. environment h word (call h.regs h.mem rest) in
     let P : Stepped → Type 0 = λ r. Acts (Unit {0}) outcome h new before after r in
     subst P (sym does.1) (record {
       rest = returns.rest;
       told = returns.told;
       next = record { hart = new; rest = returns.later; output = returns.added };
-      is = ap (environment h word) returns.is ∙ rw (does.0, behind) refl;
+      is = ap (environment h word) returns.is ∙ rw (does.0, following) refl;
       hart = refl;
       leaves = returns.leaves;
       spent = returns.spent;

@@ -20,14 +20,14 @@ tail-kept : (bytes new : List ℕ) (at len n : ℕ) → at + len ≤ length byte
 tail-kept bytes new at len n within size some same =
     let part : List ℕ = take len (drop at bytes) in
     let room : n ≤ length part = omega (arith, length-take-le len (drop at bytes), length-drop at bytes) in
-    let behind : drop n part ++ drop (at + len) bytes ≡ drop (at + n) bytes =
+    let following : drop n part ++ drop (at + len) bytes ≡ drop (at + n) bytes =
     rw (
       ← drop-drop len at bytes,
       ← drop-append-le n part (drop len (drop at bytes)) room,
       take-append-drop len (drop at bytes),
     ) (drop-drop n at bytes) in
     let front : length (take n new) ≡ n = length-take-le n new (omega (arith, size, some)) in
-    rw (size, front, ← behind, ← same, ← append_assoc (take n new) (drop n new) (drop (at + len) bytes), take-append-drop n new) refl
+    rw (size, front, ← following, ← same, ← append_assoc (take n new) (drop n new) (drop (at + len) bytes), take-append-drop n new) refl
 
 -- to write such a part over a slice is to write its front
 overwritten-front : (bytes new : List ℕ) (at len n : ℕ) → at + len ≤ length bytes →

@@ -14,13 +14,13 @@ use Rattle.rv_machine.specs.Decoded.{IsCacheOf}
 use Rattle.rv_machine.proofs.Keeping.{cache-same}
 
 -- the memory after a call
-abbrev memory_behind : Memory → Called → Memory
-memory_behind mem (Value answer) = answer.mem
-memory_behind mem (Exit status) = mem
+abbrev memory_after : Memory → Called → Memory
+memory_after mem (Value answer) = answer.mem
+memory_after mem (Exit status) = mem
 
 -- the call leaves the word at the address as it is
 abbrev Leaves : Memory → ℕ → Called → Type 0
-Leaves mem pc called = fetch_at (memory_behind mem called) pc ≡ fetch_at mem pc
+Leaves mem pc called = fetch_at (memory_after mem called) pc ≡ fetch_at mem pc
 
 either : (mem : Memory) (pc : ℕ) (b : Bool) (x y : Called) → Leaves mem pc x → Leaves mem pc y → Leaves mem pc (cond b x y)
 either mem pc true x y left right = left

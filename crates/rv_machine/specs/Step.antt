@@ -142,11 +142,11 @@ step_on isa h rest =
     if h.pc % 4 == 0 then fetched isa h rest (fetch_at h.mem h.pc) else Trap 0 h.pc h.pc
 
 -- the output of a step comes after that of the steps before
-abbrev pub behind : List ℕ → Outcome Machine → Outcome Machine
-behind output (Next m line) = Next (record m { output = output ++ m.output }) line
-behind output (Trap cause pc detail) = Trap cause pc detail
-behind output (Exit status) = Exit status
+abbrev pub after_output : List ℕ → Outcome Machine → Outcome Machine
+after_output output (Next m line) = Next (record m { output = output ++ m.output }) line
+after_output output (Trap cause pc detail) = Trap cause pc detail
+after_output output (Exit status) = Exit status
 
 -- one step of the machine that has this instruction set
 unfoldable pub step : Isa → Machine → Outcome Machine
-step isa m = behind m.output (step_on isa m.hart m.rest)
+step isa m = after_output m.output (step_on isa m.hart m.rest)

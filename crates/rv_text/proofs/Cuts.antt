@@ -6,10 +6,10 @@ use Rattle.std.proofs.lemmas.List.Splits.{length-slice_split}
 use Rattle.std.proofs.lemmas.Grind.{common_steps}
 
 -- the parts after the first stay as they are when an element is put onto the first
-onto_first-behind : (x : ℕ) (parts : List (List ℕ)) (k : ℕ) → get_or (onto_first x parts) (suc k) [] ≡ get_or parts (suc k) []
-onto_first-behind x [] zero = refl
-onto_first-behind x [] (suc k) = refl
-onto_first-behind x (part ∷ parts) k = refl
+onto_first-after : (x : ℕ) (parts : List (List ℕ)) (k : ℕ) → get_or (onto_first x parts) (suc k) [] ≡ get_or parts (suc k) []
+onto_first-after x [] zero = refl
+onto_first-after x [] (suc k) = refl
+onto_first-after x (part ∷ parts) k = refl
 
 onto_first-first : (x : ℕ) (parts : List (List ℕ)) → get_or (onto_first x parts) 0 [] ≡ x ∷ get_or parts 0 []
 onto_first-first x [] = refl
@@ -26,7 +26,7 @@ next_by : (b : Bool) (n k : ℕ) (x : ℕ) (xs : List ℕ) (parts : List (List �
     → get_or (f (drop (n + 1) xs)) k [] ≡ get_or parts (suc k) []
     → get_or (f (drop (cond (not b) (1 + n) 0 + 1) (x ∷ xs))) k [] ≡ get_or (cond b ([] ∷ parts) (onto_first x parts)) (suc k) []
 next_by true n k x xs parts rest f e ih = ap (λ l. get_or l k []) e
-next_by false n k x xs parts rest f e ih = rw drop_past (ih ∙ sym (onto_first-behind x parts k))
+next_by false n k x xs parts rest f e ih = rw drop_past (ih ∙ sym (onto_first-after x parts k))
 
 -- the pieces after the first are those of what follows the first comma
 next_suc : (p : ℕ → Bool) (xs : List ℕ) (k : ℕ) → get_or (slice_split p (after_first p xs)) k [] ≡ get_or (slice_split p xs) (suc k) []

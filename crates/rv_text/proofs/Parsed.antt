@@ -138,9 +138,9 @@ pub base_in-address : (z : ℤ) (r : ℕ) → IsWithin (2 ^ 11) z → r < 32 →
 unfolding base_in
 base_in-address z r h low =
     let small = (in_twelve z h).small in
-    let behind : drop (position_or_len is_open (address_text z r)) (address_text z r) ≡ 40 ∷ (register_text r ++ 41 ∷ []) =
+    let after : drop (position_or_len is_open (address_text z r)) (address_text z r) ≡ 40 ∷ (register_text r ++ 41 ∷ []) =
     rw (open_at z r small) (drop-append_seam (signed_decimal z) (40 ∷ (register_text r ++ 41 ∷ []))) in
-    ap (λ text. and_then (required BadRegister (enclosed text)) (λ inner. register_in (trimmed inner))) behind
+    ap (λ text. and_then (required BadRegister (enclosed text)) (λ inner. register_in (trimmed inner))) after
     ∙ ap (λ found. and_then (required BadRegister found) (λ inner. register_in (trimmed inner))) (close (register_text r))
     ∙ ap register_in (trimmed-solid (register_text r) (register_solid r low))
     ∙ register_in-text r low

@@ -33,11 +33,11 @@ use Rattle.rv_text.proofs.Written.{number_of-target, register_solid, target_soli
 use Rattle.rv_text.proofs.Parsed.{register_in-text, immediate_of-signed, immediate_solid, field_below-upper, field_below-set, address_text, address_is, offset_in-address, base_in-address, address_solid}
 
 -- a name, and the right number of operands after it
-statement_cut : (mnemonic : Mnemonic) (text behind : List ℕ) → IsCut text (name_of mnemonic) behind
-    → takes mnemonic (operand_count behind) ≡ true → statement_of text ≡ operands_read mnemonic behind
+statement_cut : (mnemonic : Mnemonic) (text after : List ℕ) → IsCut text (name_of mnemonic) after
+    → takes mnemonic (operand_count after) ≡ true → statement_of text ≡ operands_read mnemonic after
 unfolding statement_of statement_by
-statement_cut mnemonic text behind cut right =
-    rw (cut.name_is, (all_named mnemonic).found, cut.behind_is, right) refl
+statement_cut mnemonic text after cut right =
+    rw (cut.name_is, (all_named mnemonic).found, cut.after_is, right) refl
 
 -- a name alone
 statement_alone : (mnemonic : Mnemonic) → takes mnemonic 0 ≡ true → statement_of (name_of mnemonic ++ []) ≡ operands_read mnemonic []
@@ -184,9 +184,9 @@ address_written mnemonic first base imm =
 
 -- a fence, as it is written and read
 record IsFenced (mnemonic : Mnemonic) (plain rd rs1 set : ℕ) (operands : List Operand) : Type 0 where
-  behind : List ℕ
-  told : statement_of (name_of mnemonic ++ listed (codes " ") operands) ≡ operands_read mnemonic behind
-  form : fence_form plain behind ≡ Ok (rd, rs1, set)
+  after : List ℕ
+  told : statement_of (name_of mnemonic ++ listed (codes " ") operands) ≡ operands_read mnemonic after
+  form : fence_form plain after ≡ Ok (rd, rs1, set)
 
 abbrev found : ℕ → ℕ → ℕ → Result (ℕ × ℕ × ℕ) TextErr
 found a b c = Ok (a, b, c)
@@ -213,12 +213,12 @@ unfolding listed operand_text
 fenced mnemonic plain rd rs1 set true e none three r s h =
     let tests = all_true (nat_eq rd 0) (nat_eq rs1 0) (nat_eq set plain) e in
     record {
-      behind = [];
+      after = [];
       told = statement_alone mnemonic none;
       form = plain_read plain ∙ same_fields 0 0 plain rd rs1 set (is_plain rd 0 tests.0) (is_plain rs1 0 tests.1) (is_plain set plain tests.2);
     }
 fenced mnemonic plain rd rs1 set false e none three r s h = record {
-  behind = three_text (register_text rd) (register_text rs1) (signed_decimal (pos set));
+  after = three_text (register_text rd) (register_text rs1) (signed_decimal (pos set));
   told = statement_three mnemonic _ _ _ (register_solid rd r) (register_solid rs1 s) (set_solid set h) three;
   form = set_read plain rd rs1 set r s h;
 }

@@ -133,9 +133,9 @@ no_commas text h zero d low = refl
 no_commas text h (suc k) d low = solid_no_comma (get_or text k d) (passes_at is_solid text k d h.bytes (omega arith))
 
 -- the name, and what follows it
-pub record IsCut (text name behind : List ℕ) : Type 0 where
+pub record IsCut (text name after : List ℕ) : Type 0 where
   pub name_is : name_part text ≡ name
-  pub behind_is : operand_part text ≡ behind
+  pub after_is : operand_part text ≡ after
 
 pub cut_alone : (name : List ℕ) → IsSolid name → IsCut (name ++ []) name []
 unfolding name_part operand_part
@@ -147,7 +147,7 @@ cut_alone name h =
     let ended : drop (length name) name ≡ [] = drop_all (length name) name (omega arith) in
     rw append-nil (record {
       name_is = rw same front;
-      behind_is = rw (same, front) ended;
+      after_is = rw (same, front) ended;
     })
 
 pub cut_before : (name rest : List ℕ) → IsSolid name → Ends rest → IsCut (name ++ 32 ∷ rest) name (32 ∷ rest)
@@ -161,7 +161,7 @@ cut_before name rest h e =
     let front : before_first is_blank (name ++ 32 ∷ rest) ≡ name = rw at (take-append_seam name (32 ∷ rest)) in
     record {
       name_is = rw same front;
-      behind_is = rw (same, front) (drop-append_seam name (32 ∷ rest));
+      after_is = rw (same, front) (drop-append_seam name (32 ∷ rest));
     }
 
 -- two operands

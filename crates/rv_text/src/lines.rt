@@ -20,7 +20,7 @@ fn without_return(line: &[u8]) -> &[u8]
 pub fn cut_at(text: &[u8], index: usize) -> (&[u8], &[u8])
     requires { index < length text.now }
     ensures before { result.0.now ≡ take index text.now }
-    ensures behind { result.1.now ≡ drop (index + 1) text.now }
+    ensures after { result.1.now ≡ drop (index + 1) text.now }
     ensures within { length result.0.now ≤ length text.now }
     ensures shorter { length result.1.now < length text.now }
 {
@@ -37,8 +37,8 @@ pub fn cut_line(text: &[u8]) -> (&[u8], &[u8])
 {
     let end = find_byte(text, b'\n');
     if end < text.len() {
-        let (line, behind) = cut_at(text, end);
-        (without_return(line), behind)
+        let (line, after) = cut_at(text, end);
+        (without_return(line), after)
     } else {
         (text, &[])
     }

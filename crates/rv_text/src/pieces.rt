@@ -52,7 +52,7 @@ fn word_end(text: &[u8]) -> usize
 /// The name in a text, and what follows it.
 pub fn split_name(text: &[u8]) -> (&[u8], &[u8])
     ensures name { result.0.now ≡ name_part text.now }
-    ensures behind { result.1.now ≡ operand_part text.now }
+    ensures after { result.1.now ≡ operand_part text.now }
 {
     let text = trim(text);
     let end = word_end(text);
@@ -72,7 +72,7 @@ pub fn find_byte(text: &[u8], byte: u8) -> usize
     text.len()
 }
 
-fn behind_comma(text: &[u8]) -> &[u8]
+fn after_comma(text: &[u8]) -> &[u8]
     ensures { result.now ≡ after_first is_comma text.now }
 {
     let comma = find_byte(text, b',');
@@ -102,7 +102,7 @@ pub fn operand(text: &[u8], index: usize) -> &[u8]
 {
     let mut rest = text;
     for skipped in 0..index {
-        rest = behind_comma(rest);
+        rest = after_comma(rest);
     }
     trim(&rest[..find_byte(rest, b',')])
 }

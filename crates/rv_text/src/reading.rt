@@ -189,9 +189,9 @@ pub fn read_statement_of(mnemonic: Mnemonic, text: &[u8]) -> Result<Statement<'_
 pub fn read_statement(text: &[u8]) -> Result<Statement<'_>, TextErr>
     ensures { Reads result (statement_of text.now) }
 {
-    let (name, behind) = split_name(text);
+    let (name, after) = split_name(text);
     match Mnemonic::named(name) {
-        Some(mnemonic) => read_statement_of(mnemonic, behind),
+        Some(mnemonic) => read_statement_of(mnemonic, after),
         None => Err(TextErr::UnknownName),
     }
 }

@@ -29,7 +29,7 @@ use Rattle.cf_semantics.specs.moves.Bars.{bar}
 use Rattle.cf_semantics.specs.state.Column.{Down, Item, Up, column, column_from, packet_in}
 use Rattle.cf_semantics.specs.claims.Determined.{Drains, EndsAs, EndsAt, IsDrainedAt, IsEndedAt}
 use Rattle.cf_semantics.specs.claims.Refines.{gained}
-use Rattle.cf_semantics.specs.moves.Instructions.{Goes, Stops, behind, step_at, step_here}
+use Rattle.cf_semantics.specs.moves.Instructions.{Goes, Stops, after_step, step_at, step_here}
 use Rattle.cf_semantics.specs.state.Layouts.{isa_of}
 use Rattle.cf_semantics.specs.runs.Lines.{lines_at, retires}
 use Rattle.cf_semantics.specs.moves.Moves.{left, moved, next, without_passenger, written}
@@ -241,7 +241,7 @@ leave_total {rest} {out} l s x n b z e h k = go (leave_ready l s (bar_row l s Le
             let u : State = record s { cells = put_cell s.cells l.stages (without_passenger r.here); regs = written s.regs p.dst; retired = s.retired + 1 } in
             let same : t ≡ u = here ∙ left_on s l.stages r.here p d o in
             let st : step_at (isa_of l) x p.pc ≡ Goes y = sym (at_top (isa_of l) p (trail.top s x) refl (certain d)) ∙ q.1 in
-            let beh : y ≡ behind (step_at (isa_of l) x p.pc) x = rw st refl in
+            let beh : y ≡ after_step (step_at (isa_of l) x p.pc) x = rw st refl in
             let nx : p.next ≡ Some y.hart.pc = (sure_goes (isa_of l) p (trail.top s x) (r.over d) o (certain d)).1 ∙ ap (λ (v : Machine). Some v.hart.pc) (sym beh) in
             let f = live_way (isa_of l) s u x y l.stages p d (sure_pc (isa_of l) p (trail.top s x) x.hart.pc refl (certain d)) st (live_path (isa_of l) s u l.stages p x y beh refl d (r.over d) o r.nothing nx) in
             let g = walk_follows _ (Fits (isa_of l)) (past (isa_of l)) Follows (way_walk (isa_of l)) below _ _ f ways.1 in

@@ -23,9 +23,9 @@ pub record Follows (w v : Way) : Type 0 where
   pub lost : w.path.barred ≡ false → v.path.barred ≡ true → ahead w ≡ false
 
 -- off the path, or after a wrong guess, no passenger counts
-behind_lost : (isa : Isa) (i : ℕ) (p : Passenger) (w : Way) → w.path.barred ≡ false → ahead w ≡ false → sure.Fits isa (Up i p) w.path → ((past isa (Up i p) w).count ≡ w.count) × (ahead (past isa (Up i p) w) ≡ false) × ((past isa (Up i p) w).stop ≡ w.stop)
+after_lost : (isa : Isa) (i : ℕ) (p : Passenger) (w : Way) → w.path.barred ≡ false → ahead w ≡ false → sure.Fits isa (Up i p) w.path → ((past isa (Up i p) w).count ≡ w.count) × (ahead (past isa (Up i p) w) ≡ false) × ((past isa (Up i p) w).stop ≡ w.stop)
 unfolding past sure.Fits trail.past sure.SureAt follows stops
-behind_lost isa i p w b a h = grind arith
+after_lost isa i p w b a h = grind arith
 
 -- a rider is not counted below a barrier
 barred_count : (isa : Isa) (i : ℕ) (p : Passenger) (w : Way) → w.path.barred ≡ true → ((past isa (Up i p) w).count ≡ w.count) × ((past isa (Up i p) w).on ≡ w.on) × ((past isa (Up i p) w).stop ≡ w.stop)
@@ -68,7 +68,7 @@ rider_follows isa i p w v f h = go w.path.barred v.path.barred refl refl
         let wc : (past isa (Up i p) w).path.barred ≡ true = rw (past_path isa (Up i p) w) (barred_stays isa i p w.path a) in
         record { path = q; count = n.0 ∙ f.count ∙ sym m.0; stop = n.2 ∙ f.stop ∙ sym m.2; on = λ e. absurd (cc); lost = λ e. absurd (cc) }
     go false true a c =
-        let m = behind_lost isa i p w a (f.lost a c) h in
+        let m = after_lost isa i p w a (f.lost a c) h in
         let n = barred_count isa i p v c in
         let vc : (past isa (Up i p) v).path.barred ≡ true = rw (past_path isa (Up i p) v) (barred_stays isa i p v.path c) in
         record { path = q; count = n.0 ∙ f.count ∙ sym m.0; stop = n.2 ∙ f.stop ∙ sym m.2; on = λ e. absurd (cc); lost = λ _ _. m.1 }

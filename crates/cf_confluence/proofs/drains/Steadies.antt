@@ -39,7 +39,7 @@ use Rattle.cf_refinement.proofs.invariant.Stands.{Stands}
 use Rattle.cf_refinement.proofs.invariant.Suited.{Suits}
 use Rattle.cf_semantics.specs.moves.Bars.{bar}
 use Rattle.cf_semantics.specs.state.Column.{Down, Item, Up}
-use Rattle.cf_semantics.specs.moves.Instructions.{Stops, access_trap, behind, is_memory, serve_of, step_at}
+use Rattle.cf_semantics.specs.moves.Instructions.{Stops, access_trap, after_step, is_memory, serve_of, step_at}
 use Rattle.cf_semantics.specs.state.Layouts.{isa_of}
 use Rattle.cf_semantics.specs.moves.Moves.{answered, next, back_in, cell_met, launch_trap, launched, moved, operation, set_last, with_passenger}
 use Rattle.cf_semantics.specs.state.Options.{on}
@@ -227,7 +227,7 @@ recover_steady {rest} {out} l s x i acc e h = go (recover_ready l s i (bar_row l
             let at : w.answer ≡ Some a = ap (λ (z : dock.Dock). z.answer) (walk_landed (isa_of l) q.above w0 w0.answer land) ∙ answer in
             let flies : ahead.flies p ≡ true = let o = r.out in let c = r.never in grind arith in
             let both : w.path ≡ u.path = k.same ∙ sym same in
-            let given : IsAnswer p.dst (behind (step_at (isa_of l) u.path.machine p.pc) u.path.machine).hart.regs a = subst (λ (z : trail.Walk). IsAnswer p.dst (behind (step_at (isa_of l) z.machine p.pc) z.machine).hart.regs a) both (known.3 flies a at) in
+            let given : IsAnswer p.dst (after_step (step_at (isa_of l) u.path.machine p.pc) u.path.machine).hart.regs a = subst (λ (z : trail.Walk). IsAnswer p.dst (after_step (step_at (isa_of l) z.machine p.pc) z.machine).hart.regs a) both (known.3 flies a at) in
             let permit : access_trap (instruction p) p.pc (value_in p.src1) (bounds_of u.path.machine.hart.mem) ≡ None = subst (λ (z : trail.Walk). access_trap (instruction p) p.pc (value_in p.src1) (bounds_of z.machine.hart.mem) ≡ None) both known.2 in
             let wide : length u.path.machine.hart.regs ≡ 32 = subst (λ (z : trail.Walk). length z.machine.hart.regs ≡ 32) (sym same) k.wide in
             had (Some a) g (rw (in_live p (Some a) d) (put (finish (back p) (Some a)) (done (Some a) d (memory_goes p f) (λ b. sure_loads (isa_of l) (back p) u.path a wide f (k.stands.0.sourced1 r.out) (k.stands.0.sourced2 r.out) permit given (back_at (isa_of l) p u.path (sure_at (isa_of l) i p u.path d b fits))))))

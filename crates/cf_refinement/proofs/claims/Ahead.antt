@@ -15,7 +15,7 @@ use Rattle.cf_refinement.proofs.invariant.Invariant.{Sound}
 use Rattle.cf_refinement.proofs.invariant.Stands.{Each, Stands}
 use Rattle.cf_refinement.proofs.invariant.Suited.{Suits}
 use Rattle.cf_semantics.specs.state.Column.{Down, Item, Up, column}
-use Rattle.cf_semantics.specs.moves.Instructions.{Goes, behind, is_memory, step_at, step_here}
+use Rattle.cf_semantics.specs.moves.Instructions.{Goes, after_step, is_memory, step_at, step_here}
 use Rattle.cf_semantics.specs.state.Layouts.{isa_of, port}
 use Rattle.cf_semantics.specs.state.Passengers.{goto, kind}
 use Rattle.cf_semantics.specs.state.State.{State}
@@ -72,7 +72,7 @@ unfolding dock.Fits
 docked_of isa i p w h = h
 
 -- what a rider does to the walk, if it is live and sure
-pub sure_past : (isa : Isa) (i : ℕ) (p : Passenger) (w : dock.Dock) → p.dead ≡ false → w.path.barred ≡ false → ((dock.past isa (Up i p) w).path.machine ≡ behind (step_at isa w.path.machine p.pc) w.path.machine) × ((dock.past isa (Up i p) w).path.goto ≡ goto p)
+pub sure_past : (isa : Isa) (i : ℕ) (p : Passenger) (w : dock.Dock) → p.dead ≡ false → w.path.barred ≡ false → ((dock.past isa (Up i p) w).path.machine ≡ after_step (step_at isa w.path.machine p.pc) w.path.machine) × ((dock.past isa (Up i p) w).path.goto ≡ goto p)
 unfolding dock.past trail.past
 sure_past isa i p w d b = (grind arith, grind arith)
 
@@ -85,7 +85,7 @@ unfolding dock.past
 risk_past isa (Up i p) w e = (grind arith, grind arith)
 risk_past isa (Down i k) w e = (grind arith, grind arith)
 
-pub mem_past : (isa : Isa) (i : ℕ) (p : Passenger) (w : dock.Dock) (b : Bool) → ahead.has_ported p w.answer ≡ b → (dock.past isa (Up i p) w).mem ≡ (if b then (behind (step_at isa w.path.machine p.pc) w.path.machine).hart.mem else w.mem)
+pub mem_past : (isa : Isa) (i : ℕ) (p : Passenger) (w : dock.Dock) (b : Bool) → ahead.has_ported p w.answer ≡ b → (dock.past isa (Up i p) w).mem ≡ (if b then (after_step (step_at isa w.path.machine p.pc) w.path.machine).hart.mem else w.mem)
 unfolding dock.past
 mem_past isa i p w b e = rw e refl
 
@@ -109,7 +109,7 @@ live_on l m n i p w t s f k g d r b h =
     let certain = sure_at (isa_of l) i p w.path d o f in
     let c = sure_pc (isa_of l) p w.path w.path.machine.hart.pc h.goto certain in
     let z = quiet_on l i p w s certain (docked_of (isa_of l) i p w k) d q.1 (still_off d) in
-    let y = behind (step_at (isa_of l) w.path.machine p.pc) w.path.machine in
+    let y = after_step (step_at (isa_of l) w.path.machine p.pc) w.path.machine in
     let e : step_here (isa_of l) w.path.machine ≡ Goes y = ap (step_at (isa_of l) w.path.machine) (sym c) ∙ z.goes in
     let v = sure_past (isa_of l) i p w d o in
     let u = (tally_past i p t (ahead.has_ported p t.answer) refl).1 in
@@ -141,7 +141,7 @@ rider_reach l m n i p w t s f k g a o h = go (ahead.has_ported p w.answer) refl
         let certain = sure_at (isa_of l) i p w.path d open' f in
         let on' = o e calm in
         let c = sure_pc (isa_of l) p w.path w.path.machine.hart.pc on'.goto certain in
-        let y = behind (step_at (isa_of l) w.path.machine p.pc) w.path.machine in
+        let y = after_step (step_at (isa_of l) w.path.machine p.pc) w.path.machine in
         let z = ported_on l i p w s certain (docked_of (isa_of l) i p w k) e in
         let st : step_here (isa_of l) w.path.machine ≡ Goes y = ap (step_at (isa_of l) w.path.machine) (sym c) ∙ z in
         let count : n + (ahead.counted (Up i p) t).ported ≡ suc (n + t.live) = omega (arith, u.0) in

@@ -26,7 +26,7 @@ use Rattle.cf_refinement.proofs.invariant.Stands.{Each}
 use Rattle.cf_refinement.proofs.invariant.Suited.{Suits}
 use Rattle.cf_semantics.specs.moves.Bars.{bar}
 use Rattle.cf_semantics.specs.state.Column.{Down, Item, Up, column, column_from, packet_in}
-use Rattle.cf_semantics.specs.moves.Instructions.{Goes, behind, is_memory, step_at}
+use Rattle.cf_semantics.specs.moves.Instructions.{Goes, after_step, is_memory, step_at}
 use Rattle.cf_semantics.specs.state.Layouts.{isa_of, port}
 use Rattle.cf_semantics.specs.moves.Moves.{moved, next, without_passenger}
 use Rattle.cf_semantics.specs.state.Passengers.{kind}
@@ -70,7 +70,7 @@ out_above l i (Up j p ∷ xs) acc e r h = (go (still p) refl, out_above l i xs a
     go true f = absurd (let z = still_low l j p acc h.0 f in omega (arith, r.0))
 out_above l i (Down j k ∷ xs) acc e r h = out_above l i xs acc e r h
 
-live_way : (isa : Isa) (i : ℕ) (p : Passenger) (v : right.Way) → trail.is_sure p v.path ≡ true → v.on ≡ true → p.pc ≡ v.path.machine.hart.pc → step_at isa v.path.machine p.pc ≡ Goes (behind (step_at isa v.path.machine p.pc) v.path.machine) → (right.past isa (Up i p) v).on ≡ true
+live_way : (isa : Isa) (i : ℕ) (p : Passenger) (v : right.Way) → trail.is_sure p v.path ≡ true → v.on ≡ true → p.pc ≡ v.path.machine.hart.pc → step_at isa v.path.machine p.pc ≡ Goes (after_step (step_at isa v.path.machine p.pc) v.path.machine) → (right.past isa (Up i p) v).on ≡ true
 unfolding right.past right.follows
 live_way isa i p v s o c g =
     let e : (p.pc == v.path.machine.hart.pc) ≡ true = grind (arith, c) in
@@ -101,7 +101,7 @@ way_on l (Up i p ∷ xs) w v ea fp fd g q o e out r =
         let z = quiet_on l i p w ea.0 certain (docked_of (isa_of l) i p w fd.0) d risk.1 (off d) in
         let s : trail.is_sure p v.path ≡ true = rw (q, d, b) refl in
         let y = sure_past (isa_of l) i p w d b in
-        (live_way (isa_of l) i p v s o (c ∙ ap (λ (u : trail.Walk). u.machine.hart.pc) (sym q)) (subst (λ (u : trail.Walk). step_at (isa_of l) u.machine p.pc ≡ Goes (behind (step_at (isa_of l) u.machine p.pc) u.machine)) (sym q) z.goes), y.1 ∙ z.next ∙ ap (λ (u : Machine). Some u.hart.pc) (sym y.0))
+        (live_way (isa_of l) i p v s o (c ∙ ap (λ (u : trail.Walk). u.machine.hart.pc) (sym q)) (subst (λ (u : trail.Walk). step_at (isa_of l) u.machine p.pc ≡ Goes (after_step (step_at (isa_of l) u.machine p.pc) u.machine)) (sym q) z.goes), y.1 ∙ z.next ∙ ap (λ (u : Machine). Some u.hart.pc) (sym y.0))
       where
         off : p.dead ≡ false → (is_memory (kind p) && not p.done && not p.launched) ≡ false
         off d = let z = out.0 in grind arith

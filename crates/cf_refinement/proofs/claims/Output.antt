@@ -20,7 +20,7 @@ use Rattle.cf_refinement.proofs.invariant.Invariant.{Sound}
 use Rattle.cf_refinement.proofs.invariant.Stands.{Each, Stands}
 use Rattle.cf_semantics.specs.claims.Ahead.{served_count}
 use Rattle.cf_semantics.specs.state.Column.{Down, Item, Up, column, column_from, in_order, items, packet_in, passenger_in}
-use Rattle.cf_semantics.specs.moves.Instructions.{Goes, behind, step_at, step_here}
+use Rattle.cf_semantics.specs.moves.Instructions.{Goes, after_step, step_at, step_here}
 use Rattle.cf_semantics.specs.state.Layouts.{isa_of}
 use Rattle.cf_semantics.specs.claims.Refines.{Spoke, gained}
 use Rattle.cf_semantics.specs.state.State.{State, cell_at}
@@ -90,7 +90,7 @@ idle_mute isa (Down i k ∷ xs) w h =
     let b = idle_mute isa xs (dock.past isa (Down i k) w) h in
     record { rest = b.rest ∙ a.rest; out = b.out ∙ a.out }
 
-pub served_past : (isa : Isa) (i : ℕ) (p : Passenger) (w : dock.Dock) → ahead.has_served p ≡ true → ((dock.past isa (Up i p) w).rest ≡ (behind (step_at isa w.path.machine p.pc) w.path.machine).rest) × ((dock.past isa (Up i p) w).out ≡ (behind (step_at isa w.path.machine p.pc) w.path.machine).output)
+pub served_past : (isa : Isa) (i : ℕ) (p : Passenger) (w : dock.Dock) → ahead.has_served p ≡ true → ((dock.past isa (Up i p) w).rest ≡ (after_step (step_at isa w.path.machine p.pc) w.path.machine).rest) × ((dock.past isa (Up i p) w).out ≡ (after_step (step_at isa w.path.machine p.pc) w.path.machine).output)
 unfolding dock.past
 served_past isa i p w e = (rw e refl, rw e refl)
 
@@ -124,9 +124,9 @@ pub record Served (l : Plan) (s : State) (x : Machine) (rest out : List ℕ) : T
   pub count : served_count l s ≡ 1
   pub sure : trail.is_sure who (walk (trail.past (isa_of l)) above (trail.top s x)) ≡ true
   pub pc : who.pc ≡ x.hart.pc
-  pub goes : step_at (isa_of l) x who.pc ≡ Goes (behind (step_at (isa_of l) x who.pc) x)
-  pub is_rest : rest ≡ (behind (step_at (isa_of l) x who.pc) x).rest
-  pub is_out : out ≡ (behind (step_at (isa_of l) x who.pc) x).output
+  pub goes : step_at (isa_of l) x who.pc ≡ Goes (after_step (step_at (isa_of l) x who.pc) x)
+  pub is_rest : rest ≡ (after_step (step_at (isa_of l) x who.pc) x).rest
+  pub is_out : out ≡ (after_step (step_at (isa_of l) x who.pc) x).output
 
 alive : (p : Passenger) → ahead.has_served p ≡ true → p.dead ≡ false
 alive p g = go p.dead refl
@@ -171,7 +171,7 @@ heard {rest} {out} l s x h = go l.stages refl h.size
         let goto : w.path.goto ≡ Some x.hart.pc = ap (λ (z : trail.Walk). z.goto) k.same ∙ same.1 in
         let mach : w.path.machine ≡ x = ap (λ (z : trail.Walk). z.machine) k.same ∙ same.0 in
         let pc = sure_pc (isa_of l) p w.path x.hart.pc goto certain in
-        let st = subst (λ (z : Machine). step_at (isa_of l) z p.pc ≡ Goes (behind (step_at (isa_of l) z p.pc) z)) mach (done_goes (isa_of l) p w.path g certain) in
+        let st = subst (λ (z : Machine). step_at (isa_of l) z p.pc ≡ Goes (after_step (step_at (isa_of l) z p.pc) z)) mach (done_goes (isa_of l) p w.path g certain) in
         let v = served_past (isa_of l) l.stages p w g in
         let d = mute l q.below (dock.past (isa_of l) (Up l.stages p) w) q.under (each_back l (Up l.stages p ∷ []) q.below (each_back l q.above ((Up l.stages p ∷ []) ++ q.below) each)) in
         let ends = subst (λ (z : dock.Dock). dock.Ends z s.mem rest out) (ap (λ (z : List Item). walk (dock.past (isa_of l)) z (dock.top l s x)) q.was ∙ walk_append (dock.past (isa_of l)) q.above ((Up l.stages p ∷ []) ++ q.below) (dock.top l s x)) h.port_ends in
@@ -185,8 +185,8 @@ heard {rest} {out} l s x h = go l.stages refl h.size
           sure = ap (trail.is_sure p) (sym k.same) ∙ sure_is p w.path live (open_of w k.safe calm);
           pc = pc;
           goes = st;
-          is_rest = ends.is_rest ∙ d.rest ∙ v.0 ∙ ap (λ (z : Machine). (behind (step_at (isa_of l) z p.pc) z).rest) mach;
-          is_out = ends.is_out ∙ d.out ∙ v.1 ∙ ap (λ (z : Machine). (behind (step_at (isa_of l) z p.pc) z).output) mach;
+          is_rest = ends.is_rest ∙ d.rest ∙ v.0 ∙ ap (λ (z : Machine). (after_step (step_at (isa_of l) z p.pc) z).rest) mach;
+          is_out = ends.is_out ∙ d.out ∙ v.1 ∙ ap (λ (z : Machine). (after_step (step_at (isa_of l) z p.pc) z).output) mach;
         })
 
     inner : (c : Cell) (o : Option Passenger) → cell_at s.cells l.stages ≡ Some c → c.passenger ≡ o → Silent l s x rest out ⊎ Served l s x rest out
@@ -214,7 +214,7 @@ output_ahead {rest} {out} l m s x a h = go (heard l s x h)
     go : Silent l s x rest out ⊎ Served l s x rest out → Spoke (isa_of l) m (gained m s + served_count l s) (record { state = s; rest = rest; output = out })
     go (inl q) = let n : gained m s + 0 ≡ gained m s = omega arith in record { at = x; count = count 0 q.count ∙ ap (after (isa_of l) m) n ∙ a; rest = q.is_rest; output = q.is_out }
     go (inr q) =
-        let y = behind (step_at (isa_of l) x q.who.pc) x in
+        let y = after_step (step_at (isa_of l) x q.who.pc) x in
         let n : gained m s + 1 ≡ suc (gained m s) = omega arith in
         let st : step_here (isa_of l) x ≡ Goes y = ap (step_at (isa_of l) x) (sym q.pc) ∙ q.goes in
         record { at = y; count = count 1 q.count ∙ ap (after (isa_of l) m) n ∙ after_more (isa_of l) m x y (gained m s) a st; rest = q.is_rest; output = q.is_out }

@@ -9,7 +9,7 @@ use Rattle.cf_bind.specs.declared.packet.Packet.TheVariants.{Value, Turn, Halt}
 use Rattle.cf_bind.specs.declared.passenger.End.{End}
 use Rattle.cf_bind.specs.declared.passenger.Passenger.{Passenger}
 use Rattle.cf_semantics.specs.state.Column.{Down, Item, Up}
-use Rattle.cf_semantics.specs.moves.Instructions.{behind, fetched, step_at}
+use Rattle.cf_semantics.specs.moves.Instructions.{after_step, fetched, step_at}
 use Rattle.cf_semantics.specs.state.Layouts.{isa_of}
 use Rattle.cf_semantics.specs.state.Options.{When, is_some}
 use Rattle.cf_semantics.specs.state.Passengers.{goto}
@@ -77,11 +77,11 @@ path plan s x h p =
 Level : Walk → Type 0
 Level w = w.barred ≡ false → w.settled ≡ true → w.goto ≡ Some w.machine.hart.pc
 
-sure_level : (isa : Isa) (p : Passenger) (w : Walk) → sure.SureAt isa p w → (p.done && not (is_some p.ending)) ≡ true → goto p ≡ Some (behind (step_at isa w.machine p.pc) w.machine).hart.pc
+sure_level : (isa : Isa) (p : Passenger) (w : Walk) → sure.SureAt isa p w → (p.done && not (is_some p.ending)) ≡ true → goto p ≡ Some (after_step (step_at isa w.machine p.pc) w.machine).hart.pc
 unfolding sure.SureAt
 sure_level isa p w h s = go p.done p.ending refl refl
   where
-    go : (b : Bool) (o : Option End) → p.done ≡ b → p.ending ≡ o → goto p ≡ Some (behind (step_at isa w.machine p.pc) w.machine).hart.pc
+    go : (b : Bool) (o : Option End) → p.done ≡ b → p.ending ≡ o → goto p ≡ Some (after_step (step_at isa w.machine p.pc) w.machine).hart.pc
     go true None e f = let n = h.0.values.next e f in rw (e, f) n
     go true (Some z) e f = absurd (let q = rw (e, f) at s in cc)
     go false o e f = absurd (let q = rw e at s in cc)
@@ -109,7 +109,7 @@ first_packet (Turn pc) w g h = (same pc w.machine.hart.pc (sym h.0 ∙ g h.1), h
     same a b e = cc
 first_packet Halt w g h = h.1
 
-first_owed : (isa : Isa) (p : Passenger) (w : Walk) (k : Packet) → p.owes ≡ Some k → sure.SureAt isa p w → IsFirstBarrier k (behind (step_at isa w.machine p.pc) w.machine) (p.done && not (is_some p.ending)) (is_trap p.ending)
+first_owed : (isa : Isa) (p : Passenger) (w : Walk) (k : Packet) → p.owes ≡ Some k → sure.SureAt isa p w → IsFirstBarrier k (after_step (step_at isa w.machine p.pc) w.machine) (p.done && not (is_some p.ending)) (is_trap p.ending)
 unfolding sure.SureAt
 first_owed isa p w k e h = by k e (subst (λ (o : Option Packet). sure.Owed o p.next p.ending) e h.0.owed)
   where
@@ -117,12 +117,12 @@ first_owed isa p w k e h = by k e (subst (λ (o : Option Packet). sure.Owed o p.
     done true d = d
     done false d = absurd (let z = h.0.unowing d in cc)
 
-    by : (k : Packet) → p.owes ≡ Some k → sure.Owed (Some k) p.next p.ending → IsFirstBarrier k (behind (step_at isa w.machine p.pc) w.machine) (p.done && not (is_some p.ending)) (is_trap p.ending)
+    by : (k : Packet) → p.owes ≡ Some k → sure.Owed (Some k) p.next p.ending → IsFirstBarrier k (after_step (step_at isa w.machine p.pc) w.machine) (p.done && not (is_some p.ending)) (is_trap p.ending)
     by (Value r v) e o = tt
     by (Turn pc) e o =
         let d = done p.done refl in
         let n = h.0.values.next d o.1 in
-        (same pc (behind (step_at isa w.machine p.pc) w.machine).hart.pc (sym o.0 ∙ n), rw (d, o.1) refl)
+        (same pc (after_step (step_at isa w.machine p.pc) w.machine).hart.pc (sym o.0 ∙ n), rw (d, o.1) refl)
       where
         same : (a b : ℕ) → Some a ≡ Some b → a ≡ b
         same a b e = cc

@@ -7,7 +7,7 @@ use Rattle.cf_bind.specs.declared.packet.Packet.{Packet}
 use Rattle.cf_bind.specs.declared.passenger.Passenger.{Passenger}
 use Rattle.cf_semantics.specs.claims.Ahead.{flies}
 use Rattle.cf_semantics.specs.state.Column.{Down, Item, Up}
-use Rattle.cf_semantics.specs.moves.Instructions.{behind, step_at}
+use Rattle.cf_semantics.specs.moves.Instructions.{after_step, step_at}
 use Rattle.cf_semantics.specs.state.Layouts.{isa_of, port}
 use Rattle.cf_semantics.specs.state.Options.{When}
 use Rattle.cf_semantics.specs.claims.Path.{Walk, is_sure}
@@ -49,11 +49,11 @@ answer_kept isa (Up i p ∷ xs) w h = answer_kept isa xs (dock.past isa (Up i p)
 answer_kept isa (Down i k ∷ xs) w h = answer_kept isa xs (dock.past isa (Down i k) w) h ∙ answer_packet isa i k w
 
 -- the answer is the value of the first passenger whose operation is there
-answers_it : (isa : Isa) (i : ℕ) (p : Passenger) (w : dock.Dock) (v : Walk) (a : ℕ) → w.path ≡ v → flies p ≡ true → w.answer ≡ Some a → dock.Fits isa (Up i p) w → IsAnswer p.dst (behind (step_at isa v.machine p.pc) v.machine).hart.regs a
+answers_it : (isa : Isa) (i : ℕ) (p : Passenger) (w : dock.Dock) (v : Walk) (a : ℕ) → w.path ≡ v → flies p ≡ true → w.answer ≡ Some a → dock.Fits isa (Up i p) w → IsAnswer p.dst (after_step (step_at isa v.machine p.pc) v.machine).hart.regs a
 unfolding dock.Fits dock.DockedAt
 answers_it isa i p w v a e f g h =
     let q = h.answered f a g in
-    subst (λ (z : Walk). IsAnswer p.dst (behind (step_at isa z.machine p.pc) z.machine).hart.regs a) e q
+    subst (λ (z : Walk). IsAnswer p.dst (after_step (step_at isa z.machine p.pc) z.machine).hart.regs a) e q
 
 whenever : {A : Type 0} (b : Bool) → A → When b A
 whenever true a = a

@@ -10,7 +10,7 @@ use Rattle.cf_bind.specs.declared.moves.Move.TheVariants.{Access, Climb, Emit, E
 use Rattle.cf_bind.specs.declared.passenger.End.{End}
 use Rattle.cf_semantics.specs.moves.Bars.{bar}
 use Rattle.cf_semantics.specs.state.Column.{Down, Item, Up, column}
-use Rattle.cf_semantics.specs.moves.Instructions.{Goes, behind, serve_of, step_at, step_here}
+use Rattle.cf_semantics.specs.moves.Instructions.{Goes, after_step, serve_of, step_at, step_here}
 use Rattle.cf_semantics.specs.state.Layouts.{isa_of}
 use Rattle.cf_semantics.specs.runs.Lines.{lines_at, retires}
 use Rattle.cf_semantics.specs.moves.Moves.{moved, next, served}
@@ -65,7 +65,7 @@ leave_steps l m x r h = go h.how
 
     go : ((t.ending ≡ s.ending) × (t.retired ≡ s.retired) × (retires l s Leave ≡ []) × Sound l t m.rest m.output x) ⊎ (((y : Machine) × (step_here (isa_of l) x ≡ Goes y) × (t.ending ≡ s.ending) × (t.retired ≡ suc s.retired) × (retires l s Leave ≡ lines_at (isa_of l) x) × Sound l t m.rest m.output y) ⊎ ((e : End) × (t.ending ≡ Some e) × (t.retired ≡ s.retired) × (retires l s Leave ≡ []) × IsOver l t m.rest m.output x e)) → StepsRetired (isa_of l) x m Leave (record m { state = t })
     go (inl q) = inl (record { retired = q.1; regs = q.3.regs ∙ sym r; ending = q.0 })
-    go (inr (inl q)) = inr (refl, inl (record { behind = q.0; step = q.1; retired = q.3 ∙ omega arith; before = r; regs = q.5.regs; ending = q.2 }))
+    go (inr (inl q)) = inr (refl, inl (record { later = q.0; step = q.1; retired = q.3 ∙ omega arith; before = r; regs = q.5.regs; ending = q.2 }))
     go (inr (inr q)) = inr (refl, inr (record { end = q.0; step = q.4.stops; ending = q.1; retired = q.2; regs = q.4.regs ∙ sym r }))
 
 retired_steps : (l : Plan) (m : Moment) (x : Machine) (mv : Move) → bar l m.state mv ≡ None → Sound l m.state m.rest m.output x → StepsRetired (isa_of l) x m mv (next l m mv)
@@ -107,7 +107,7 @@ serve_steps l m x e h =
           spoken = inr (
             refl,
             record {
-              behind = y;
+              later = y;
               step = g;
               rest_before = input;
               output_before = output;
@@ -122,7 +122,7 @@ serve_steps l m x e h =
               ahead = omega arith;
               at = x;
               count = count;
-              behind = y;
+              later = y;
               step = g;
               before = mem;
               mem = ap (λ (z : Moment). z.state.mem) n;
@@ -180,13 +180,13 @@ access_steps {rest} {out} l start s x acc count e h =
     let u = walk (dock.past (isa_of l)) f.above (dock.top l s x) in
     let none : gained start s + 0 ≡ gained start s = omega arith in
     let on = path_on l start (gained start s) f.above (dock.top l s x) (ahead.uncounted l s) ea (fit_front _ (sure.Fits (isa_of l)) (trail.past (isa_of l)) f.above ((Up i p ∷ []) ++ f.below) _ (rw was at h.path_fit)) (fit_front _ (dock.Fits (isa_of l)) (dock.past (isa_of l)) f.above ((Up i p ∷ []) ++ f.below) _ (rw was at h.port_fit)) (λ b. absurd (cc)) out z.calm (record { so_far = ap (after (isa_of l) start) none ∙ count; goto = refl }) in
-    let y = behind (step_at (isa_of l) u.path.machine p.pc) u.path.machine in
+    let y = after_step (step_at (isa_of l) u.path.machine p.pc) u.path.machine in
     record {
       number = gained start s + (walk ahead.counted f.above (ahead.uncounted l s)).live;
       ahead = omega arith;
       at = u.path.machine;
       count = on.so_far;
-      behind = y;
+      later = y;
       step = ap (step_at (isa_of l) u.path.machine) (sym (sure_pc (isa_of l) p u.path u.path.machine.hart.pc on.goto z.certain)) ∙ z.goes;
       before = z.before;
       mem = ap (λ (t : State). t.mem) (next_access l s z.ready.what z.ready.lies) ∙ z.stored;

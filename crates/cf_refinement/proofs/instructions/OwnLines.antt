@@ -48,11 +48,11 @@ GivesOwn x word r (outcome.Trap cause pc detail) = Unit {0}
 GivesOwn x word r (outcome.Exit status) = Unit {0}
 
 -- an instruction that retires
-own_retired : (x : Machine) (mem : Memory) (word pc r v : ℕ) (rest out : List ℕ) → GivesOwn x word r (machine.behind x.output (machine.beside rest out (machine.retire (record x.hart { mem = mem }) word pc r v)))
+own_retired : (x : Machine) (mem : Memory) (word pc r v : ℕ) (rest out : List ℕ) → GivesOwn x word r (machine.after_output x.output (machine.beside rest out (machine.retire (record x.hart { mem = mem }) word pc r v)))
 unfolding machine.retire
 own_retired x mem word pc r v rest out = record { pc = refl; word = refl; reg = refl; got = v; value = refl; regs = refl }
 
-own_computed : (x : Machine) (word : ℕ) (i : Instr) → GivesOwn x word (dest_of i) (machine.behind x.output (machine.beside x.rest [] (machine.compute x.hart word i)))
+own_computed : (x : Machine) (word : ℕ) (i : Instr) → GivesOwn x word (dest_of i) (machine.after_output x.output (machine.beside x.rest [] (machine.compute x.hart word i)))
 unfolding machine.compute
 own_computed x word i = by (next % 4 == 0)
   where
@@ -65,21 +65,21 @@ own_computed x word i = by (next % 4 == 0)
     next : ℕ
     next = next_pc i x.hart.pc a b
 
-    by : (t : Bool) → GivesOwn x word (dest_of i) (machine.behind x.output (machine.beside x.rest [] (if t then machine.retire x.hart word next (dest_of i) (value_of i x.hart.pc a b) else outcome.Trap 0 x.hart.pc next)))
+    by : (t : Bool) → GivesOwn x word (dest_of i) (machine.after_output x.output (machine.beside x.rest [] (if t then machine.retire x.hart word next (dest_of i) (value_of i x.hart.pc a b) else outcome.Trap 0 x.hart.pc next)))
     by true = own_retired x x.hart.mem word next (dest_of i) (value_of i x.hart.pc a b) x.rest []
     by false = tt
 
-own_loaded : (x : Machine) (word : ℕ) (i : Instr) (addr : ℕ) (r : Result ℕ MemErr) → GivesOwn x word (dest_of i) (machine.behind x.output (machine.beside x.rest [] (machine.loads x.hart word i addr r)))
+own_loaded : (x : Machine) (word : ℕ) (i : Instr) (addr : ℕ) (r : Result ℕ MemErr) → GivesOwn x word (dest_of i) (machine.after_output x.output (machine.beside x.rest [] (machine.loads x.hart word i addr r)))
 own_loaded x word i addr (Ok raw) = own_retired x x.hart.mem word (word_sum x.hart.pc 4) (dest_of i) (extended i raw) x.rest []
 own_loaded x word i addr (Err Misaligned) = tt
 own_loaded x word i addr (Err NoAccess) = tt
 
-own_stored : (x : Machine) (word : ℕ) (access : Access) (r : Result (Unit {0}) MemErr) → GivesOwn x word 0 (machine.behind x.output (machine.beside x.rest [] (machine.stores x.hart word access r)))
+own_stored : (x : Machine) (word : ℕ) (access : Access) (r : Result (Unit {0}) MemErr) → GivesOwn x word 0 (machine.after_output x.output (machine.beside x.rest [] (machine.stores x.hart word access r)))
 own_stored x word access (Ok done) = own_retired x (stored x.hart.mem access.addr access.width access.value) word (word_sum x.hart.pc 4) 0 0 x.rest []
 own_stored x word access (Err Misaligned) = tt
 own_stored x word access (Err NoAccess) = tt
 
-own_accessed : (x : Machine) (word : ℕ) (i : Instr) → GivesOwn x word (dest_of i) (machine.behind x.output (machine.beside x.rest [] (machine.access_memory x.hart word i)))
+own_accessed : (x : Machine) (word : ℕ) (i : Instr) → GivesOwn x word (dest_of i) (machine.after_output x.output (machine.beside x.rest [] (machine.access_memory x.hart word i)))
 unfolding machine.access_memory
 own_accessed x word i = by access.write refl
   where
@@ -92,7 +92,7 @@ own_accessed x word i = by access.write refl
     access : Access
     access = access_made i a b
 
-    by : (w : Bool) → access.write ≡ w → GivesOwn x word (dest_of i) (machine.behind x.output (machine.beside x.rest [] (if w
+    by : (w : Bool) → access.write ≡ w → GivesOwn x word (dest_of i) (machine.after_output x.output (machine.beside x.rest [] (if w
         then machine.stores x.hart word access (permits_at (bounds_of x.hart.mem) access.addr access.width true)
         else machine.loads x.hart word i access.addr (load_at x.hart.mem access.addr access.width))))
     by true e = rw (store_bare i a b e) (own_stored x word access (permits_at (bounds_of x.hart.mem) access.addr access.width true))
@@ -102,29 +102,29 @@ free_destination : (i : Instr) → kind_of i ≡ Free → dest_of i ≡ 0
 unfolding kind_of
 free_destination i e = grind arith
 
-own_passed : (x : Machine) (word : ℕ) (i : Instr) → kind_of i ≡ Free → GivesOwn x word (dest_of i) (machine.behind x.output (machine.beside x.rest [] (machine.pass x.hart word i)))
+own_passed : (x : Machine) (word : ℕ) (i : Instr) → kind_of i ≡ Free → GivesOwn x word (dest_of i) (machine.after_output x.output (machine.beside x.rest [] (machine.pass x.hart word i)))
 unfolding machine.pass
 own_passed x word i e = rw (free_destination i e) (by (machine.breaks i))
   where
-    by : (t : Bool) → GivesOwn x word 0 (machine.behind x.output (machine.beside x.rest [] (if t then outcome.Trap 3 x.hart.pc x.hart.pc else machine.retire x.hart word (word_sum x.hart.pc 4) 0 0)))
+    by : (t : Bool) → GivesOwn x word 0 (machine.after_output x.output (machine.beside x.rest [] (if t then outcome.Trap 3 x.hart.pc x.hart.pc else machine.retire x.hart word (word_sum x.hart.pc 4) 0 0)))
     by true = tt
     by false = own_retired x x.hart.mem word (word_sum x.hart.pc 4) 0 0 x.rest []
 
-own_answered : (x : Machine) (word : ℕ) (c : Called) → GivesOwn x word 10 (machine.behind x.output (machine.environment x.hart word c))
+own_answered : (x : Machine) (word : ℕ) (c : Called) → GivesOwn x word 10 (machine.after_output x.output (machine.environment x.hart word c))
 own_answered x word (called.Value a) = own_retired x a.mem word (word_sum x.hart.pc 4) 10 a.value a.rest a.output
 own_answered x word (called.Exit status) = tt
 
-own_served : (x : Machine) (word : ℕ) (i : Instr) → kind_of i ≡ Serial → GivesOwn x word (dest_of i) (machine.behind x.output (machine.serial x.hart x.rest word i))
+own_served : (x : Machine) (word : ℕ) (i : Instr) → kind_of i ≡ Serial → GivesOwn x word (dest_of i) (machine.after_output x.output (machine.serial x.hart x.rest word i))
 unfolding machine.serial machine.synchronize
 own_served x word i e = by (machine.synchronizes i) refl
   where
-    by : (t : Bool) → machine.synchronizes i ≡ t → GivesOwn x word (dest_of i) (machine.behind x.output (if t
+    by : (t : Bool) → machine.synchronizes i ≡ t → GivesOwn x word (dest_of i) (machine.after_output x.output (if t
         then machine.beside x.rest [] (machine.retire (record x.hart { mem = synced x.hart.mem }) word (word_sum x.hart.pc 4) 0 0)
         else machine.environment x.hart word (call x.hart.regs x.hart.mem x.rest)))
     by true f = rw (serial_destination i e f) (own_retired x (synced x.hart.mem) word (word_sum x.hart.pc 4) 0 0 x.rest [])
     by false f = rw (call_destination i e f) (own_answered x word (call x.hart.regs x.hart.mem x.rest))
 
-own_executed : (c : Class) (x : Machine) (word : ℕ) (i : Instr) → kind_of i ≡ c → GivesOwn x word (dest_of i) (machine.behind x.output (machine.execute c x.hart x.rest word i))
+own_executed : (c : Class) (x : Machine) (word : ℕ) (i : Instr) → kind_of i ≡ c → GivesOwn x word (dest_of i) (machine.after_output x.output (machine.execute c x.hart x.rest word i))
 unfolding machine.execute
 own_executed Add x word i e = own_computed x word i
 own_executed Logic x word i e = own_computed x word i

@@ -43,7 +43,7 @@ use Rattle.cf_bind.specs.declared.passenger.Passenger.{Passenger}
 use Rattle.cf_bind.specs.declared.passenger.End.{End}
 use Rattle.cf_bind.specs.declared.passenger.End.TheVariants.{Trap}
 use Rattle.cf_semantics.specs.state.Options.{on}
-use Rattle.cf_semantics.specs.moves.Instructions.{kind_of, is_control, is_serial, Fetched, Got, Bad, read_as, word_read, fetched, register, src1_of, src2_of, dst_of, value_read, value_written, word_after, finish_trap, free_trap, refused, access_trap, mem_after, number, answer_of, serve_of, Stepped, Goes, Stops, stepped, step_at, at_pc, behind}
+use Rattle.cf_semantics.specs.moves.Instructions.{kind_of, is_control, is_serial, Fetched, Got, Bad, read_as, word_read, fetched, register, src1_of, src2_of, dst_of, value_read, value_written, word_after, finish_trap, free_trap, refused, access_trap, mem_after, number, answer_of, serve_of, Stepped, Goes, Stops, stepped, step_at, at_pc, after_step}
 use Rattle.cf_semantics.specs.state.Passengers.{kind, instruction, reg_in}
 use Rattle.cf_semantics.specs.moves.Steps.{onward, served, stepped_as}
 use Rattle.cf_semantics.specs.claims.Path.{is_trap, has_reg}
@@ -80,7 +80,7 @@ fetched_is isa mem pc i e = go (pc % 4 == 0) (fetch_at mem pc) refl refl e
 
 -- the machine's step is the execution of the instruction
 pub step_executes : (isa : Isa) (x : Machine) (i : Instr) (f : IsFetched isa x.hart.mem x.hart.pc i) →
-    machine.step isa x ≡ machine.behind x.output (machine.execute (kind_of i) x.hart x.rest f.word i)
+    machine.step isa x ≡ machine.after_output x.output (machine.execute (kind_of i) x.hart x.rest f.word i)
 unfolding kind_of machine.step machine.step_on
 step_executes isa x i f = rw (f.aligned, f.found, f.read) refl
 
@@ -127,7 +127,7 @@ destination_written regs r v = go (r == 0) refl
 
 -- the hart's outcome beside an input and an output that stay
 abbrev alone : Machine → outcome.Outcome Hart → Stepped
-alone x o = stepped (machine.behind x.output (machine.beside x.rest [] o))
+alone x o = stepped (machine.after_output x.output (machine.beside x.rest [] o))
 
 -- an instruction that retires
 retires : (x : Machine) (mem : Memory) (word pc r v : ℕ) →
@@ -270,7 +270,7 @@ passes x word i = go (machine.breaks i) refl
 
 -- the answer of the environment
 environment_serves : (x : Machine) (word : ℕ) (c : Called) →
-    stepped (machine.behind x.output (machine.environment x.hart word c)) ≡ served c (Some 10) x
+    stepped (machine.after_output x.output (machine.environment x.hart word c)) ≡ served c (Some 10) x
 unfolding machine.retire
 environment_serves x word (called.Value a) = refl
 environment_serves x word (called.Exit status) = refl
@@ -285,17 +285,17 @@ call_destination i c e = grind arith
 
 -- ECALL and FENCE.I
 serves : (x : Machine) (word : ℕ) (i : Instr) → kind_of i ≡ Serial →
-    stepped (machine.behind x.output (machine.serial x.hart x.rest word i)) ≡ stepped_as Serial i 0 0 x
+    stepped (machine.after_output x.output (machine.serial x.hart x.rest word i)) ≡ stepped_as Serial i 0 0 x
 unfolding machine.serial machine.synchronize machine.retire serve_of dst_of
 serves x word i c = go (machine.synchronizes i) refl
   where
-    go : (b : Bool) → machine.synchronizes i ≡ b → stepped (machine.behind x.output (machine.serial x.hart x.rest word i)) ≡ stepped_as Serial i 0 0 x
+    go : (b : Bool) → machine.synchronizes i ≡ b → stepped (machine.after_output x.output (machine.serial x.hart x.rest word i)) ≡ stepped_as Serial i 0 0 x
     go true e = rw (e, serial_destination i c e) refl
     go false e = rw (e, call_destination i c e) (environment_serves x word (call x.hart.regs x.hart.mem x.rest))
 
 -- what an instruction does, by its class
 executes : (c : Class) (x : Machine) (word : ℕ) (i : Instr) → kind_of i ≡ c → (x.hart.pc % 4 == 0) ≡ true →
-    stepped (machine.behind x.output (machine.execute c x.hart x.rest word i))
+    stepped (machine.after_output x.output (machine.execute c x.hart x.rest word i))
     ≡ stepped_as c i (value_read x.hart.regs (src1_of i)) (value_read x.hart.regs (src2_of i)) x
 unfolding machine.execute
 executes Add x word i e a = computes x word i a
@@ -320,7 +320,7 @@ step_is isa x pc i e =
 
 -- where nothing is fetched, the step is that trap
 read_stops : (isa : Isa) (x : Machine) (w : ℕ) (o : Option Instr) (e : End) → read_as x.hart.pc w o ≡ Bad e →
-    stepped (machine.behind x.output (machine.interpret x.hart x.rest w o)) ≡ Stops e
+    stepped (machine.after_output x.output (machine.interpret x.hart x.rest w o)) ≡ Stops e
 read_stops isa x w None e h = let g : Trap 2 x.hart.pc w ≡ e = cc in ap Stops g
 read_stops isa x w (Some i) e h = absurd (cc)
 
@@ -334,7 +334,7 @@ bad_step isa x pc e h = go (pc % 4 == 0) (fetch_at x.hart.mem pc) refl refl h
     go true (Err q) a f k = let g : Trap 1 pc pc ≡ e = cc in rw (a, f) (ap Stops g)
     go true (Ok w) a f k = rw (a, f) (read_stops isa (at_pc x pc) w (decoded_as isa w) e k)
 
-pub bad_stays : (isa : Isa) (x : Machine) (pc : ℕ) (e : End) → fetched isa x.hart.mem pc ≡ Bad e → behind (step_at isa x pc) x ≡ x
+pub bad_stays : (isa : Isa) (x : Machine) (pc : ℕ) (e : End) → fetched isa x.hart.mem pc ≡ Bad e → after_step (step_at isa x pc) x ≡ x
 bad_stays isa x pc e h = rw (bad_step isa x pc e h) refl
 
 -- a plain class
@@ -373,43 +373,43 @@ write_keeps m n d v e = record {
   other = λ r f. ap (λ (l : List ℕ). slice_index l r) e ∙ write_other m.hart.regs d v r f;
 }
 
-on_keeps : (o : Option End) (n m : Machine) (d : Option ℕ) → Keeps m n d → Keeps m (behind (on o (Goes n) Stops) m) d
+on_keeps : (o : Option End) (n m : Machine) (d : Option ℕ) → Keeps m n d → Keeps m (after_step (on o (Goes n) Stops) m) d
 on_keeps None n m d h = h
 on_keeps (Some e) n m d h = stay_keeps m d
 
-served_keeps : (c : Called) (d : Option ℕ) (m : Machine) → Keeps m (behind (served c d m) m) d
+served_keeps : (c : Called) (d : Option ℕ) (m : Machine) → Keeps m (after_step (served c d m) m) d
 served_keeps (called.Value a) d m = write_keeps m _ d a.value refl
 served_keeps (called.Exit s) d m = stay_keeps m d
 
-class_keeps : (c : Class) (i : Instr) (a b : ℕ) (m : Machine) → Keeps m (behind (stepped_as c i a b m) m) (dst_of i)
+class_keeps : (c : Class) (i : Instr) (a b : ℕ) (m : Machine) → Keeps m (after_step (stepped_as c i a b m) m) (dst_of i)
 class_keeps MemoryClass i a b m = on_keeps (access_trap i m.hart.pc a (bounds_of m.hart.mem)) _ m (dst_of i) (write_keeps m _ (dst_of i) _ refl)
 class_keeps Serial i a b m = served_keeps (serve_of i m.hart.regs m.hart.mem m.rest) (dst_of i) m
 class_keeps Free i a b m = on_keeps (free_trap i m.hart.pc) _ m (dst_of i) (record { wide = refl; other = λ r f. refl })
 class_keeps _ i a b m = on_keeps (finish_trap i m.hart.pc a b) _ m (dst_of i) (write_keeps m _ (dst_of i) _ refl)
 
-keeps_at : (s : Stepped) (x : Machine) (pc : ℕ) (d : Option ℕ) → Keeps (at_pc x pc) (behind s (at_pc x pc)) d → Keeps x (behind s x) d
+keeps_at : (s : Stepped) (x : Machine) (pc : ℕ) (d : Option ℕ) → Keeps (at_pc x pc) (after_step s (at_pc x pc)) d → Keeps x (after_step s x) d
 keeps_at (Goes n) x pc d h = record { wide = h.wide; other = h.other }
 keeps_at (Stops e) x pc d h = stay_keeps x d
 
-pub step_keeps : (isa : Isa) (x : Machine) (pc : ℕ) (i : Instr) → fetched isa x.hart.mem pc ≡ Got i → Keeps x (behind (step_at isa x pc) x) (dst_of i)
+pub step_keeps : (isa : Isa) (x : Machine) (pc : ℕ) (i : Instr) → fetched isa x.hart.mem pc ≡ Got i → Keeps x (after_step (step_at isa x pc) x) (dst_of i)
 step_keeps isa x pc i e =
     keeps_at (step_at isa x pc) x pc (dst_of i)
     (rw (step_is isa x pc i e) (class_keeps (kind_of i) i (value_read x.hart.regs (src1_of i)) (value_read x.hart.regs (src2_of i)) (at_pc x pc)))
 
-wide_by : (isa : Isa) (f : Fetched) (x : Machine) (pc : ℕ) → fetched isa x.hart.mem pc ≡ f → length (behind (step_at isa x pc) x).hart.regs ≡ length x.hart.regs
+wide_by : (isa : Isa) (f : Fetched) (x : Machine) (pc : ℕ) → fetched isa x.hart.mem pc ≡ f → length (after_step (step_at isa x pc) x).hart.regs ≡ length x.hart.regs
 wide_by isa (Got i) x pc e = (step_keeps isa x pc i e).wide
 wide_by isa (Bad b) x pc e = rw (bad_stays isa x pc b e) refl
 
-pub step_wide : (isa : Isa) (x : Machine) (pc : ℕ) → length (behind (step_at isa x pc) x).hart.regs ≡ length x.hart.regs
+pub step_wide : (isa : Isa) (x : Machine) (pc : ℕ) → length (after_step (step_at isa x pc) x).hart.regs ≡ length x.hart.regs
 step_wide isa x pc = wide_by isa (fetched isa x.hart.mem pc) x pc refl
 
 not_reg : (o : Option Binding) (d : Option ℕ) (r : ℕ) → reg_in o ≡ d → has_reg o r ≡ false → d ≢ Some r
 not_reg o d r e f g = grind (arith, nat_tests)
 
-pub sure_keeps : (isa : Isa) (p : Passenger) (x : Machine) (g : Option ℕ) → IsSure isa p x (step_at isa x p.pc) g → (r : ℕ) → has_reg p.dst r ≡ false → slice_index (behind (step_at isa x p.pc) x).hart.regs r ≡ slice_index x.hart.regs r
+pub sure_keeps : (isa : Isa) (p : Passenger) (x : Machine) (g : Option ℕ) → IsSure isa p x (step_at isa x p.pc) g → (r : ℕ) → has_reg p.dst r ≡ false → slice_index (after_step (step_at isa x p.pc) x).hart.regs r ≡ slice_index x.hart.regs r
 sure_keeps isa p x g h r f = go (fetched isa x.hart.mem p.pc) refl h.reads
   where
-    go : (q : Fetched) → fetched isa x.hart.mem p.pc ≡ q → Holds p q → slice_index (behind (step_at isa x p.pc) x).hart.regs r ≡ slice_index x.hart.regs r
+    go : (q : Fetched) → fetched isa x.hart.mem p.pc ≡ q → Holds p q → slice_index (after_step (step_at isa x p.pc) x).hart.regs r ≡ slice_index x.hart.regs r
     go (Got i) e k = (step_keeps isa x p.pc i e).other r (not_reg p.dst (dst_of i) r (h.shape i k).three f)
     go (Bad b) e k = rw (bad_stays isa x p.pc b e) refl
 
@@ -543,50 +543,50 @@ pub record Leaves (m n : Machine) : Type 0 where
   pub rest : n.rest ≡ m.rest
   pub out : n.output ≡ m.output
 
-leaves_on : (o : Option End) (n m : Machine) → Leaves m n → Leaves m (behind (on o (Goes n) Stops) m)
+leaves_on : (o : Option End) (n m : Machine) → Leaves m n → Leaves m (after_step (on o (Goes n) Stops) m)
 leaves_on None n m h = h
 leaves_on (Some e) n m h = record { code = refl; rest = refl; out = refl }
 
-class_leaves : (c : Class) (i : Instr) (a b : ℕ) (m : Machine) → is_serial c ≡ false → Leaves m (behind (stepped_as c i a b m) m)
+class_leaves : (c : Class) (i : Instr) (a b : ℕ) (m : Machine) → is_serial c ≡ false → Leaves m (after_step (stepped_as c i a b m) m)
 class_leaves MemoryClass i a b m e = leaves_on (access_trap i m.hart.pc a (bounds_of m.hart.mem)) _ m (record { code = code_after i a b m.hart.mem; rest = refl; out = refl })
 class_leaves Serial i a b m e = absurd (cc)
 class_leaves Free i a b m e = leaves_on (free_trap i m.hart.pc) _ m (record { code = refl; rest = refl; out = refl })
 class_leaves _ i a b m e = leaves_on (finish_trap i m.hart.pc a b) _ m (record { code = refl; rest = refl; out = refl })
 
-leaves_at : (s : Stepped) (x : Machine) (pc : ℕ) → Leaves (at_pc x pc) (behind s (at_pc x pc)) → Leaves x (behind s x)
+leaves_at : (s : Stepped) (x : Machine) (pc : ℕ) → Leaves (at_pc x pc) (after_step s (at_pc x pc)) → Leaves x (after_step s x)
 leaves_at (Goes n) x pc h = record { code = h.code; rest = h.rest; out = h.out }
 leaves_at (Stops e) x pc h = record { code = refl; rest = refl; out = refl }
 
-pub sure_leaves : (isa : Isa) (p : Passenger) (x : Machine) (g : Option ℕ) → IsSure isa p x (step_at isa x p.pc) g → is_serial (kind p) ≡ false → Leaves x (behind (step_at isa x p.pc) x)
+pub sure_leaves : (isa : Isa) (p : Passenger) (x : Machine) (g : Option ℕ) → IsSure isa p x (step_at isa x p.pc) g → is_serial (kind p) ≡ false → Leaves x (after_step (step_at isa x p.pc) x)
 sure_leaves isa p x g h c = go (fetched isa x.hart.mem p.pc) refl h.reads
   where
-    go : (q : Fetched) → fetched isa x.hart.mem p.pc ≡ q → Holds p q → Leaves x (behind (step_at isa x p.pc) x)
+    go : (q : Fetched) → fetched isa x.hart.mem p.pc ≡ q → Holds p q → Leaves x (after_step (step_at isa x p.pc) x)
     go (Got i) e k = leaves_at (step_at isa x p.pc) x p.pc (rw (step_is isa x p.pc i e) (class_leaves (kind_of i) i (value_read x.hart.regs (src1_of i)) (value_read x.hart.regs (src2_of i)) (at_pc x p.pc) (rw (kind_is p i k) at c)))
     go (Bad b) e k = rw (bad_stays isa x p.pc b e) (record { code = refl; rest = refl; out = refl })
 
 -- no step changes bounds and flags
-bounds_on : (o : Option End) (n m : Machine) → bounds_of n.hart.mem ≡ bounds_of m.hart.mem → bounds_of (behind (on o (Goes n) Stops) m).hart.mem ≡ bounds_of m.hart.mem
+bounds_on : (o : Option End) (n m : Machine) → bounds_of n.hart.mem ≡ bounds_of m.hart.mem → bounds_of (after_step (on o (Goes n) Stops) m).hart.mem ≡ bounds_of m.hart.mem
 bounds_on None n m h = h
 bounds_on (Some e) n m h = refl
 
-bounds_served : (i : Instr) (c : Called) (m : Machine) → serve_of i m.hart.regs m.hart.mem m.rest ≡ c → bounds_of (behind (served c (dst_of i) m) m).hart.mem ≡ bounds_of m.hart.mem
+bounds_served : (i : Instr) (c : Called) (m : Machine) → serve_of i m.hart.regs m.hart.mem m.rest ≡ c → bounds_of (after_step (served c (dst_of i) m) m).hart.mem ≡ bounds_of m.hart.mem
 bounds_served i (called.Value a) m e = served_bounds i m.hart.regs m.hart.mem m.rest a e
 bounds_served i (called.Exit s) m e = refl
 
-class_bounds : (c : Class) (i : Instr) (a b : ℕ) (m : Machine) → bounds_of (behind (stepped_as c i a b m) m).hart.mem ≡ bounds_of m.hart.mem
+class_bounds : (c : Class) (i : Instr) (a b : ℕ) (m : Machine) → bounds_of (after_step (stepped_as c i a b m) m).hart.mem ≡ bounds_of m.hart.mem
 class_bounds MemoryClass i a b m = bounds_on (access_trap i m.hart.pc a (bounds_of m.hart.mem)) _ m (bounds_after i a b m.hart.mem)
 class_bounds Serial i a b m = bounds_served i (serve_of i m.hart.regs m.hart.mem m.rest) m refl
 class_bounds Free i a b m = bounds_on (free_trap i m.hart.pc) _ m refl
 class_bounds _ i a b m = bounds_on (finish_trap i m.hart.pc a b) _ m refl
 
-bounds_at : (s : Stepped) (x : Machine) (pc : ℕ) → bounds_of (behind s (at_pc x pc)).hart.mem ≡ bounds_of x.hart.mem → bounds_of (behind s x).hart.mem ≡ bounds_of x.hart.mem
+bounds_at : (s : Stepped) (x : Machine) (pc : ℕ) → bounds_of (after_step s (at_pc x pc)).hart.mem ≡ bounds_of x.hart.mem → bounds_of (after_step s x).hart.mem ≡ bounds_of x.hart.mem
 bounds_at (Goes n) x pc h = h
 bounds_at (Stops e) x pc h = refl
 
-pub step_bounds : (isa : Isa) (x : Machine) (pc : ℕ) → bounds_of (behind (step_at isa x pc) x).hart.mem ≡ bounds_of x.hart.mem
+pub step_bounds : (isa : Isa) (x : Machine) (pc : ℕ) → bounds_of (after_step (step_at isa x pc) x).hart.mem ≡ bounds_of x.hart.mem
 step_bounds isa x pc = go (fetched isa x.hart.mem pc) refl
   where
-    go : (q : Fetched) → fetched isa x.hart.mem pc ≡ q → bounds_of (behind (step_at isa x pc) x).hart.mem ≡ bounds_of x.hart.mem
+    go : (q : Fetched) → fetched isa x.hart.mem pc ≡ q → bounds_of (after_step (step_at isa x pc) x).hart.mem ≡ bounds_of x.hart.mem
     go (Got i) e = bounds_at (step_at isa x pc) x pc (rw (step_is isa x pc i e) (class_bounds (kind_of i) i (value_read x.hart.regs (src1_of i)) (value_read x.hart.regs (src2_of i)) (at_pc x pc)))
     go (Bad b) e = rw (bad_stays isa x pc b e) refl
 

@@ -6,7 +6,7 @@ use Rattle.rv_inst.specs.declared.isa.Isa.{Isa}
 use Rattle.rv_machine.specs.Machine.{Machine}
 use Rattle.cf_layout.specs.Layout.{Plan}
 use Rattle.cf_bind.specs.declared.passenger.Passenger.{Passenger}
-use Rattle.cf_semantics.specs.moves.Instructions.{is_memory, step_at, behind, access_trap}
+use Rattle.cf_semantics.specs.moves.Instructions.{is_memory, step_at, after_step, access_trap}
 use Rattle.cf_semantics.specs.state.State.{State}
 use Rattle.cf_semantics.specs.state.Column.{Item, Up, Down}
 use Rattle.cf_semantics.specs.state.Passengers.{instruction, kind, value_in}
@@ -31,7 +31,7 @@ pub record IsDocked (isa : Isa) (p : Passenger) (x : Machine) (risky : Bool) (an
   pub order : is_memory (kind p) ≡ true → (p.launched || p.recovered) ≡ true → risky ≡ false
   pub served : has_served p ≡ true → risky ≡ false
   pub permitted : is_memory (kind p) ≡ true → (p.launched || p.recovered) ≡ true → access_trap (instruction p) p.pc (value_in p.src1) (bounds_of x.hart.mem) ≡ None
-  pub answered : flies p ≡ true → (a : ℕ) → answer ≡ Some a → IsAnswer p.dst (behind (step_at isa x p.pc) x).hart.regs a
+  pub answered : flies p ≡ true → (a : ℕ) → answer ≡ Some a → IsAnswer p.dst (after_step (step_at isa x p.pc) x).hart.regs a
 
 unfoldable pub DockedAt : Isa → Passenger → Dock → Type 0
 DockedAt isa p w = IsDocked isa p w.path.machine w.risky w.answer
@@ -42,7 +42,7 @@ Fits isa (Up i p) w = DockedAt isa p w
 Fits isa (Down i k) w = Unit {0}
 
 abbrev pub past_passenger : Isa → ℕ → Passenger → path.Walk → Dock → Dock
-past_passenger isa i p q w = let y = behind (step_at isa w.path.machine p.pc) w.path.machine in record {
+past_passenger isa i p q w = let y = after_step (step_at isa w.path.machine p.pc) w.path.machine in record {
   path = q;
   risky = w.risky || may_turn (Up i p);
   mem = if has_ported p w.answer then y.hart.mem else w.mem;

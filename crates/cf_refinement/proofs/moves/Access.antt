@@ -28,7 +28,7 @@ use Rattle.cf_refinement.proofs.invariant.Stands.{Each, Stands}
 use Rattle.cf_refinement.proofs.invariant.Suited.{Suits}
 use Rattle.cf_semantics.specs.moves.Bars.{access_bar, bar, last_op, row_bar}
 use Rattle.cf_semantics.specs.state.Column.{Down, Item, Up, column}
-use Rattle.cf_semantics.specs.moves.Instructions.{Goes, Stepped, access_trap, answer_of, behind, dst_of, is_memory, mem_after, step_at, value_written}
+use Rattle.cf_semantics.specs.moves.Instructions.{Goes, Stepped, access_trap, answer_of, after_step, dst_of, is_memory, mem_after, step_at, value_written}
 use Rattle.cf_semantics.specs.state.Layouts.{isa_of, port}
 use Rattle.cf_semantics.specs.moves.Moves.{accessed, moved, operation, set_last}
 use Rattle.cf_semantics.specs.state.Options.{is_some, on}
@@ -137,12 +137,12 @@ write_answers : (o : Option Binding) (d : Option ℕ) (v : ℕ) (regs : List ℕ
 write_answers None d v regs l b e = tt
 write_answers (Some q) d v regs l b e = rw (← e) (get_or-set_same regs q.reg v 0 (rw l (b q.reg (sym e))))
 
-made : (isa : Isa) (p : Passenger) (w : trail.Walk) → length w.machine.hart.regs ≡ 32 → is_memory (kind p) ≡ true → missing p.src1 ≡ None → missing p.src2 ≡ None → access_trap (instruction p) p.pc (value_in p.src1) (bounds_of w.machine.hart.mem) ≡ None → sure.SureAt isa p w → (step_at isa w.machine p.pc ≡ Goes (behind (step_at isa w.machine p.pc) w.machine)) × ((behind (step_at isa w.machine p.pc) w.machine).hart.mem ≡ mem_after (instruction p) (value_in p.src1) (value_in p.src2) w.machine.hart.mem) × IsAnswer p.dst (behind (step_at isa w.machine p.pc) w.machine).hart.regs (answer_of (instruction p) (value_in p.src1) (value_in p.src2) w.machine.hart.mem)
+made : (isa : Isa) (p : Passenger) (w : trail.Walk) → length w.machine.hart.regs ≡ 32 → is_memory (kind p) ≡ true → missing p.src1 ≡ None → missing p.src2 ≡ None → access_trap (instruction p) p.pc (value_in p.src1) (bounds_of w.machine.hart.mem) ≡ None → sure.SureAt isa p w → (step_at isa w.machine p.pc ≡ Goes (after_step (step_at isa w.machine p.pc) w.machine)) × ((after_step (step_at isa w.machine p.pc) w.machine).hart.mem ≡ mem_after (instruction p) (value_in p.src1) (value_in p.src2) w.machine.hart.mem) × IsAnswer p.dst (after_step (step_at isa w.machine p.pc) w.machine).hart.regs (answer_of (instruction p) (value_in p.src1) (value_in p.src2) w.machine.hart.mem)
 unfolding sure.SureAt
 made isa p w l m m1 m2 t h =
     let q = memory_steps isa p w.machine w.goto m m1 m2 h.0 in
     let s : step_at isa w.machine p.pc ≡ Goes (after_access w.machine (instruction p) p.pc (value_in p.src1) (value_in p.src2)) = rw t at q.1 in
-    (s ∙ ap (λ (z : Stepped). Goes (behind z w.machine)) (sym s), rw s refl, rw s (write_answers p.dst (dst_of (instruction p)) _ w.machine.hart.regs l (sure_dst_below isa p w.machine (step_at isa w.machine p.pc) w.goto (instruction p) q.0 h.0) (h.0.shape (instruction p) q.0).three))
+    (s ∙ ap (λ (z : Stepped). Goes (after_step z w.machine)) (sym s), rw s refl, rw s (write_answers p.dst (dst_of (instruction p)) _ w.machine.hart.regs l (sure_dst_below isa p w.machine (step_at isa w.machine p.pc) w.goto (instruction p) q.0 h.0) (h.0.shape (instruction p) q.0).three))
 
 unanswered : (p : Passenger) (o : Option ℕ) → o ≡ None → is_memory (kind p) ≡ true → p.recovered ≡ false → ahead.has_ported p o ≡ false
 unanswered p o e m n = grind arith
@@ -182,9 +182,9 @@ pub record Scene (l : Plan) (s : State) (x : Machine) : Type 0 where
   pub range : (launch_stage l (port l) ≤ first.stage) × (first.stage ≤ recover_stage l (port l))
   pub certain : sure.SureAt (isa_of l) first.who (walk (dock.past (isa_of l)) first.above (dock.top l s x)).path
   pub before : s.mem ≡ (walk (dock.past (isa_of l)) first.above (dock.top l s x)).path.machine.hart.mem
-  pub goes : step_at (isa_of l) (walk (dock.past (isa_of l)) first.above (dock.top l s x)).path.machine first.who.pc ≡ Goes (behind (step_at (isa_of l) (walk (dock.past (isa_of l)) first.above (dock.top l s x)).path.machine first.who.pc) (walk (dock.past (isa_of l)) first.above (dock.top l s x)).path.machine)
-  pub stored : mem_after ready.what.instr ready.what.a ready.what.b s.mem ≡ (behind (step_at (isa_of l) (walk (dock.past (isa_of l)) first.above (dock.top l s x)).path.machine first.who.pc) (walk (dock.past (isa_of l)) first.above (dock.top l s x)).path.machine).hart.mem
-  pub answers : IsAnswer first.who.dst (behind (step_at (isa_of l) (walk (dock.past (isa_of l)) first.above (dock.top l s x)).path.machine first.who.pc) (walk (dock.past (isa_of l)) first.above (dock.top l s x)).path.machine).hart.regs (answer_of ready.what.instr ready.what.a ready.what.b s.mem)
+  pub goes : step_at (isa_of l) (walk (dock.past (isa_of l)) first.above (dock.top l s x)).path.machine first.who.pc ≡ Goes (after_step (step_at (isa_of l) (walk (dock.past (isa_of l)) first.above (dock.top l s x)).path.machine first.who.pc) (walk (dock.past (isa_of l)) first.above (dock.top l s x)).path.machine)
+  pub stored : mem_after ready.what.instr ready.what.a ready.what.b s.mem ≡ (after_step (step_at (isa_of l) (walk (dock.past (isa_of l)) first.above (dock.top l s x)).path.machine first.who.pc) (walk (dock.past (isa_of l)) first.above (dock.top l s x)).path.machine).hart.mem
+  pub answers : IsAnswer first.who.dst (after_step (step_at (isa_of l) (walk (dock.past (isa_of l)) first.above (dock.top l s x)).path.machine first.who.pc) (walk (dock.past (isa_of l)) first.above (dock.top l s x)).path.machine).hart.regs (answer_of ready.what.instr ready.what.a ready.what.b s.mem)
 
 pub access_scene : {rest out : List ℕ} (l : Plan) (s : State) (x : Machine) → Suits l → bar l s Access ≡ None → Sound l s rest out x → Scene l s x
 access_scene {rest} {out} l s x acc e h =
@@ -234,7 +234,7 @@ access_scene {rest} {out} l s x acc e h =
       before = mem;
       goes = did.0;
       stored = access_alike mem_after code a1 a2 mem ∙ sym did.1;
-      answers = subst (λ (v : ℕ). IsAnswer p.dst (behind (step_at (isa_of l) u.path.machine p.pc) u.path.machine).hart.regs v) (sym (access_alike answer_of code a1 a2 mem)) did.2;
+      answers = subst (λ (v : ℕ). IsAnswer p.dst (after_step (step_at (isa_of l) u.path.machine p.pc) u.path.machine).hart.regs v) (sym (access_alike answer_of code a1 a2 mem)) did.2;
     }
 
 pub access_kept : {rest out : List ℕ} (l : Plan) (s : State) (x : Machine) → Suits l → bar l s Access ≡ None → Sound l s rest out x → Sound l (moved l s Access) rest out x

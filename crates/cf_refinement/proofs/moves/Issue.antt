@@ -36,7 +36,7 @@ use Rattle.cf_refinement.proofs.invariant.Stands.{Blank, Low, Stands}
 use Rattle.cf_refinement.proofs.invariant.Suited.{Suits}
 use Rattle.cf_semantics.specs.moves.Bars.{bar, issue_bar, may_guess, row_bar}
 use Rattle.cf_semantics.specs.state.Column.{Item, Up, column, column_from, items}
-use Rattle.cf_semantics.specs.moves.Instructions.{behind, dst_of, fetched, is_control, is_free, is_serial, step_at}
+use Rattle.cf_semantics.specs.moves.Instructions.{after_step, dst_of, fetched, is_control, is_free, is_serial, step_at}
 use Rattle.cf_semantics.specs.state.Layouts.{isa_of}
 use Rattle.cf_semantics.specs.moves.Moves.{fetch_at, moved}
 use Rattle.cf_semantics.specs.state.Options.{When, is_some, on}
@@ -121,7 +121,7 @@ below_ends isa p w d = subst (λ (z : Bool). sure.Ends (trail.past_passenger isa
         turn true = tt
         turn false = refl
 
-keeps_reg : (isa : Isa) (p : Passenger) (w : trail.Walk) → sure.SureAt isa p w → (r : ℕ) → reg_in p.dst ≢ Some r → slice_index (behind (step_at isa w.machine p.pc) w.machine).hart.regs r ≡ slice_index w.machine.hart.regs r
+keeps_reg : (isa : Isa) (p : Passenger) (w : trail.Walk) → sure.SureAt isa p w → (r : ℕ) → reg_in p.dst ≢ Some r → slice_index (after_step (step_at isa w.machine p.pc) w.machine).hart.regs r ≡ slice_index w.machine.hart.regs r
 unfolding sure.SureAt
 keeps_reg isa p w h r f = sure_keeps isa p w.machine w.goto h.0 r (no_reg p.dst f)
   where
@@ -141,9 +141,9 @@ below_keeps isa p w c d f k = subst (λ (z : Bool). sure.Keeps (trail.past_passe
     go true e k = subst (λ (z : Bool). When (not z) (sure.AreRegisters (forgets (reg_in p.dst) c) w.machine.hart.regs)) (sym e) tt
     go false e k = turn (trail.turns p.owes)
       where
-        turn : (q : Bool) → When (not q) (sure.AreRegisters (forgets (reg_in p.dst) c) (behind (step_at isa w.machine p.pc) w.machine).hart.regs)
+        turn : (q : Bool) → When (not q) (sure.AreRegisters (forgets (reg_in p.dst) c) (after_step (step_at isa w.machine p.pc) w.machine).hart.regs)
         turn true = tt
-        turn false = forget_holds c (reg_in p.dst) w.machine.hart.regs (behind (step_at isa w.machine p.pc) w.machine).hart.regs (keeps_reg isa p w (f e)) k
+        turn false = forget_holds c (reg_in p.dst) w.machine.hart.regs (after_step (step_at isa w.machine p.pc) w.machine).hart.regs (keeps_reg isa p w (f e)) k
 
 -- what nothing may follow
 lone_fits : (p : Passenger) (b : Bool) → b ≡ false → lone.Fits (Up 1 p) b

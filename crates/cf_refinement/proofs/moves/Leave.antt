@@ -25,7 +25,7 @@ use Rattle.cf_refinement.proofs.invariant.Invariant.{IsOver, Sound}
 use Rattle.cf_refinement.proofs.invariant.Stands.{Stands}
 use Rattle.cf_semantics.specs.moves.Bars.{bar, is_full, leave_bar, row_bar}
 use Rattle.cf_semantics.specs.state.Column.{Down, Item, Up, column, column_from, packet_in}
-use Rattle.cf_semantics.specs.moves.Instructions.{Bad, Fetched, Goes, Got, Stepped, Stops, behind, dst_of, fetched, is_memory, is_serial, step_at, step_here, value_written}
+use Rattle.cf_semantics.specs.moves.Instructions.{Bad, Fetched, Goes, Got, Stepped, Stops, after_step, dst_of, fetched, is_memory, is_serial, step_at, step_here, value_written}
 use Rattle.cf_semantics.specs.state.Layouts.{isa_of}
 use Rattle.cf_semantics.specs.runs.Lines.{Line, line_of, lines_at, retired_by, retires, row}
 use Rattle.cf_semantics.specs.moves.Moves.{left, moved, without_passenger, written}
@@ -79,16 +79,16 @@ written_is (Some o) d v regs l b e k a =
     let u' : k.0 ≡ v = u ∙ rw (← e) (get_or-set_same regs o.reg v 0 (rw l (b o.reg (sym e)))) in
     rw (k.1, ← e, u')
 
-leave_regs : (isa : Isa) (p : Passenger) (x : Machine) (g : Option ℕ) → length x.hart.regs ≡ 32 → p.done ≡ true → p.ending ≡ None → sure.IsSure isa p x (step_at isa x p.pc) g → written x.hart.regs p.dst ≡ (behind (step_at isa x p.pc) x).hart.regs
+leave_regs : (isa : Isa) (p : Passenger) (x : Machine) (g : Option ℕ) → length x.hart.regs ≡ 32 → p.done ≡ true → p.ending ≡ None → sure.IsSure isa p x (step_at isa x p.pc) g → written x.hart.regs p.dst ≡ (after_step (step_at isa x p.pc) x).hart.regs
 leave_regs isa p x g l d n h = go (fetched isa x.hart.mem p.pc) refl h.reads
   where
-    go : (q : Fetched) → fetched isa x.hart.mem p.pc ≡ q → Holds p q → written x.hart.regs p.dst ≡ (behind (step_at isa x p.pc) x).hart.regs
+    go : (q : Fetched) → fetched isa x.hart.mem p.pc ≡ q → Holds p q → written x.hart.regs p.dst ≡ (after_step (step_at isa x p.pc) x).hart.regs
     go (Got i) f w =
-        let y = step_writes isa x p.pc i (behind (step_at isa x p.pc) x) f (h.values.goes d n) in
+        let y = step_writes isa x p.pc i (after_step (step_at isa x p.pc) x) f (h.values.goes d n) in
         written_is p.dst (dst_of i) y.0 x.hart.regs l (sure_dst_below isa p x (step_at isa x p.pc) g i w h) (h.shape i w).three (h.values.done d n) (rw y.1 at h.values.destination) ∙ sym y.1
     go (Bad b) f w = absurd (let z = sym n ∙ w.1 in cc)
 
-sure_regs : (isa : Isa) (p : Passenger) (w : trail.Walk) → length w.machine.hart.regs ≡ 32 → p.done ≡ true → p.ending ≡ None → sure.SureAt isa p w → written w.machine.hart.regs p.dst ≡ (behind (step_at isa w.machine p.pc) w.machine).hart.regs
+sure_regs : (isa : Isa) (p : Passenger) (w : trail.Walk) → length w.machine.hart.regs ≡ 32 → p.done ≡ true → p.ending ≡ None → sure.SureAt isa p w → written w.machine.hart.regs p.dst ≡ (after_step (step_at isa w.machine p.pc) w.machine).hart.regs
 unfolding sure.SureAt
 sure_regs isa p w l d n h = leave_regs isa p w.machine w.goto l d n h.0
 
@@ -100,7 +100,7 @@ at_top isa p w e h = let q : w.machine.hart.pc ≡ p.pc = same (sym e ∙ h.0.pa
     same : Some w.machine.hart.pc ≡ Some p.pc → w.machine.hart.pc ≡ p.pc
     same e = cc
 
-pub sure_goes : (isa : Isa) (p : Passenger) (w : trail.Walk) → p.done ≡ true → p.ending ≡ None → sure.SureAt isa p w → (step_at isa w.machine p.pc ≡ Goes (behind (step_at isa w.machine p.pc) w.machine)) × (p.next ≡ Some (behind (step_at isa w.machine p.pc) w.machine).hart.pc)
+pub sure_goes : (isa : Isa) (p : Passenger) (w : trail.Walk) → p.done ≡ true → p.ending ≡ None → sure.SureAt isa p w → (step_at isa w.machine p.pc ≡ Goes (after_step (step_at isa w.machine p.pc) w.machine)) × (p.next ≡ Some (after_step (step_at isa w.machine p.pc) w.machine).hart.pc)
 unfolding sure.SureAt
 sure_goes isa p w d n h = (h.0.values.goes d n, h.0.values.next d n)
 
@@ -164,7 +164,7 @@ not_flies p f = go p.launched refl
     go false e = grind arith
 
 -- a live passenger that goes on
-pub live_path : (isa : Isa) (s t : State) (n : ℕ) (p : Passenger) (x y : Machine) → y ≡ behind (step_at isa x p.pc) x → t.lane ≡ s.lane → p.dead ≡ false → p.done ≡ true → p.ending ≡ None → p.owes ≡ None → p.next ≡ Some y.hart.pc → paths.Follows (trail.past isa (Up n p) (trail.top s x)) (trail.top t y)
+pub live_path : (isa : Isa) (s t : State) (n : ℕ) (p : Passenger) (x y : Machine) → y ≡ after_step (step_at isa x p.pc) x → t.lane ≡ s.lane → p.dead ≡ false → p.done ≡ true → p.ending ≡ None → p.owes ≡ None → p.next ≡ Some y.hart.pc → paths.Follows (trail.past isa (Up n p) (trail.top s x)) (trail.top t y)
 unfolding trail.past
 live_path isa s t n p x y e l d u z o m = grind arith
 
@@ -173,10 +173,10 @@ kept_if : {A : Type 0} (b : Bool) (y x : A) → (b ≡ false → y ≡ x) → y 
 kept_if true y x f = refl
 kept_if false y x f = f refl
 
-unported_mem : (l : Plan) (p : Passenger) (w : trail.Walk) (n : ℕ) (a : Option ℕ) → p.dead ≡ false → p.done ≡ true → p.ending ≡ None → (p.launched ≡ true → p.recovered ≡ true) → Stands l n p → sure.SureAt (isa_of l) p w → ahead.has_ported p a ≡ false → (behind (step_at (isa_of l) w.machine p.pc) w.machine).hart.mem ≡ w.machine.hart.mem
+unported_mem : (l : Plan) (p : Passenger) (w : trail.Walk) (n : ℕ) (a : Option ℕ) → p.dead ≡ false → p.done ≡ true → p.ending ≡ None → (p.launched ≡ true → p.recovered ≡ true) → Stands l n p → sure.SureAt (isa_of l) p w → ahead.has_ported p a ≡ false → (after_step (step_at (isa_of l) w.machine p.pc) w.machine).hart.mem ≡ w.machine.hart.mem
 unported_mem l p w n a d u z b s h e = go (is_memory (kind p)) (is_serial (kind p)) refl refl
   where
-    go : (c q : Bool) → is_memory (kind p) ≡ c → is_serial (kind p) ≡ q → (behind (step_at (isa_of l) w.machine p.pc) w.machine).hart.mem ≡ w.machine.hart.mem
+    go : (c q : Bool) → is_memory (kind p) ≡ c → is_serial (kind p) ≡ q → (after_step (step_at (isa_of l) w.machine p.pc) w.machine).hart.mem ≡ w.machine.hart.mem
     go true q f g = absurd (out p.launched refl)
       where
         out : (o : Bool) → p.launched ≡ o → ⊥
@@ -185,7 +185,7 @@ unported_mem l p w n a d u z b s h e = go (is_memory (kind p)) (is_serial (kind 
     go false true f g = absurd (grind arith)
     go false false f g = sure_mem (isa_of l) p w h f g
 
-unserved : (isa : Isa) (p : Passenger) (w : trail.Walk) → p.dead ≡ false → p.done ≡ true → p.ending ≡ None → sure.SureAt isa p w → ahead.has_served p ≡ false → (code_of (behind (step_at isa w.machine p.pc) w.machine).hart.mem ≡ code_of w.machine.hart.mem) × ((behind (step_at isa w.machine p.pc) w.machine).rest ≡ w.machine.rest) × ((behind (step_at isa w.machine p.pc) w.machine).output ≡ w.machine.output)
+unserved : (isa : Isa) (p : Passenger) (w : trail.Walk) → p.dead ≡ false → p.done ≡ true → p.ending ≡ None → sure.SureAt isa p w → ahead.has_served p ≡ false → (code_of (after_step (step_at isa w.machine p.pc) w.machine).hart.mem ≡ code_of w.machine.hart.mem) × ((after_step (step_at isa w.machine p.pc) w.machine).rest ≡ w.machine.rest) × ((after_step (step_at isa w.machine p.pc) w.machine).output ≡ w.machine.output)
 unfolding sure.SureAt
 unserved isa p w d u z h e =
     let c : is_serial (kind p) ≡ false = go (is_serial (kind p)) refl in
@@ -196,7 +196,7 @@ unserved isa p w d u z h e =
     go false f = f
     go true f = absurd (grind arith)
 
-live_port : (l : Plan) (s t : State) (n : ℕ) (p : Passenger) (x : Machine) → t.sidings ≡ s.sidings → p.dead ≡ false → p.done ≡ true → p.ending ≡ None → (p.launched ≡ true → p.recovered ≡ true) → Stands l n p → sure.SureAt (isa_of l) p (trail.top s x) → paths.Follows (trail.past (isa_of l) (Up n p) (trail.top s x)) (trail.top t (behind (step_at (isa_of l) x p.pc) x)) → ports.Follows (dock.past (isa_of l) (Up n p) (dock.top l s x)) (dock.top l t (behind (step_at (isa_of l) x p.pc) x))
+live_port : (l : Plan) (s t : State) (n : ℕ) (p : Passenger) (x : Machine) → t.sidings ≡ s.sidings → p.dead ≡ false → p.done ≡ true → p.ending ≡ None → (p.launched ≡ true → p.recovered ≡ true) → Stands l n p → sure.SureAt (isa_of l) p (trail.top s x) → paths.Follows (trail.past (isa_of l) (Up n p) (trail.top s x)) (trail.top t (after_step (step_at (isa_of l) x p.pc) x)) → ports.Follows (dock.past (isa_of l) (Up n p) (dock.top l s x)) (dock.top l t (after_step (step_at (isa_of l) x p.pc) x))
 unfolding dock.past
 live_port l s t n p x e d u z b k h q =
     let f = not_flies p b in
@@ -313,10 +313,10 @@ line_sure isa p x y g wide goes c d n h = go (fetched isa x.hart.mem p.pc) refl 
   where
     go : (q : Fetched) → fetched isa x.hart.mem p.pc ≡ q → Holds p q → line_of p ∷ [] ≡ lines_at isa x
     go (Got i) f w =
-        let z = dst_got p.dst (dst_of i) (behind (step_at isa x p.pc) x).hart.regs (h.shape i w).three (h.values.done d n) h.values.destination in
+        let z = dst_got p.dst (dst_of i) (after_step (step_at isa x p.pc) x).hart.regs (h.shape i w).three (h.values.done d n) h.values.destination in
         let f' : fetched isa x.hart.mem x.hart.pc ≡ Got i = ap (fetched isa x.hart.mem) (sym c) ∙ f in
-        let z' : p.dst ≡ got (behind (step_here isa x) x).hart.regs (dst_of i) = subst (λ (a : ℕ). p.dst ≡ got (behind (step_at isa x a) x).hart.regs (dst_of i)) c z in
-        let z'' : p.dst ≡ got y.hart.regs (dst_of i) = z' ∙ ap (λ (s : Stepped). got (behind s x).hart.regs (dst_of i)) goes in
+        let z' : p.dst ≡ got (after_step (step_here isa x) x).hart.regs (dst_of i) = subst (λ (a : ℕ). p.dst ≡ got (after_step (step_at isa x a) x).hart.regs (dst_of i)) c z in
+        let z'' : p.dst ≡ got y.hart.regs (dst_of i) = z' ∙ ap (λ (s : Stepped). got (after_step s x).hart.regs (dst_of i)) goes in
         ap (λ (l : Line). l ∷ []) (same_line c (word_is p i w) z'') ∙ sym (own_line isa x y i wide f' goes)
     go (Bad b) f w = absurd (let z = sym n ∙ w.1 in cc)
 
@@ -355,7 +355,7 @@ leave_kept {rest} {out} l s x e h =
     go r below was is false None d n =
         let p = r.who in
         let t : State = record s { cells = put_cell s.cells l.stages (without_passenger r.here); regs = written s.regs p.dst; retired = s.retired + 1 } in
-        let y = behind (step_at (isa_of l) x p.pc) x in
+        let y = after_step (step_at (isa_of l) x p.pc) x in
         let u = r.over d in
         let fit = rw was at h.path_fit in
         let stand = rw was at h.stands in

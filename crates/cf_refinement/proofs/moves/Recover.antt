@@ -24,7 +24,7 @@ use Rattle.cf_refinement.proofs.invariant.Stands.{Behind, Stands}
 use Rattle.cf_refinement.proofs.invariant.Suited.{Suits, is_plain}
 use Rattle.cf_semantics.specs.moves.Bars.{bar}
 use Rattle.cf_semantics.specs.state.Column.{Down, Item, Up}
-use Rattle.cf_semantics.specs.moves.Instructions.{access_trap, behind, is_control, is_free, is_memory, is_serial, step_at}
+use Rattle.cf_semantics.specs.moves.Instructions.{access_trap, after_step, is_control, is_free, is_memory, is_serial, step_at}
 use Rattle.cf_semantics.specs.state.Layouts.{isa_of, port}
 use Rattle.cf_semantics.specs.moves.Moves.{back_in, moved, set_last, with_passenger}
 use Rattle.cf_semantics.specs.state.Options.{on}
@@ -57,7 +57,7 @@ port_label isa i p w s = record { fit = λ h. h; follows = λ h. record { path =
 behind_here : (l : Plan) (p : Passenger) (k i : ℕ) → siding_of l (kind p) ≡ Some k → recover_stage l k ≡ i → Behind l (kind p) i
 behind_here l p k i e f = rw e (omega (arith, f))
 
-pub docked_live : (isa : Isa) (p : Passenger) (i : ℕ) (w : dock.Dock) → dock.Fits isa (Up i p) w → p.launched ≡ true → is_memory (kind p) ≡ true → (p.dead ≡ false) × (w.risky ≡ false) × (access_trap (instruction p) p.pc (value_in p.src1) (bounds_of w.path.machine.hart.mem) ≡ None) × (ahead.flies p ≡ true → (a : ℕ) → w.answer ≡ Some a → IsAnswer p.dst (behind (step_at isa w.path.machine p.pc) w.path.machine).hart.regs a)
+pub docked_live : (isa : Isa) (p : Passenger) (i : ℕ) (w : dock.Dock) → dock.Fits isa (Up i p) w → p.launched ≡ true → is_memory (kind p) ≡ true → (p.dead ≡ false) × (w.risky ≡ false) × (access_trap (instruction p) p.pc (value_in p.src1) (bounds_of w.path.machine.hart.mem) ≡ None) × (ahead.flies p ≡ true → (a : ℕ) → w.answer ≡ Some a → IsAnswer p.dst (after_step (step_at isa w.path.machine p.pc) w.path.machine).hart.regs a)
 unfolding dock.Fits dock.DockedAt
 docked_live isa p i w h o m =
     let e : (p.launched || p.recovered) ≡ true = grind arith in
@@ -202,7 +202,7 @@ memory_quiet p m = grind arith
 memory_guess : (l : Plan) (i : ℕ) (p : Passenger) → is_memory (kind p) ≡ true → Stands l i p → p.guess ≡ Next
 memory_guess l i p m h = h.guess (grind arith)
 
-pub sure_loads : (isa : Isa) (p : Passenger) (w : trail.Walk) (a : ℕ) → length w.machine.hart.regs ≡ 32 → is_memory (kind p) ≡ true → missing p.src1 ≡ None → missing p.src2 ≡ None → access_trap (instruction p) p.pc (value_in p.src1) (bounds_of w.machine.hart.mem) ≡ None → IsAnswer p.dst (behind (step_at isa w.machine p.pc) w.machine).hart.regs a → sure.SureAt isa p w → Finishes p w.machine (step_at isa w.machine p.pc) (Some a)
+pub sure_loads : (isa : Isa) (p : Passenger) (w : trail.Walk) (a : ℕ) → length w.machine.hart.regs ≡ 32 → is_memory (kind p) ≡ true → missing p.src1 ≡ None → missing p.src2 ≡ None → access_trap (instruction p) p.pc (value_in p.src1) (bounds_of w.machine.hart.mem) ≡ None → IsAnswer p.dst (after_step (step_at isa w.machine p.pc) w.machine).hart.regs a → sure.SureAt isa p w → Finishes p w.machine (step_at isa w.machine p.pc) (Some a)
 unfolding sure.SureAt
 sure_loads isa p w a l m m1 m2 t n h = memory_finishes isa p w.machine w.goto a l m m1 m2 t n h.0
 
@@ -236,7 +236,7 @@ memory_kept {rest} {out} l s x i a acc r m ans h =
     let flies : ahead.flies p ≡ true = let o = r.out in let c = r.never in grind arith in
     let given = known.3 flies a at in
     let wp = walk (trail.past (isa_of l)) q.above (trail.top s x) in
-    let given' : IsAnswer p.dst (behind (step_at (isa_of l) wp.machine p.pc) wp.machine).hart.regs a = subst (λ (z : trail.Walk). IsAnswer p.dst (behind (step_at (isa_of l) z.machine p.pc) z.machine).hart.regs a) y.same given in
+    let given' : IsAnswer p.dst (after_step (step_at (isa_of l) wp.machine p.pc) wp.machine).hart.regs a = subst (λ (z : trail.Walk). IsAnswer p.dst (after_step (step_at (isa_of l) z.machine p.pc) z.machine).hart.regs a) y.same given in
     let permit : access_trap (instruction p) p.pc (value_in p.src1) (bounds_of wp.machine.hart.mem) ≡ None = subst (λ (z : trail.Walk). access_trap (instruction p) p.pc (value_in p.src1) (bounds_of z.machine.hart.mem) ≡ None) y.same known.2 in
     let rp = prefaced _ (sure.Fits (isa_of l)) (trail.past (isa_of l)) paths.Follows (Up i p) (Up i b) new wp (back_fits (isa_of l) i p wp) (back_past (isa_of l) i p wp) (record { fit = finish_fits (isa_of l) i b wp (Some a) y.wide d v (sure_loads (isa_of l) b wp a y.wide m (y.stands.0.sourced1 r.out) (y.stands.0.sourced2 r.out) permit given'); follows = finish_walk (isa_of l) i b wp (Some a) v (memory_goes b m) }) in
     let fw = subst (λ (z : trail.Walk). paths.Follows (trail.past (isa_of l) (Up i p) z) (trail.past (isa_of l) (Up i f) z)) (sym y.same) (rp.follows y.path_fit) in

@@ -10,7 +10,7 @@ use Rattle.cf_refinement.proofs.instructions.Steps.{step_is}
 use Rattle.cf_refinement.proofs.invariant.Port.{Dock, DockedAt, Fits, past}
 use Rattle.cf_semantics.specs.claims.Ahead.{flies, has_ported}
 use Rattle.cf_semantics.specs.state.Column.{Down, Item, Up}
-use Rattle.cf_semantics.specs.moves.Instructions.{Goes, Got, Stops, access_trap, behind, fetched, kind_of, mem_after, src1_of, src2_of, step_at, value_read}
+use Rattle.cf_semantics.specs.moves.Instructions.{Goes, Got, Stops, access_trap, after_step, fetched, kind_of, mem_after, src1_of, src2_of, step_at, value_read}
 use Rattle.cf_semantics.specs.state.Options.{on}
 use Rattle.cf_semantics.specs.claims.Walks.{Everywhere, walk}
 use Rattle.cf_semantics.specs.claims.Soundness.{IsAnswer}
@@ -54,20 +54,20 @@ fit_waiting isa (Down i k ∷ xs) w m h e f =
     (fits_mem isa (Down i k) w m f.0, subst (λ (v : Dock). Everywhere (Fits isa) (past isa) xs v) (sym (mem_result isa i k w m)) (fit_waiting isa xs (past isa (Down i k) w) m h (none_past isa (Down i k) w e) f.1))
 
 -- at the passenger whose operation is answered
-at_port : (isa : Isa) (i : ℕ) (p : Passenger) (w : Dock) (a : ℕ) → p.dead ≡ false → flies p ≡ true → w.answer ≡ None → past isa (Up i p) (record w { answer = Some a }) ≡ record (past isa (Up i p) w) { mem = (behind (step_at isa w.path.machine p.pc) w.path.machine).hart.mem }
+at_port : (isa : Isa) (i : ℕ) (p : Passenger) (w : Dock) (a : ℕ) → p.dead ≡ false → flies p ≡ true → w.answer ≡ None → past isa (Up i p) (record w { answer = Some a }) ≡ record (past isa (Up i p) w) { mem = (after_step (step_at isa w.path.machine p.pc) w.path.machine).hart.mem }
 unfolding past
 at_port isa i p w a d f e =
     let t : has_ported p (Some a) ≡ true = grind arith in
     rw (e, t, f)
 
-docked_at : (isa : Isa) (p : Passenger) (w : Dock) (a : ℕ) → IsAnswer p.dst (behind (step_at isa w.path.machine p.pc) w.path.machine).hart.regs a → DockedAt isa p w → DockedAt isa p (record w { answer = Some a })
+docked_at : (isa : Isa) (p : Passenger) (w : Dock) (a : ℕ) → IsAnswer p.dst (after_step (step_at isa w.path.machine p.pc) w.path.machine).hart.regs a → DockedAt isa p w → DockedAt isa p (record w { answer = Some a })
 unfolding DockedAt
-docked_at isa p w a n h = record { live = h.live; order = h.order; served = h.served; permitted = h.permitted; answered = λ f b e. let q : a ≡ b = cc in subst (λ (c : ℕ). IsAnswer p.dst (behind (step_at isa w.path.machine p.pc) w.path.machine).hart.regs c) q n }
+docked_at isa p w a n h = record { live = h.live; order = h.order; served = h.served; permitted = h.permitted; answered = λ f b e. let q : a ≡ b = cc in subst (λ (c : ℕ). IsAnswer p.dst (after_step (step_at isa w.path.machine p.pc) w.path.machine).hart.regs c) q n }
 
-pub access_fits : (isa : Isa) (i : ℕ) (p : Passenger) (above below : List Item) (w : Dock) (a : ℕ) → Landed above → Waiting below → p.dead ≡ false → flies p ≡ true → (walk (past isa) above w).answer ≡ None → IsAnswer p.dst (behind (step_at isa (walk (past isa) above w).path.machine p.pc) (walk (past isa) above w).path.machine).hart.regs a → Everywhere (Fits isa) (past isa) (above ++ (Up i p ∷ below)) w → Everywhere (Fits isa) (past isa) (above ++ (Up i p ∷ below)) (record w { answer = Some a }) × (walk (past isa) (above ++ (Up i p ∷ below)) (record w { answer = Some a }) ≡ record (walk (past isa) (above ++ (Up i p ∷ below)) w) { mem = (behind (step_at isa (walk (past isa) above w).path.machine p.pc) (walk (past isa) above w).path.machine).hart.mem })
+pub access_fits : (isa : Isa) (i : ℕ) (p : Passenger) (above below : List Item) (w : Dock) (a : ℕ) → Landed above → Waiting below → p.dead ≡ false → flies p ≡ true → (walk (past isa) above w).answer ≡ None → IsAnswer p.dst (after_step (step_at isa (walk (past isa) above w).path.machine p.pc) (walk (past isa) above w).path.machine).hart.regs a → Everywhere (Fits isa) (past isa) (above ++ (Up i p ∷ below)) w → Everywhere (Fits isa) (past isa) (above ++ (Up i p ∷ below)) (record w { answer = Some a }) × (walk (past isa) (above ++ (Up i p ∷ below)) (record w { answer = Some a }) ≡ record (walk (past isa) (above ++ (Up i p ∷ below)) w) { mem = (after_step (step_at isa (walk (past isa) above w).path.machine p.pc) (walk (past isa) above w).path.machine).hart.mem })
 access_fits isa i p above below w a la wa d f e n h =
     let u = walk (past isa) above w in
-    let m = (behind (step_at isa u.path.machine p.pc) u.path.machine).hart.mem in
+    let m = (after_step (step_at isa u.path.machine p.pc) u.path.machine).hart.mem in
     let back = fit_back Dock (Fits isa) (past isa) above (Up i p ∷ below) w h in
     let top = walk_landed isa above w (Some a) la in
     let here : Fits isa (Up i p) (record u { answer = Some a }) = unfold Fits in docked_at isa p u a n back.0 in
@@ -79,8 +79,8 @@ access_fits isa i p above below w a la wa d f e n h =
     )
 
 -- the second law: a permitted access
-memory_step : (o : Option End) (n m : Machine) → o ≡ None → (behind (on o (Goes n) Stops) m) ≡ n
+memory_step : (o : Option End) (n m : Machine) → o ≡ None → (after_step (on o (Goes n) Stops) m) ≡ n
 memory_step o n m e = rw e
 
-pub memory_after : (isa : Isa) (p : Passenger) (x : Machine) (i : Instr) → fetched isa x.hart.mem p.pc ≡ Got i → kind_of i ≡ Memory → access_trap i p.pc (value_read x.hart.regs (src1_of i)) (bounds_of x.hart.mem) ≡ None → (behind (step_at isa x p.pc) x).hart.mem ≡ mem_after i (value_read x.hart.regs (src1_of i)) (value_read x.hart.regs (src2_of i)) x.hart.mem
+pub memory_after : (isa : Isa) (p : Passenger) (x : Machine) (i : Instr) → fetched isa x.hart.mem p.pc ≡ Got i → kind_of i ≡ Memory → access_trap i p.pc (value_read x.hart.regs (src1_of i)) (bounds_of x.hart.mem) ≡ None → (after_step (step_at isa x p.pc) x).hart.mem ≡ mem_after i (value_read x.hart.regs (src1_of i)) (value_read x.hart.regs (src2_of i)) x.hart.mem
 memory_after isa p x i f c t = rw (step_is isa x p.pc i f, c, t)

@@ -9,7 +9,7 @@ use Rattle.cf_refinement.proofs.instructions.Steps.{step_is}
 use Rattle.cf_refinement.proofs.invariant.Port.{Dock, DockedAt, Fits, past}
 use Rattle.cf_semantics.specs.claims.Ahead.{flies, has_ported}
 use Rattle.cf_semantics.specs.state.Column.{Down, Item, Up}
-use Rattle.cf_semantics.specs.moves.Instructions.{Bad, Fetched, Goes, Got, Stepped, Stops, at_pc, behind, fetched, finish_trap, free_trap, is_memory, is_serial, kind_of, src1_of, src2_of, step_at, value_read}
+use Rattle.cf_semantics.specs.moves.Instructions.{Bad, Fetched, Goes, Got, Stepped, Stops, at_pc, after_step, fetched, finish_trap, free_trap, is_memory, is_serial, kind_of, src1_of, src2_of, step_at, value_read}
 use Rattle.cf_semantics.specs.state.Options.{is_some, on}
 use Rattle.cf_semantics.specs.state.Passengers.{kind}
 use Rattle.cf_semantics.specs.moves.Steps.{stepped_as}
@@ -68,24 +68,24 @@ unfolding past
 past_mem isa i p w m a e = rw (a, e)
 
 -- a step of another class leaves memory
-mem_on : (o : Option End) (n m : Machine) → n.hart.mem ≡ m.hart.mem → (behind (on o (Goes n) Stops) m).hart.mem ≡ m.hart.mem
+mem_on : (o : Option End) (n m : Machine) → n.hart.mem ≡ m.hart.mem → (after_step (on o (Goes n) Stops) m).hart.mem ≡ m.hart.mem
 mem_on None n m e = e
 mem_on (Some b) n m e = refl
 
-class_mem : (c : Class) (i : Instr) (a b : ℕ) (m : Machine) → is_memory c ≡ false → is_serial c ≡ false → (behind (stepped_as c i a b m) m).hart.mem ≡ m.hart.mem
+class_mem : (c : Class) (i : Instr) (a b : ℕ) (m : Machine) → is_memory c ≡ false → is_serial c ≡ false → (after_step (stepped_as c i a b m) m).hart.mem ≡ m.hart.mem
 class_mem Memory i a b m e f = absurd (cc)
 class_mem Serial i a b m e f = absurd (cc)
 class_mem Free i a b m e f = mem_on (free_trap i m.hart.pc) _ m refl
 class_mem _ i a b m e f = mem_on (finish_trap i m.hart.pc a b) _ m refl
 
-mem_at : (s : Stepped) (x : Machine) (pc : ℕ) → (behind s (at_pc x pc)).hart.mem ≡ x.hart.mem → (behind s x).hart.mem ≡ x.hart.mem
+mem_at : (s : Stepped) (x : Machine) (pc : ℕ) → (after_step s (at_pc x pc)).hart.mem ≡ x.hart.mem → (after_step s x).hart.mem ≡ x.hart.mem
 mem_at (Goes n) x pc e = e
 mem_at (Stops b) x pc e = refl
 
-step_mem : (isa : Isa) (p : Passenger) (x : Machine) (g : Option ℕ) → sure.IsSure isa p x (step_at isa x p.pc) g → is_memory (kind p) ≡ false → is_serial (kind p) ≡ false → (behind (step_at isa x p.pc) x).hart.mem ≡ x.hart.mem
+step_mem : (isa : Isa) (p : Passenger) (x : Machine) (g : Option ℕ) → sure.IsSure isa p x (step_at isa x p.pc) g → is_memory (kind p) ≡ false → is_serial (kind p) ≡ false → (after_step (step_at isa x p.pc) x).hart.mem ≡ x.hart.mem
 step_mem isa p x g h e f = go (fetched isa x.hart.mem p.pc) refl h.reads
   where
-    go : (q : Fetched) → fetched isa x.hart.mem p.pc ≡ q → Holds p q → (behind (step_at isa x p.pc) x).hart.mem ≡ x.hart.mem
+    go : (q : Fetched) → fetched isa x.hart.mem p.pc ≡ q → Holds p q → (after_step (step_at isa x p.pc) x).hart.mem ≡ x.hart.mem
     go (Got i) a k =
         let c : kind p ≡ kind_of i = ap (λ (o : Option Instr). on o Free kind_of) k in
         mem_at (step_at isa x p.pc) x p.pc (rw (step_is isa x p.pc i a) (class_mem (kind_of i) i (value_read x.hart.regs (src1_of i)) (value_read x.hart.regs (src2_of i)) (at_pc x p.pc) (rw c at e) (rw c at f)))
@@ -105,7 +105,7 @@ pub walk_risky : (isa : Isa) (xs : List Item) (w : Dock) → (walk (past isa) xs
 walk_risky isa [] w e = e
 walk_risky isa (i ∷ xs) w e = past_risky isa i w (walk_risky isa xs (past isa i w) e)
 
-pub sure_mem : (isa : Isa) (p : Passenger) (w : trail.Walk) → sure.SureAt isa p w → is_memory (kind p) ≡ false → is_serial (kind p) ≡ false → (behind (step_at isa w.machine p.pc) w.machine).hart.mem ≡ w.machine.hart.mem
+pub sure_mem : (isa : Isa) (p : Passenger) (w : trail.Walk) → sure.SureAt isa p w → is_memory (kind p) ≡ false → is_serial (kind p) ≡ false → (after_step (step_at isa w.machine p.pc) w.machine).hart.mem ≡ w.machine.hart.mem
 unfolding sure.SureAt
 sure_mem isa p w h e f = step_mem isa p w.machine w.goto h.0 e f
 

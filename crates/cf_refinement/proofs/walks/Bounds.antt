@@ -6,7 +6,7 @@ use Rattle.cf_layout.specs.Layout.{Plan}
 use Rattle.cf_refinement.proofs.instructions.Steps.{step_bounds}
 use Rattle.cf_refinement.proofs.invariant.Invariant.{Sound}
 use Rattle.cf_semantics.specs.state.Column.{Down, Item, Up, column}
-use Rattle.cf_semantics.specs.moves.Instructions.{behind, step_at}
+use Rattle.cf_semantics.specs.moves.Instructions.{after_step, step_at}
 use Rattle.cf_semantics.specs.state.Layouts.{isa_of}
 use Rattle.cf_semantics.specs.state.State.{State}
 use Rattle.cf_semantics.specs.claims.Walks.{walk}
@@ -32,7 +32,7 @@ either false y m n e f = f
 
 past_port_bounds : (isa : Isa) (i : Item) (w : dock.Dock) (n : List Bounds) → bounds_of w.mem ≡ n → bounds_of w.path.machine.hart.mem ≡ n → bounds_of (dock.past isa i w).mem ≡ n
 unfolding dock.past
-past_port_bounds isa (Up i p) w n e f = either (ahead.has_ported p w.answer) (behind (step_at isa w.path.machine p.pc) w.path.machine).hart.mem w.mem n (step_bounds isa w.path.machine p.pc ∙ f) e
+past_port_bounds isa (Up i p) w n e f = either (ahead.has_ported p w.answer) (after_step (step_at isa w.path.machine p.pc) w.path.machine).hart.mem w.mem n (step_bounds isa w.path.machine p.pc ∙ f) e
 past_port_bounds isa (Down i k) w n e f = e
 
 pub port_bounds : (isa : Isa) (xs : List Item) (w : dock.Dock) (n : List Bounds) → bounds_of w.mem ≡ n → bounds_of w.path.machine.hart.mem ≡ n → bounds_of (walk (dock.past isa) xs w).mem ≡ n

@@ -6,7 +6,7 @@ use Rattle.cf_bind.specs.declared.passenger.Guess.{Guess}
 use Rattle.cf_bind.specs.declared.passenger.Passenger.{Passenger}
 use Rattle.cf_refinement.proofs.instructions.Steps.{bad_step, free_bare, step_is}
 use Rattle.cf_refinement.proofs.invariant.Sure.{AreRegisters, IsSure, SureAt}
-use Rattle.cf_semantics.specs.moves.Instructions.{Bad, Fetched, Goes, Got, Stops, at_pc, behind, dst_of, fetched, free_trap, is_free, kind_of, src1_of, src2_of, step_at, value_read, word_after}
+use Rattle.cf_semantics.specs.moves.Instructions.{Bad, Fetched, Goes, Got, Stops, at_pc, after_step, dst_of, fetched, free_trap, is_free, kind_of, src1_of, src2_of, step_at, value_read, word_after}
 use Rattle.cf_semantics.specs.state.Options.{is_some, on}
 use Rattle.cf_semantics.specs.state.Passengers.{both, destination, fresh, fresh_as, fresh_end, fresh_fence, fresh_undone, goto, instruction, kind, missing, reg_in, requests, source}
 use Rattle.cf_semantics.specs.claims.Path.{Walk, among}
@@ -98,7 +98,7 @@ undone_sure isa c x pc g i t h p r = record {
   values = record {
     first = source_agrees c (src1_of i) x.hart.regs h;
     second = source_agrees c (src2_of i) x.hart.regs h;
-    destination = bound_agrees (dst_of i) (behind (step_at isa x pc) x).hart.regs;
+    destination = bound_agrees (dst_of i) (after_step (step_at isa x pc) x).hart.regs;
     owed = tt;
     goes = λ k. absurd (cc);
     next = λ k. absurd (cc);

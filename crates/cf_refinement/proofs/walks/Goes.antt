@@ -9,7 +9,7 @@ use Rattle.cf_refinement.proofs.instructions.Steps.{kind_is, plain_steps, straig
 use Rattle.cf_refinement.proofs.invariant.Stands.{Stands}
 use Rattle.cf_refinement.proofs.invariant.Suited.{is_plain}
 use Rattle.cf_semantics.specs.state.Column.{Up}
-use Rattle.cf_semantics.specs.moves.Instructions.{at_pc, Bad, Fetched, Goes, Got, Stepped, Stops, access_trap, behind, dst_of, fetched, is_control, is_free, is_memory, is_serial, kind_of, src1_of, src2_of, step_at, value_read, value_written, word_after}
+use Rattle.cf_semantics.specs.moves.Instructions.{at_pc, Bad, Fetched, Goes, Got, Stepped, Stops, access_trap, after_step, dst_of, fetched, is_control, is_free, is_memory, is_serial, kind_of, src1_of, src2_of, step_at, value_read, value_written, word_after}
 use Rattle.cf_semantics.specs.state.Layouts.{isa_of}
 use Rattle.cf_semantics.specs.state.Options.{on}
 use Rattle.cf_semantics.specs.moves.Steps.{onward}
@@ -28,15 +28,15 @@ use Rattle.cf_semantics.specs.claims.Soundness.{Holds, may_turn}
 
 -- the step goes on, to g
 pub record On (s : Stepped) (x : Machine) (g : Option ℕ) : Type 0 where
-  pub goes : s ≡ Goes (behind s x)
-  pub next : g ≡ Some (behind s x).hart.pc
+  pub goes : s ≡ Goes (after_step s x)
+  pub next : g ≡ Some (after_step s x).hart.pc
 
 -- once it is done
 done_on : (isa : Isa) (p : Passenger) (w : trail.Walk) → p.done ≡ true → p.ending ≡ None → sure.SureAt isa p w → On (step_at isa w.machine p.pc) w.machine (goto p)
 unfolding sure.SureAt
 done_on isa p w d e h = record { goes = h.0.values.goes d e; next = at (h.0.values.next d e) }
   where
-    at : p.next ≡ Some (behind (step_at isa w.machine p.pc) w.machine).hart.pc → goto p ≡ Some (behind (step_at isa w.machine p.pc) w.machine).hart.pc
+    at : p.next ≡ Some (after_step (step_at isa w.machine p.pc) w.machine).hart.pc → goto p ≡ Some (after_step (step_at isa w.machine p.pc) w.machine).hart.pc
     at n = grind (arith, n)
 
 -- a memory operation that memory permits
@@ -69,11 +69,11 @@ plain_on isa p w c k d g h = go (fetched isa w.machine.hart.mem p.pc) refl h.0.r
     go (Bad b) f r = absurd (let z = h.0.unended d in let y = r.1 in cc)
 
 -- a passenger that has passed the port
-pub ported_on : (l : Plan) (i : ℕ) (p : Passenger) (w : dock.Dock) → Stands l i p → sure.SureAt (isa_of l) p w.path → dock.DockedAt (isa_of l) p w → ahead.has_ported p w.answer ≡ true → step_at (isa_of l) w.path.machine p.pc ≡ Goes (behind (step_at (isa_of l) w.path.machine p.pc) w.path.machine)
+pub ported_on : (l : Plan) (i : ℕ) (p : Passenger) (w : dock.Dock) → Stands l i p → sure.SureAt (isa_of l) p w.path → dock.DockedAt (isa_of l) p w → ahead.has_ported p w.answer ≡ true → step_at (isa_of l) w.path.machine p.pc ≡ Goes (after_step (step_at (isa_of l) w.path.machine p.pc) w.path.machine)
 unfolding dock.DockedAt
 ported_on l i p w s h k e = go (ahead.has_served p) refl
   where
-    go : (b : Bool) → ahead.has_served p ≡ b → step_at (isa_of l) w.path.machine p.pc ≡ Goes (behind (step_at (isa_of l) w.path.machine p.pc) w.path.machine)
+    go : (b : Bool) → ahead.has_served p ≡ b → step_at (isa_of l) w.path.machine p.pc ≡ Goes (after_step (step_at (isa_of l) w.path.machine p.pc) w.path.machine)
     go true f = (done_on (isa_of l) p w.path (grind arith) (ending p.ending refl) h).goes
       where
         ending : (o : Option End) → p.ending ≡ o → p.ending ≡ None
@@ -128,7 +128,7 @@ quiet_on l i p w s h k d r b = go p.done (is_memory (kind p)) (is_plain (kind p)
         kinds false true e f q = let j = s.free_done f in cc
         kinds false false e f q = cc
 
-pub done_goes : (isa : Isa) (p : Passenger) (w : trail.Walk) → ahead.has_served p ≡ true → sure.SureAt isa p w → step_at isa w.machine p.pc ≡ Goes (behind (step_at isa w.machine p.pc) w.machine)
+pub done_goes : (isa : Isa) (p : Passenger) (w : trail.Walk) → ahead.has_served p ≡ true → sure.SureAt isa p w → step_at isa w.machine p.pc ≡ Goes (after_step (step_at isa w.machine p.pc) w.machine)
 done_goes isa p w f h = (done_on isa p w (grind arith) (ending p.ending refl) h).goes
   where
     ending : (o : Option End) → p.ending ≡ o → p.ending ≡ None

@@ -10,7 +10,7 @@ use Rattle.cf_refinement.proofs.invariant.Stands.{Between, Stands}
 use Rattle.cf_refinement.proofs.invariant.Suited.{Suits}
 use Rattle.cf_semantics.specs.moves.Bars.{last_op}
 use Rattle.cf_semantics.specs.state.Column.{Down, Item, Up}
-use Rattle.cf_semantics.specs.moves.Instructions.{access_trap, behind, is_memory, step_at}
+use Rattle.cf_semantics.specs.moves.Instructions.{access_trap, after_step, is_memory, step_at}
 use Rattle.cf_semantics.specs.state.Layouts.{isa_of, launches, port}
 use Rattle.cf_semantics.specs.state.Options.{on}
 use Rattle.cf_semantics.specs.state.Passengers.{instruction, kind, missing, value_in}
@@ -108,7 +108,7 @@ launch_port isa i p w d u r n s m = record {
     same q = launch_follows isa i p q
 
     y : Machine
-    y = behind (step_at isa w.path.machine p.pc) w.path.machine
+    y = after_step (step_at isa w.path.machine p.pc) w.path.machine
 
     mem : (if ahead.has_ported (sent_out p) w.answer then y.hart.mem else w.mem) ≡ (if ahead.has_ported p w.answer then y.hart.mem else w.mem)
     mem = go (is_memory (kind p)) refl

@@ -11,7 +11,7 @@ use Rattle.cf_refinement.proofs.instructions.Memory.{after_access, memory_steps}
 use Rattle.cf_refinement.proofs.walks.PathFinish.{Finishes}
 use Rattle.cf_refinement.proofs.instructions.Steps.{sure_dst_below, kind_is, straight_next, straight_trap}
 use Rattle.cf_semantics.specs.state.Column.{Up}
-use Rattle.cf_semantics.specs.moves.Instructions.{Goes, access_trap, behind, dst_of, is_control, is_memory, kind_of, step_at, value_written}
+use Rattle.cf_semantics.specs.moves.Instructions.{Goes, access_trap, after_step, dst_of, is_control, is_memory, kind_of, step_at, value_written}
 use Rattle.cf_semantics.specs.state.Passengers.{finish, goto_undone, guessed, instruction, kind, missing, reg_in, value_in}
 use Rattle.mem_regions.specs.Access.{bounds_of}
 use Rattle.rv_inst.specs.declared.isa.Isa.{Isa}
@@ -31,7 +31,7 @@ answers_write (Some q) d v a regs l b e h =
     let s : v ≡ a = sym (get_or-set_same regs q.reg v 0 (rw l (b q.reg (sym e)))) ∙ h' in
     rw s refl
 
-pub memory_finishes : (isa : Isa) (p : Passenger) (x : Machine) (g : Option ℕ) (a : ℕ) → length x.hart.regs ≡ 32 → is_memory (kind p) ≡ true → missing p.src1 ≡ None → missing p.src2 ≡ None → access_trap (instruction p) p.pc (value_in p.src1) (bounds_of x.hart.mem) ≡ None → IsAnswer p.dst (behind (step_at isa x p.pc) x).hart.regs a → sure.IsSure isa p x (step_at isa x p.pc) g → Finishes p x (step_at isa x p.pc) (Some a)
+pub memory_finishes : (isa : Isa) (p : Passenger) (x : Machine) (g : Option ℕ) (a : ℕ) → length x.hart.regs ≡ 32 → is_memory (kind p) ≡ true → missing p.src1 ≡ None → missing p.src2 ≡ None → access_trap (instruction p) p.pc (value_in p.src1) (bounds_of x.hart.mem) ≡ None → IsAnswer p.dst (after_step (step_at isa x p.pc) x).hart.regs a → sure.IsSure isa p x (step_at isa x p.pc) g → Finishes p x (step_at isa x p.pc) (Some a)
 memory_finishes isa p x g a l m m1 m2 t n h =
     let q = memory_steps isa p x g m m1 m2 h in
     let s : step_at isa x p.pc ≡ Goes (after_access x (instruction p) p.pc (value_in p.src1) (value_in p.src2)) = rw t at q.1 in

@@ -11,7 +11,7 @@ use Rattle.cf_refinement.proofs.walks.Path.{Follows}
 use Rattle.cf_refinement.proofs.instructions.Steps.{sure_dst_below, finish_traps}
 use Rattle.cf_refinement.proofs.invariant.Sure.{Fits, IsSure, Owed, SureAt}
 use Rattle.cf_semantics.specs.state.Column.{Up}
-use Rattle.cf_semantics.specs.moves.Instructions.{Bad, Fetched, Goes, Got, Stepped, Stops, behind, dst_of, fetched, finish_trap, step_at, value_read, value_written}
+use Rattle.cf_semantics.specs.moves.Instructions.{Bad, Fetched, Goes, Got, Stepped, Stops, after_step, dst_of, fetched, finish_trap, step_at, value_read, value_written}
 use Rattle.cf_semantics.specs.state.Options.{on}
 use Rattle.cf_semantics.specs.state.Passengers.{finish, finished, goto_undone, guessed, instruction, is_place, kind, missing, reg_in, trapped, value_in, value_packet, with_value}
 use Rattle.cf_semantics.specs.claims.Path.{Walk, is_trap, past}
@@ -49,7 +49,7 @@ pub record GivesOn (x m : Machine) (d : Option ℕ) (n v : ℕ) : Type 0 where
 
 finished_sure : (isa : Isa) (p : Passenger) (i : Instr) (x m : Machine) (s : Stepped) (g : Option ℕ) (n v : ℕ) → length x.hart.regs ≡ 32 → p.what ≡ Some i → p.done ≡ false → s ≡ Goes m → GivesOn x m (dst_of i) n v → IsSure isa p x s g → IsSure isa (finished p n v) x s g
 finished_sure isa p i x m s g n v l w d e f h =
-    let y : behind s x ≡ m = rw e in
+    let y : after_step s x ≡ m = rw e in
     record {
       path = h.path;
       reads = h.reads;

@@ -10,7 +10,7 @@ use Rattle.cf_refinement.proofs.walks.Path.{Follows}
 use Rattle.cf_refinement.proofs.instructions.Steps.{sure_keeps}
 use Rattle.cf_refinement.proofs.invariant.Sure.{Comes, Fits, IsSourced, IsSure, SureAt}
 use Rattle.cf_semantics.specs.state.Column.{Down, Item, Up}
-use Rattle.cf_semantics.specs.moves.Instructions.{Stepped, behind, step_at}
+use Rattle.cf_semantics.specs.moves.Instructions.{Stepped, after_step, step_at}
 use Rattle.cf_semantics.specs.state.Passengers.{reg_in}
 use Rattle.cf_semantics.specs.claims.Path.{Walk, has_reg, past, past_packet}
 use Rattle.cf_semantics.specs.claims.Walks.{Everywhere, walk}
@@ -61,9 +61,9 @@ garner_at isa p r v w e h = (garner_sure isa p r v w.machine _ w.goto e h.0, gar
 met_value : (p : Passenger) (r v : ℕ) (x y : Machine) → ((s : ℕ) → has_reg p.dst s ≡ false → slice_index y.hart.regs s ≡ slice_index x.hart.regs s) → v ≡ slice_index x.hart.regs r → HasValue p.dst y.hart.regs → (s u : ℕ) → passed r v p.dst ≡ Some (Value s u) → u ≡ slice_index y.hart.regs s
 met_value p r v x y keeps e h s u g = grind arith
 
-met_value_at : (isa : Isa) (p : Passenger) (r v : ℕ) (w : Walk) → v ≡ slice_index w.machine.hart.regs r → SureAt isa p (past_packet (Value r v) w) → (s u : ℕ) → passed r v p.dst ≡ Some (Value s u) → u ≡ slice_index (behind (step_at isa w.machine p.pc) w.machine).hart.regs s
+met_value_at : (isa : Isa) (p : Passenger) (r v : ℕ) (w : Walk) → v ≡ slice_index w.machine.hart.regs r → SureAt isa p (past_packet (Value r v) w) → (s u : ℕ) → passed r v p.dst ≡ Some (Value s u) → u ≡ slice_index (after_step (step_at isa w.machine p.pc) w.machine).hart.regs s
 unfolding SureAt
-met_value_at isa p r v w e h s u g = met_value p r v w.machine (behind (step_at isa w.machine p.pc) w.machine) (sure_keeps isa p w.machine _ h.0) e h.0.values.destination s u g
+met_value_at isa p r v w e h s u g = met_value p r v w.machine (after_step (step_at isa w.machine p.pc) w.machine) (sure_keeps isa p w.machine _ h.0) e h.0.values.destination s u g
 
 pub meet_fits : (isa : Isa) (i : ℕ) (p : Passenger) (k : Packet) (w : Walk) → Everywhere (Fits isa) (past isa) (Down i k ∷ Up i p ∷ []) w → Everywhere (Fits isa) (past isa) (met_items i (meeting p k).passenger (meeting p k).packet) w
 unfolding Fits past meeting

@@ -8,7 +8,7 @@ use Rattle.cf_semantics.specs.moves.Fetches.{code_of}
 use Rattle.cf_refinement.proofs.invariant.Port.{Dock, DockedAt, Fits, past, past_passenger}
 use Rattle.cf_semantics.specs.claims.Ahead.{flies, has_ported, has_served}
 use Rattle.cf_semantics.specs.state.Column.{Down, Item, Up}
-use Rattle.cf_semantics.specs.moves.Instructions.{behind, is_memory, step_at}
+use Rattle.cf_semantics.specs.moves.Instructions.{after_step, is_memory, step_at}
 use Rattle.cf_semantics.specs.state.Passengers.{kind}
 use Rattle.rv_inst.specs.declared.isa.Isa.{Isa}
 use Rattle.rv_machine.specs.Machine.{Machine}
@@ -58,7 +58,7 @@ unfolding DockedAt
 served_calm isa p w h e = h.served e
 
 -- where the test holds the machines are the same
-either : {A : Type 0} (isa : Isa) (b : Bool) (x y : Machine) (pc : ℕ) (part : Machine → A) (o o' : A) → (b ≡ true → x ≡ y) → o ≡ o' → (if b then part (behind (step_at isa x pc) x) else o) ≡ (if b then part (behind (step_at isa y pc) y) else o')
+either : {A : Type 0} (isa : Isa) (b : Bool) (x y : Machine) (pc : ℕ) (part : Machine → A) (o o' : A) → (b ≡ true → x ≡ y) → o ≡ o' → (if b then part (after_step (step_at isa x pc) x) else o) ≡ (if b then part (after_step (step_at isa y pc) y) else o')
 either isa true x y pc part o o' f e = rw (f refl)
 either isa false x y pc part o o' f e = e
 

@@ -8,7 +8,7 @@ use Rattle.cf_refinement.proofs.walks.Order.{past_path, walk_open}
 use Rattle.cf_refinement.proofs.walks.Port.{served_calm}
 use Rattle.cf_refinement.proofs.instructions.Steps.{sure_leaves}
 use Rattle.cf_semantics.specs.state.Column.{Down, Item, Up}
-use Rattle.cf_semantics.specs.moves.Instructions.{behind, is_serial, step_at}
+use Rattle.cf_semantics.specs.moves.Instructions.{after_step, is_serial, step_at}
 use Rattle.cf_semantics.specs.state.Layouts.{isa_of}
 use Rattle.cf_semantics.specs.state.Passengers.{kind}
 use Rattle.cf_semantics.specs.claims.Walks.{Everywhere, walk}
@@ -24,7 +24,7 @@ open_holds : (l : Plan) (i : ℕ) (p : Passenger) (b : Bool) → lone.past l (Up
 unfolding lone.past
 open_holds l i p b e = grind arith
 
-sure_code : (isa : Isa) (p : Passenger) (w : trail.Walk) → sure.SureAt isa p w → is_serial (kind p) ≡ false → code_of (behind (step_at isa w.machine p.pc) w.machine).hart.mem ≡ code_of w.machine.hart.mem
+sure_code : (isa : Isa) (p : Passenger) (w : trail.Walk) → sure.SureAt isa p w → is_serial (kind p) ≡ false → code_of (after_step (step_at isa w.machine p.pc) w.machine).hart.mem ≡ code_of w.machine.hart.mem
 unfolding sure.SureAt
 sure_code isa p w h c = (sure_leaves isa p w.machine w.goto h.0 c).code
 

@@ -78,7 +78,7 @@ pub record ReadsAsIssued : Type 0 where
   pub issue : (cache : List (Option ℕ)) (f : Fetched) (pc : ℕ) (g : Guess) → Holds (fresh cache f pc g) f
   pub executes : (isa : Isa) (x : Machine) (i : Instr) → fetched isa x.hart.mem x.hart.pc ≡ Got i →
       (word : ℕ) × (decoded_as isa word ≡ Some i)
-      × (machine.step isa x ≡ machine.behind x.output (machine.execute (class_of i) x.hart x.rest word i))
+      × (machine.step isa x ≡ machine.after_output x.output (machine.execute (class_of i) x.hart x.rest word i))
   pub traps : (isa : Isa) (x : Machine) (e : End) → fetched isa x.hart.mem x.hart.pc ≡ Bad e → step_here isa x ≡ Stops e
   pub code : (isa : Isa) (m n : Memory) (pc : ℕ) → code_of m ≡ code_of n → fetched isa m pc ≡ fetched isa n pc
   pub others : (isa : Isa) (x : Machine) (i : Instr) (n : Machine) →

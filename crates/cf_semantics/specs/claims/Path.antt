@@ -9,7 +9,7 @@ use Rattle.cf_bind.specs.declared.passenger.Passenger.{Passenger}
 use Rattle.cf_bind.specs.declared.passenger.End.{End}
 use Rattle.cf_bind.specs.declared.passenger.End.TheVariants.{Trap, Exit}
 use Rattle.cf_semantics.specs.state.Options.{is_some}
-use Rattle.cf_semantics.specs.moves.Instructions.{step_at, behind}
+use Rattle.cf_semantics.specs.moves.Instructions.{step_at, after_step}
 use Rattle.cf_semantics.specs.state.State.{State}
 use Rattle.cf_semantics.specs.state.Column.{Item, Up, Down}
 use Rattle.cf_semantics.specs.state.Passengers.{goto}
@@ -53,7 +53,7 @@ is_sure p w = not p.dead && not w.barred
 -- after a passenger: if it is sure, the machine has made its step
 abbrev pub past_passenger : Isa → Bool → Passenger → Walk → Walk
 past_passenger isa true p w = record {
-  machine = behind (step_at isa w.machine p.pc) w.machine;
+  machine = after_step (step_at isa w.machine p.pc) w.machine;
   barred = turns p.owes;
   goto = goto p;
   settled = p.done && not (is_some p.ending);

@@ -17,7 +17,7 @@ use Rattle.cf_bind.specs.declared.passenger.Guess.{Guess}
 use Rattle.cf_bind.specs.declared.passenger.Passenger.{Passenger}
 use Rattle.cf_bind.specs.declared.passenger.End.{End}
 use Rattle.cf_semantics.specs.state.Options.{on, is_some, When, Where}
-use Rattle.cf_semantics.specs.moves.Instructions.{is_memory, is_serial, is_free, Fetched, Got, Bad, fetched, Stepped, Goes, Stops, step_at, behind}
+use Rattle.cf_semantics.specs.moves.Instructions.{is_memory, is_serial, is_free, Fetched, Got, Bad, fetched, Stepped, Goes, Stops, step_at, after_step}
 use Rattle.cf_semantics.specs.state.State.{State, Moment, siding_at}
 use Rattle.cf_semantics.specs.state.Column.{Item, Up, Down, column}
 use Rattle.cf_semantics.specs.state.Passengers.{kind, missing, cached}
@@ -25,7 +25,7 @@ use Rattle.cf_semantics.specs.state.Layouts.{isa_of, port}
 use Rattle.cf_semantics.specs.moves.Moves.{fetch_at, operation}
 use Rattle.cf_semantics.specs.claims.Path.{Walk, is_sure, is_trap, turns, has_reg, among, top}
 use Rattle.cf_semantics.specs.claims.Ahead.{flies, served_count, ported_count, answer_there}
-use Rattle.cf_semantics.specs.state.Places.{Standing, Lying, known, IsHarmless, machine_behind}
+use Rattle.cf_semantics.specs.state.Places.{Standing, Lying, known, IsHarmless, machine_after}
 
 -- a known value is that of the registers
 abbrev pub HasValue : Option Binding → List ℕ → Type 0
@@ -46,10 +46,10 @@ OwesValue owed dst = Unit {0}
 pub record HasValues (p : Passenger) (x : Machine) (s : Stepped) : Type 0 where
   pub first : HasValue p.src1 x.hart.regs
   pub second : HasValue p.src2 x.hart.regs
-  pub destination : HasValue p.dst (behind s x).hart.regs
+  pub destination : HasValue p.dst (after_step s x).hart.regs
   pub owed : OwesValue p.owes p.dst
-  pub goes : p.done ≡ true → p.ending ≡ None → s ≡ Goes (behind s x)
-  pub next : p.done ≡ true → p.ending ≡ None → p.next ≡ Some (behind s x).hart.pc
+  pub goes : p.done ≡ true → p.ending ≡ None → s ≡ Goes (after_step s x)
+  pub next : p.done ≡ true → p.ending ≡ None → p.next ≡ Some (after_step s x).hart.pc
   pub done : p.done ≡ true → p.ending ≡ None → IsKnown p.dst
   pub ends : (e : End) → p.ending ≡ Some e → s ≡ Stops e
 
@@ -89,7 +89,7 @@ pub record FirstBarrier (isa : Isa) (s : State) (x : Machine) : Type 0 where
   pub lying : (k : Lying s) → When (not (known isa s x k.above).barred)
       (IsFirstBarrier k.what (known isa s x k.above).machine (known isa s x k.above).settled (known isa s x k.above).trapped)
   pub owed : (p : Standing s) (k : Packet) → p.who.owes ≡ Some k → When (is_sure p.who (known isa s x p.above))
-      (IsFirstBarrier k (behind (step_at isa (known isa s x p.above).machine p.who.pc) (known isa s x p.above).machine)
+      (IsFirstBarrier k (after_step (step_at isa (known isa s x p.above).machine p.who.pc) (known isa s x p.above).machine)
       (p.who.done && not (is_some p.who.ending)) (is_trap p.who.ending))
 
 -- (e) Stops: nobody has climbed past what it needs
@@ -160,7 +160,7 @@ pub record SidingsAgree (plan : Plan) (s : State) (x : Machine) : Type 0 where
   pub last_alone : LastAnswered (siding_at s (port plan))
   pub answers : (p : Standing s) (a : ℕ) → flies p.who ≡ true → NoneFlies p.above → answer_there plan s ≡ Some a →
       When (is_sure p.who (known (isa_of plan) s x p.above))
-      (IsAnswer p.who.dst (behind (step_at (isa_of plan) (known (isa_of plan) s x p.above).machine p.who.pc) (known (isa_of plan) s x p.above).machine).hart.regs a)
+      (IsAnswer p.who.dst (after_step (step_at (isa_of plan) (known (isa_of plan) s x p.above).machine p.who.pc) (known (isa_of plan) s x p.above).machine).hart.regs a)
 
 -- it owes the value of r
 abbrev pub owes_value : Option Packet → ℕ → Bool
@@ -219,9 +219,9 @@ MemoryOrder s = (p : Standing s) → is_memory (kind p.who) ≡ true → p.who.l
 
 -- (k) Port: memory is that of the machine after the passengers that have passed the port; input and output are those after the call that was served
 pub record PortAgrees (plan : Plan) (m : Moment) (x : Machine) : Type 0 where
-  pub memory : m.state.mem ≡ (machine_behind (isa_of plan) (ported_count plan m.state) (column m.state) (top m.state x)).hart.mem
-  pub input : m.rest ≡ (machine_behind (isa_of plan) (served_count plan m.state) (column m.state) (top m.state x)).rest
-  pub output : m.output ≡ (machine_behind (isa_of plan) (served_count plan m.state) (column m.state) (top m.state x)).output
+  pub memory : m.state.mem ≡ (machine_after (isa_of plan) (ported_count plan m.state) (column m.state) (top m.state x)).hart.mem
+  pub input : m.rest ≡ (machine_after (isa_of plan) (served_count plan m.state) (column m.state) (top m.state x)).rest
+  pub output : m.output ≡ (machine_after (isa_of plan) (served_count plan m.state) (column m.state) (top m.state x)).output
 
 -- (l) Cache: with no barrier, each kept value is that of the machine after all sure passengers
 abbrev pub CacheAgrees : Isa → State → Machine → Type 0

@@ -21,11 +21,11 @@ pub record NothingRetires (s t : State) : Type 0 where
 
 -- the machine's step goes on: the count is one higher, and the registers become those after the step
 pub record OneRetires (isa : Isa) (x : Machine) (s t : State) : Type 0 where
-  pub behind : Machine
-  pub step : step_here isa x ≡ Goes behind
+  pub later : Machine
+  pub step : step_here isa x ≡ Goes later
   pub retired : t.retired ≡ s.retired + 1
   pub before : s.regs ≡ x.hart.regs
-  pub regs : t.regs ≡ behind.hart.regs
+  pub regs : t.regs ≡ later.hart.regs
   pub ending : t.ending ≡ s.ending
 
 -- the machine's step ends the program, and so does the move; count and registers stay
@@ -48,12 +48,12 @@ pub record NothingSpoken (m t : Moment) : Type 0 where
 
 -- the machine's step goes on: input and output, which were the machine's, become those after the step
 pub record OneSpoken (isa : Isa) (x : Machine) (m t : Moment) : Type 0 where
-  pub behind : Machine
-  pub step : step_here isa x ≡ Goes behind
+  pub later : Machine
+  pub step : step_here isa x ≡ Goes later
   pub rest_before : m.rest ≡ x.rest
   pub output_before : m.output ≡ x.output
-  pub rest : t.rest ≡ behind.rest
-  pub output : t.output ≡ behind.output
+  pub rest : t.rest ≡ later.rest
+  pub output : t.output ≡ later.output
 
 -- seen through input and output: nothing, or, at Serve only, the step of the machine
 abbrev pub StepsSpoken : Isa → Machine → Moment → Move → Moment → Type 0
@@ -65,10 +65,10 @@ pub record OneStored (isa : Isa) (start : Machine) (s t : State) : Type 0 where
   pub ahead : gained start s ≤ number
   pub at : Machine
   pub count : after isa start number ≡ Some at
-  pub behind : Machine
-  pub step : step_here isa at ≡ Goes behind
+  pub later : Machine
+  pub step : step_here isa at ≡ Goes later
   pub before : s.mem ≡ at.hart.mem
-  pub mem : t.mem ≡ behind.hart.mem
+  pub mem : t.mem ≡ later.hart.mem
 
 -- seen through the memory: nothing, or, at Access and Serve only, a step of the machine
 abbrev pub StepsStored : Isa → Machine → Moment → Move → Moment → Type 0

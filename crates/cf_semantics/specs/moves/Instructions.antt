@@ -176,6 +176,6 @@ abbrev pub step_here : Isa → Machine → Stepped
 step_here isa x = step_at isa x x.hart.pc
 
 -- the machine after a step, or as it was where the step ends the program
-abbrev pub behind : Stepped → Machine → Machine
-behind (Goes n) m = n
-behind (Stops e) m = m
+abbrev pub after_step : Stepped → Machine → Machine
+after_step (Goes n) m = n
+after_step (Stops e) m = m

@@ -36,9 +36,9 @@ IsHarmless (Up i p ∷ xs) = ⊥
 IsHarmless (Down i k ∷ xs) = (turns (Some k) ≡ false) × IsHarmless xs
 
 -- the machine after the first n sure passengers of the items, or after all of them where there are fewer
-abbrev pub machine_behind : Isa → ℕ → List Item → Walk → Machine
-machine_behind isa zero xs w = w.machine
-machine_behind isa (suc n) [] w = w.machine
-machine_behind isa (suc n) (Up i p ∷ xs) w =
-    if is_sure p w then machine_behind isa n xs (past isa (Up i p) w) else machine_behind isa (suc n) xs (past isa (Up i p) w)
-machine_behind isa (suc n) (Down i k ∷ xs) w = machine_behind isa (suc n) xs (past isa (Down i k) w)
+abbrev pub machine_after : Isa → ℕ → List Item → Walk → Machine
+machine_after isa zero xs w = w.machine
+machine_after isa (suc n) [] w = w.machine
+machine_after isa (suc n) (Up i p ∷ xs) w =
+    if is_sure p w then machine_after isa n xs (past isa (Up i p) w) else machine_after isa (suc n) xs (past isa (Up i p) w)
+machine_after isa (suc n) (Down i k ∷ xs) w = machine_after isa (suc n) xs (past isa (Down i k) w)

@@ -5,6 +5,6 @@ use Rattle.cf_closing.proofs.moves.put_between.Goals as goal
 
 pub returns : goal.returns
 returns g c =
-    puts-again (between c.args.before.now c.args.mv c.args.behind.now) c.in_ok-put_all.was refl
+    puts-again (between c.args.before.now c.args.mv c.args.after.now) c.in_ok-put_all.was refl
     (record { all = c.put_all.ensures.all; front = c.put_all.ensures.front; cause = c.put_all.ensures.cause })
     c.put_move.ensures

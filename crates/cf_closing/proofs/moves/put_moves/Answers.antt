@@ -1,13 +1,13 @@
 -- The lines of the next part follow those so far.
 use Rattle.std.proofs.Common.{refl}
 use Rattle.cf_report.proofs.Puttings.{has-front, has-more, has-same, put-all}
-use Rattle.cf_closing.proofs.Listed.{parts-next, parts-behind, parts-done}
+use Rattle.cf_closing.proofs.Listed.{parts-next, parts-after, parts-done}
 use Rattle.cf_closing.proofs.moves.put_moves.Goals as goal
 
 pub returns-in_err-put_part : goal.returns-in_err-put_part
 returns-in_err-put_part g c =
     has-front _ c.in_err-put_part.was c.from_residual.ensures.0
-    (parts-behind c.args.core.now.plan c.args.core.now.state c.loop-part.part-index _ _ c.as_slice-part-items.ensures c.loop-part-test.true)
+    (parts-after c.args.core.now.plan c.args.core.now.state c.loop-part.part-index _ _ c.as_slice-part-items.ensures c.loop-part-test.true)
     c.loop-part.invariant c.put_part.ensures
 
 pub loop-part-preserved : goal.loop-part-preserved

@@ -11,12 +11,12 @@ pub returns-in-Some : goal.returns-in-Some
 returns-in-Some c =
     let plan = c.args.core.now.plan in
     let s = c.args.core.now.state in
-    let beyond = λ (j : ℕ). c.behind.ensures j ∙ ap (λ (w : ℕ). has_bit w j && is_past c.args.last (Meet (j + 1))) c.meets.ensures in
-    word_here c.args.last Meet (passing_of plan s).meet c.behind.result c.in-Some.k (execute_on plan s) beyond (sym c.in-Some.is ∙ c.lowest.ensures.number)
+    let beyond = λ (j : ℕ). c.after.ensures j ∙ ap (λ (w : ℕ). has_bit w j && is_past c.args.last (Meet (j + 1))) c.meets.ensures in
+    word_here c.args.last Meet (passing_of plan s).meet c.after.result c.in-Some.k (execute_on plan s) beyond (sym c.in-Some.is ∙ c.lowest.ensures.number)
 
 pub returns-in-None : goal.returns-in-None
 returns-in-None c =
     let plan = c.args.core.now.plan in
     let s = c.args.core.now.state in
-    let beyond = λ (j : ℕ). c.behind.ensures j ∙ ap (λ (w : ℕ). has_bit w j && is_past c.args.last (Meet (j + 1))) c.meets.ensures in
-    c.next_execute.ensures ∙ word_gone c.args.last Meet (passing_of plan s).meet c.behind.result (execute_on plan s) beyond (sym c.in-None.is ∙ c.lowest.ensures.number)
+    let beyond = λ (j : ℕ). c.after.ensures j ∙ ap (λ (w : ℕ). has_bit w j && is_past c.args.last (Meet (j + 1))) c.meets.ensures in
+    c.next_execute.ensures ∙ word_gone c.args.last Meet (passing_of plan s).meet c.after.result (execute_on plan s) beyond (sym c.in-None.is ∙ c.lowest.ensures.number)

@@ -11,12 +11,12 @@ pub returns-in-Some : goal.returns-in-Some
 returns-in-Some c =
     let plan = c.args.core.now.plan in
     let s = c.args.core.now.state in
-    let beyond = λ (j : ℕ). c.behind.ensures j ∙ ap (λ (w : ℕ). has_bit w j && is_past c.args.last (Send (j + 1))) c.sends.ensures in
-    word_here c.args.last Send (passing_of plan s).send c.behind.result c.in-Some.k (launch_on plan s) beyond (sym c.in-Some.is ∙ c.lowest.ensures.number)
+    let beyond = λ (j : ℕ). c.after.ensures j ∙ ap (λ (w : ℕ). has_bit w j && is_past c.args.last (Send (j + 1))) c.sends.ensures in
+    word_here c.args.last Send (passing_of plan s).send c.after.result c.in-Some.k (launch_on plan s) beyond (sym c.in-Some.is ∙ c.lowest.ensures.number)
 
 pub returns-in-None : goal.returns-in-None
 returns-in-None c =
     let plan = c.args.core.now.plan in
     let s = c.args.core.now.state in
-    let beyond = λ (j : ℕ). c.behind.ensures j ∙ ap (λ (w : ℕ). has_bit w j && is_past c.args.last (Send (j + 1))) c.sends.ensures in
-    c.next_launch.ensures ∙ word_gone c.args.last Send (passing_of plan s).send c.behind.result (launch_on plan s) beyond (sym c.in-None.is ∙ c.lowest.ensures.number)
+    let beyond = λ (j : ℕ). c.after.ensures j ∙ ap (λ (w : ℕ). has_bit w j && is_past c.args.last (Send (j + 1))) c.sends.ensures in
+    c.next_launch.ensures ∙ word_gone c.args.last Send (passing_of plan s).send c.after.result (launch_on plan s) beyond (sym c.in-None.is ∙ c.lowest.ensures.number)

@@ -6,13 +6,13 @@ use Rattle.cf_listing.proofs.words.put_aligned.Goals as goal
 
 pub returns-in_err-put_word-clause-err : goal.returns-in_err-put_word-clause-err
 returns-in_err-put_word-clause-err g c =
-    let first : IsFirstWord c.loop-word.rest.now c.in-Some.word c.in-Some.behind.now = search rules in
+    let first : IsFirstWord c.loop-word.rest.now c.in-Some.word c.in-Some.after.now = search rules in
     err-owes _ _ _ _ _ _ _ _ _ _ c.in_err-put_word.was c.loop-word.invariant.owes
     (word-next _ c.loop-word.pc _ _ _ _ first refl c.loop-word.invariant.aligned c.loop-word.invariant.below) c.put_word.ensures.err
 
 pub loop-word-preserved : goal.loop-word-preserved
 loop-word-preserved g c =
-    let first : IsFirstWord c.loop-word.rest.now c.in-Some.word c.in-Some.behind.now = search rules in
+    let first : IsFirstWord c.loop-word.rest.now c.in-Some.word c.in-Some.after.now = search rules in
     let next = next-aligned c.loop-word.pc _ refl c.loop-word.invariant.aligned in
     record {
       owes = owes-next _ _ _ _ _ _ _ c.loop-word.invariant.owes

@@ -1,7 +1,7 @@
 use Rattle.std.proofs.Common.{arith}
 use Rattle.cf_report.proofs.Listed.{cells-few}
 use Rattle.cf_report.proofs.Puttings.{has-front, has-more, has-same, put-nothing}
-use Rattle.cf_report.proofs.Pictures.{siding-next, sidings-behind}
+use Rattle.cf_report.proofs.Pictures.{siding-next, sidings-after}
 use Rattle.cf_report.proofs.picture.put_sidings.Goals as goal
 
 pub loop-siding-init : goal.loop-siding-init
@@ -13,7 +13,7 @@ put_siding-requires g c = rw c.siding.ensures.count (cells-few c.args.core.now.p
 pub returns-in_err-put_siding : goal.returns-in_err-put_siding
 returns-in_err-put_siding g c =
     has-front _ c.in_err-put_siding.was c.from_residual.ensures.0
-    (sidings-behind c.args.core.now.state.sidings c.loop-siding.siding) c.loop-siding.invariant (rw c.siding.ensures.cells at c.put_siding.ensures)
+    (sidings-after c.args.core.now.state.sidings c.loop-siding.siding) c.loop-siding.invariant (rw c.siding.ensures.cells at c.put_siding.ensures)
 
 pub loop-siding-preserved : goal.loop-siding-preserved
 loop-siding-preserved g c =

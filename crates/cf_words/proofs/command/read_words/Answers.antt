@@ -25,7 +25,7 @@ pub loop-word-preserved : goal.loop-word-preserved
 loop-word-preserved c = record {
   counted = omega arith;
   read = goes-on string_bytes c.args.words.now c.loop-word.word-index c.loop-word.index c.word-item.result
-      (state_of c.loop-word.reading) (state_of c.in-Some.behind) c.as_str.result.now (omega arith)
+      (state_of c.loop-word.reading) (state_of c.in-Some.later) c.as_str.result.now (omega arith)
       c.word-item.is c.loop-word.invariant.counted c.loop-word.invariant.read c.as_str.ensures.value
       c.in-Some.ensures;
 }

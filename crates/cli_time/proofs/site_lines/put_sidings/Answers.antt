@@ -2,7 +2,7 @@
 use Rattle.std.proofs.Common.{length, refl, arith}
 use Rattle.cf_report.proofs.Puttings.{has-front, has-more, has-same, put-all}
 use Rattle.cli_time.specs.SiteLines.{siding_line, siding_numbers}
-use Rattle.cli_time.proofs.Listed.{length-counted, numbered-at, texts-all, texts-behind, texts-next}
+use Rattle.cli_time.proofs.Listed.{length-counted, numbered-at, texts-all, texts-after, texts-next}
 use Rattle.cli_time.proofs.site_lines.put_sidings.Goals as goal
 
 pub returns-in_err-put_siding : goal.returns-in_err-put_siding
@@ -10,7 +10,7 @@ returns-in_err-put_siding g c =
     let made = c.args.made.now in
     let is = c.siding_count-siding-end.ensures in
     has-front _ c.in_err-put_siding.was c.from_residual.ensures.0
-    (texts-behind (siding_line made) (siding_numbers made) c.loop-siding.siding c.loop-siding.siding
+    (texts-after (siding_line made) (siding_numbers made) c.loop-siding.siding c.loop-siding.siding
     (numbered-at (length made.layout.sidings) c.loop-siding.siding (omega (arith, is, c.loop-siding-test.true))))
     c.loop-siding.invariant c.put_siding.ensures
 

@@ -2,7 +2,7 @@
 use Rattle.std.proofs.Common.{◌-◌, refl, arith}
 use Rattle.cf_report.proofs.Puttings.{has-front, has-more, has-same, put-all}
 use Rattle.cli_time.specs.SiteLines.{falling_stages, stage_line}
-use Rattle.cli_time.proofs.Listed.{falling-at, length-falling, texts-all, texts-behind, texts-next}
+use Rattle.cli_time.proofs.Listed.{falling-at, length-falling, texts-all, texts-after, texts-next}
 use Rattle.cli_time.proofs.site_lines.put_stages.Goals as goal
 
 pub returns-in_err-put_stage : goal.returns-in_err-put_stage
@@ -10,7 +10,7 @@ returns-in_err-put_stage g c =
     let made = c.args.made.now in
     let is = c.stages-stages.ensures.stages in
     has-front _ c.in_err-put_stage.was c.from_residual.ensures.0
-    (texts-behind (stage_line made) (falling_stages made) c.loop-above.above (c.stages-stages.result - c.loop-above.above)
+    (texts-after (stage_line made) (falling_stages made) c.loop-above.above (c.stages-stages.result - c.loop-above.above)
     (rw is (falling-at made.layout.stages c.loop-above.above (omega (arith, is, c.loop-above-test.true)))))
     c.loop-above.invariant c.put_stage.ensures
 

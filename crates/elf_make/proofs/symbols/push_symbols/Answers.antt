@@ -10,4 +10,4 @@ returns-clause-table c =
     let labels = map named c.args.labels.now in
     symbols-put c.args.file.now.items (replicate 16 0) c.extend_from_slice.new.self.items c.push_entries.new.file.items
     c.push_entries-2.new.file.items c.in_ok-start.start (bound false labels) (bound true labels)
-    c.in_ok-push_entries.ensures.entries c.in_ok-start.ensures.entries c.in_ok-extend_from_slice.ensures.items c.in_ok-start.ensures.behind
+    c.in_ok-push_entries.ensures.entries c.in_ok-start.ensures.entries c.in_ok-extend_from_slice.ensures.items c.in_ok-start.ensures.after

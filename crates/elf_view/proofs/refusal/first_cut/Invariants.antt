@@ -6,7 +6,7 @@ use Rattle.elf_view.proofs.refusal.first_cut.Given as goal
 -- no entry before this one ends beyond the file
 abbrev pub invariant-loop : goal.invariant-loop
 invariant-loop l = record {
-  behind : find (λ place. ends_beyond l.file place l.size) (places l.place l.size (l.count - l.counter))
+  after : find (λ place. ends_beyond l.file place l.size) (places l.place l.size (l.count - l.counter))
       ≡ find (λ place. ends_beyond l.file place l.size) (places l.initial.place l.size l.count);
   bound : l.place ≤ l.initial.place + 40 * l.counter;
 }

@@ -4,4 +4,4 @@ use Rattle.rv_text.proofs.pieces.operand.Goals as goal
 
 pub loop-skipped-preserved : goal.loop-skipped-preserved
 loop-skipped-preserved c =
-    rw c.behind_comma-rest.ensures (next_piece is_comma c.loop-skipped.rest.now (pieces c.args.text.now) _ c.loop-skipped.invariant)
+    rw c.after_comma-rest.ensures (next_piece is_comma c.loop-skipped.rest.now (pieces c.args.text.now) _ c.loop-skipped.invariant)

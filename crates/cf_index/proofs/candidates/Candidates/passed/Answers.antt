@@ -14,23 +14,23 @@ returns-in-Issue c =
 pub returns-in-Climb : goal.returns-in-Climb
 returns-in-Climb c =
     let i = c.self.inside in
-    let behind : 1 < kind_place c.args.last = grind arith in
+    let after : 1 < kind_place c.args.last = grind arith in
     let before : kind_place c.args.last < 8 = grind arith in
-    let e = sym (ap (passed c.args.last) c.self.view_is) ∙ passed_passing i.entering i.passing i.slides i.leaving c.args.last behind before in
+    let e = sym (ap (passed c.args.last) c.self.view_is) ∙ passed_passing i.entering i.passing i.slides i.leaving c.args.last after before in
     omega (arith, e)
 
 pub returns-in-Slide : goal.returns-in-Slide
 returns-in-Slide c =
     let i = c.self.inside in
-    let behind : 7 < kind_place c.args.last = grind arith in
+    let after : 7 < kind_place c.args.last = grind arith in
     let before : kind_place c.args.last < 9 = grind arith in
-    let e = sym (ap (passed c.args.last) c.self.view_is) ∙ passed_sliding i.entering i.passing i.slides i.leaving c.args.last behind before in
+    let e = sym (ap (passed c.args.last) c.self.view_is) ∙ passed_sliding i.entering i.passing i.slides i.leaving c.args.last after before in
     let same = ap (λ (mv : Move). passed mv (slides_of i.slides)) c.in-Slide.is in
     omega (arith, e, same)
 
 pub returns-in-Access : goal.returns-in-Access
 returns-in-Access c =
     let i = c.self.inside in
-    let behind : 8 < kind_place c.args.last = grind arith in
-    let e = sym (ap (passed c.args.last) c.self.view_is) ∙ passed_leaving i.entering i.passing i.slides i.leaving c.args.last behind in
+    let after : 8 < kind_place c.args.last = grind arith in
+    let e = sym (ap (passed c.args.last) c.self.view_is) ∙ passed_leaving i.entering i.passing i.slides i.leaving c.args.last after in
     omega (arith, e)

@@ -21,10 +21,10 @@ returns-in-Some-clause-next c = λ mv stands.
     let q = is_allowed plan s in
     let rest = filter q (all_passing plan) ++ (filter q (slides_from 0 plan.sidings) ++ filter q (all_leaving plan)) in
     let kind = ap (λ (r : Rank). r.kind) stands in
-    let behind : 0 < kind_place mv = omega (arith, kind) in
+    let after : 0 < kind_place mv = omega (arith, kind) in
     let outside : kind_place mv ≢ slide_place = λ slide. absurd (omega (arith, kind, slide)) in
-    let found = found_rank c.args.last mv rest c.next.result stands behind outside (c.next.ensures (λ slide. absurd (omega (arith, slide)))) in
-    found_soon plan s mv c.in-Some.next c.args.held c.next.result behind found c.in-Some.is
+    let found = found_rank c.args.last mv rest c.next.result stands after outside (c.next.ensures (λ slide. absurd (omega (arith, slide)))) in
+    found_soon plan s mv c.in-Some.next c.args.held c.next.result after found c.in-Some.is
 
 pub returns-in-None-clause-next : goal.returns-in-None-clause-next
 returns-in-None-clause-next c = λ mv stands.
@@ -33,7 +33,7 @@ returns-in-None-clause-next c = λ mv stands.
     let q = is_allowed plan s in
     let rest = filter q (all_passing plan) ++ (filter q (slides_from 0 plan.sidings) ++ filter q (all_leaving plan)) in
     let kind = ap (λ (r : Rank). r.kind) stands in
-    let behind : 0 < kind_place mv = omega (arith, kind) in
+    let after : 0 < kind_place mv = omega (arith, kind) in
     let outside : kind_place mv ≢ slide_place = λ slide. absurd (omega (arith, kind, slide)) in
-    let found = found_rank c.args.last mv rest c.next.result stands behind outside (c.next.ensures (λ slide. absurd (omega (arith, slide)))) in
-    wrapped plan s mv c.args.held c.next.result c.first.result behind found c.in-None.is c.first.ensures
+    let found = found_rank c.args.last mv rest c.next.result stands after outside (c.next.ensures (λ slide. absurd (omega (arith, slide)))) in
+    wrapped plan s mv c.args.held c.next.result c.first.result after found c.in-None.is c.first.ensures

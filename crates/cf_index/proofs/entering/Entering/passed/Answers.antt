@@ -1,5 +1,5 @@
 use Rattle.std.proofs.Common.{◌∙◌, sym}
-use Rattle.cf_index.proofs.Behinds.{no_issue_first}
+use Rattle.cf_index.proofs.FirstsAfter.{no_issue_first}
 use Rattle.cf_index.proofs.PassedEnds.{entering_all}
 use Rattle.cf_index.proofs.entering.Entering.passed.Goals as goal
 

@@ -14,25 +14,25 @@ use Rattle.cf_semantics.specs.state.Passengers.{instruction}
 use Rattle.cf_semantics.specs.state.State.{State, Moment, cell_at}
 
 -- the moment with an output that was written before
-abbrev pub behind : List ℕ → Moment → Moment
-behind earlier m = record m { output = earlier ++ m.output }
+abbrev pub after_output : List ℕ → Moment → Moment
+after_output earlier m = record m { output = earlier ++ m.output }
 
-served-behind : (earlier : List ℕ) (m : Moment) (n : ℕ) (c : Cell) (p : Passenger) (o : Called) → served (behind earlier m) n c p o ≡ behind earlier (served m n c p o)
-served-behind earlier m n c p (called.Value a) = ap (λ (output : List ℕ). record (served m n c p (called.Value a)) { output = output }) (append_assoc earlier m.output a.output)
-served-behind earlier m n c p (called.Exit status) = refl
+served-after : (earlier : List ℕ) (m : Moment) (n : ℕ) (c : Cell) (p : Passenger) (o : Called) → served (after_output earlier m) n c p o ≡ after_output earlier (served m n c p o)
+served-after earlier m n c p (called.Value a) = ap (λ (output : List ℕ). record (served m n c p (called.Value a)) { output = output }) (append_assoc earlier m.output a.output)
+served-after earlier m n c p (called.Exit status) = refl
 
-rider-behind : (earlier : List ℕ) (m : Moment) (n : ℕ) (c : Cell) (rider : Option Passenger) → on rider (behind earlier m) (asked (behind earlier m) n c) ≡ behind earlier (on rider m (asked m n c))
-rider-behind earlier m n c None = refl
-rider-behind earlier m n c (Some p) = served-behind earlier m n c p (serve_of (instruction p) m.state.regs m.state.mem m.rest)
+rider-after : (earlier : List ℕ) (m : Moment) (n : ℕ) (c : Cell) (rider : Option Passenger) → on rider (after_output earlier m) (asked (after_output earlier m) n c) ≡ after_output earlier (on rider m (asked m n c))
+rider-after earlier m n c None = refl
+rider-after earlier m n c (Some p) = served-after earlier m n c p (serve_of (instruction p) m.state.regs m.state.mem m.rest)
 
-stage-behind : (earlier : List ℕ) (m : Moment) (n : ℕ) (cell : Option Cell) → on cell (behind earlier m) (λ c. on c.passenger (behind earlier m) (asked (behind earlier m) n c)) ≡ behind earlier (on cell m (λ c. on c.passenger m (asked m n c)))
-stage-behind earlier m n None = refl
-stage-behind earlier m n (Some c) = rider-behind earlier m n c c.passenger
+stage-after : (earlier : List ℕ) (m : Moment) (n : ℕ) (cell : Option Cell) → on cell (after_output earlier m) (λ c. on c.passenger (after_output earlier m) (asked (after_output earlier m) n c)) ≡ after_output earlier (on cell m (λ c. on c.passenger m (asked m n c)))
+stage-after earlier m n None = refl
+stage-after earlier m n (Some c) = rider-after earlier m n c c.passenger
 
-pub next-behind : (plan : Plan) (earlier : List ℕ) (m : Moment) (mv : Move) → next plan (behind earlier m) mv ≡ behind earlier (next plan m mv)
+pub next-after : (plan : Plan) (earlier : List ℕ) (m : Moment) (mv : Move) → next plan (after_output earlier m) mv ≡ after_output earlier (next plan m mv)
 unfolding next
-next-behind plan earlier m Serve = stage-behind earlier m plan.stages (cell_at m.state.cells plan.stages)
-next-behind plan earlier m _ = refl
+next-after plan earlier m Serve = stage-after earlier m plan.stages (cell_at m.state.cells plan.stages)
+next-after plan earlier m _ = refl
 
 -- at most one instruction retires with a move
 moved-retired : (plan : Plan) (s : State) (mv : Move) → (moved plan s mv).retired ≤ s.retired + 1

@@ -3,7 +3,7 @@
 ghost use Rattle.std.specs.Prelude.{◌≡◌, ◌<◌, ◌≤◌, length};
 ghost use Rattle.cf_index.specs.Listed.{slides_of};
 ghost use Rattle.cf_index.specs.Most.{most_of_kind};
-ghost use Rattle.cf_index.specs.Order.{first_behind, passed};
+ghost use Rattle.cf_index.specs.Order.{first_after, passed};
 
 use crate::bits::{count, count_below};
 use crate::candidates::Candidates;
@@ -49,9 +49,9 @@ impl Candidates {
     /// The place of the first that comes after the last move in the order of all moves; 0 where none does, or where
     /// there is no last move.
     #[inline(always)]
-    #[tactic(auto, unfolding(crate::specs::Order::first_behind, crate::specs::Order::passed))]
-    pub fn first_behind(&self, last: Option<Move>) -> usize
-        ensures place { result ≡ first_behind last self.now }
+    #[tactic(auto, unfolding(crate::specs::Order::first_after, crate::specs::Order::passed))]
+    pub fn first_after(&self, last: Option<Move>) -> usize
+        ensures place { result ≡ first_after last self.now }
         ensures within { 0 < length self.now → result < length self.now }
     {
         match last {

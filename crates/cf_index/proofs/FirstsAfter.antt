@@ -16,7 +16,7 @@ use Rattle.cf_semantics.specs.moves.Candidates.{candidates, held_back, other_mov
 use Rattle.cf_semantics.specs.state.State.{State}
 use Rattle.cf_semantics.specs.claims.Weight.{is_issue}
 use Rattle.cf_index.specs.Allowed.{all_entering, all_leaving, all_passing, is_allowed}
-use Rattle.cf_index.specs.Order.{first_behind, kind_place, stands_behind}
+use Rattle.cf_index.specs.Order.{first_after, kind_place, stands_after}
 use Rattle.cf_index.specs.Places.{places}
 use Rattle.cf_index.proofs.Filled.{all_chosen}
 use Rattle.cf_index.proofs.Passed.{earlier}
@@ -55,23 +55,23 @@ step_none : (p : Move → Bool) (b : Bool) (x : Move) (xs : List Move) → p x �
 step_none p true x xs off rest = rw off rest
 step_none p false x xs off rest = rest
 
-not_emit : (last : Move) → 1 ≤ kind_place last → stands_behind last Emit ≡ false
-not_emit last behind = grind (arith, nat_tests)
+not_emit : (last : Move) → 1 ≤ kind_place last → stands_after last Emit ≡ false
+not_emit last after = grind (arith, nat_tests)
 
-pub entering_none : (last : Move) (q : Move → Bool) → 1 ≤ kind_place last → find (stands_behind last) (filter q all_entering) ≡ None
-entering_none last q behind =
-    step_none (stands_behind last) (q (Issue Next)) (Issue Next) _ (earlier last (Issue Next) (omega arith)) (
-    step_none (stands_behind last) (q (Issue Taken)) (Issue Taken) _ (earlier last (Issue Taken) (omega arith)) (
-    step_none (stands_behind last) (q (Issue Wait)) (Issue Wait) _ (earlier last (Issue Wait) (omega arith)) (
-    step_none (stands_behind last) (q Emit) Emit [] (not_emit last behind) refl)))
+pub entering_none : (last : Move) (q : Move → Bool) → 1 ≤ kind_place last → find (stands_after last) (filter q all_entering) ≡ None
+entering_none last q after =
+    step_none (stands_after last) (q (Issue Next)) (Issue Next) _ (earlier last (Issue Next) (omega arith)) (
+    step_none (stands_after last) (q (Issue Taken)) (Issue Taken) _ (earlier last (Issue Taken) (omega arith)) (
+    step_none (stands_after last) (q (Issue Wait)) (Issue Wait) _ (earlier last (Issue Wait) (omega arith)) (
+    step_none (stands_after last) (q Emit) Emit [] (not_emit last after) refl)))
 
-pub found_candidate : (plan : Plan) (s : State) (last m : Move) → 1 ≤ kind_place last → find (stands_behind last) (others_allowed plan s) ≡ Some m → find (stands_behind last) (candidates plan s) ≡ Some m
-found_candidate plan s last m behind found =
+pub found_candidate : (plan : Plan) (s : State) (last m : Move) → 1 ≤ kind_place last → find (stands_after last) (others_allowed plan s) ≡ Some m → find (stands_after last) (candidates plan s) ≡ Some m
+found_candidate plan s last m after found =
     let q = is_allowed plan s in
     let parts = all_chosen plan s (filter q all_entering) (filter q (all_passing plan)) (filter q (slides_from 0 plan.sidings)) (filter q (all_leaving plan)) refl refl refl refl in
-    let whole : find (stands_behind last) (filter q all_entering ++ (filter q (all_passing plan) ++ (filter q (slides_from 0 plan.sidings) ++ filter q (all_leaving plan)))) ≡ Some m =
-    found_second (stands_behind last) (filter q all_entering) _ (entering_none last q behind) ∙ found in
-    ap (find (stands_behind last)) (sym parts) ∙ whole
+    let whole : find (stands_after last) (filter q all_entering ++ (filter q (all_passing plan) ++ (filter q (slides_from 0 plan.sidings) ++ filter q (all_leaving plan)))) ≡ Some m =
+    found_second (stands_after last) (filter q all_entering) _ (entering_none last q after) ∙ found in
+    ap (find (stands_after last)) (sym parts) ∙ whole
 
 -- and among those that are held back, where it is not an Issue
 others_choice : (p : Move → Bool) (x : Move) (xs rest : List Move) (m : Move) (b i : Bool) → p x ≡ b → (b ≡ true → i ≡ false) → (find p xs ≡ Some m → find p rest ≡ Some m) → cond b (Some x) (find p xs) ≡ Some m → find p (cond (not i) (x ∷ rest) rest) ≡ Some m
@@ -96,18 +96,18 @@ found_held p xs m other e =
     rw some f
 
 -- the first that is found stands at the place of the first after the last move
-pub found_behind : (last : Move) (xs : List Move) (m : Move) → find (stands_behind last) xs ≡ Some m → Some m ≡ slice_get xs (first_behind (Some last) xs)
-unfolding first_behind
-found_behind last xs m e =
-    let p = stands_behind last in
+pub found_after : (last : Move) (xs : List Move) (m : Move) → find (stands_after last) xs ≡ Some m → Some m ≡ slice_get xs (first_after (Some last) xs)
+unfolding first_after
+found_after last xs m e =
+    let p = stands_after last in
     let at = sym (find_at p xs) ∙ e in
     let w = slice_get_within xs (position_or_len p xs) m at in
     let t : nat_lt (position_or_len p xs) (length xs) ≡ true = grind (arith, nat_tests) in
     rw t (sym at)
 
-pub no_issue : (last mv : Move) → 1 ≤ kind_place last → stands_behind last mv ≡ true → is_issue mv ≡ false
-no_issue last (Issue g) behind e = let off = earlier last (Issue g) (omega arith) in absurd (cc)
-no_issue last mv behind e = refl
+pub no_issue : (last mv : Move) → 1 ≤ kind_place last → stands_after last mv ≡ true → is_issue mv ≡ false
+no_issue last (Issue g) after e = let off = earlier last (Issue g) (omega arith) in absurd (cc)
+no_issue last mv after e = refl
 
 pub no_issue_first : (last : Move) → ((g : Guess) → last ≡ Issue g → ⊥) → 1 ≤ kind_place last
 no_issue_first (Issue g) other = absurd (other g refl)

@@ -2,7 +2,7 @@ use Rattle.std.proofs.Common.{◌≡◌, ◌+◌, false, nat_lt, arith}
 use Rattle.std.proofs.lemmas.Bool.Decides.{nat_tests}
 use Rattle.cf_index.specs.Order.{below_or}
 use Rattle.cf_index.proofs.Ranks.{nothing_left}
-use Rattle.cf_index.proofs.rank.Rank.behind.Goals as goal
+use Rattle.cf_index.proofs.rank.Rank.after.Goals as goal
 
 pub returns-else-self-kind-2 : goal.returns-else-self-kind-2
 returns-else-self-kind-2 c = λ k.

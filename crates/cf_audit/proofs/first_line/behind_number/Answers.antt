@@ -1,5 +1,0 @@
-use Rattle.std.proofs.Common.{◌∙◌}
-use Rattle.cf_audit.proofs.first_line.behind_number.Goals as goal
-
-pub returns : goal.returns
-returns c = rw (c.bytes.ensures ∙ c.move_number-front.ensures) at c.behind.ensures
