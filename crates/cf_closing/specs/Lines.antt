@@ -1,50 +1,14 @@
 -- The first line of the report that closes a run: how the run finished (a format of this project).
 use Rattle.std.specs.Prelude.{ℕ, List, [], ◌++◌, codes, decimal}
 use Rattle.cf_bind.specs.declared.moves.Bar.{Bar}
-use Rattle.cf_bind.specs.declared.moves.Bar.TheVariants as bar
 use Rattle.cf_scripts.specs.declared.refusal.ScriptErr.{ScriptErr}
-use Rattle.cf_scripts.specs.declared.refusal.ScriptKind.{ScriptKind}
-use Rattle.cf_scripts.specs.declared.refusal.ScriptKind.TheVariants as script
-use Rattle.cf_texts.specs.Texts.{line, counted_line, trap_line, register_name}
+use Rattle.cf_texts.specs.Texts.{line, counted_line, trap_line}
+use Rattle.cf_refusals.specs.Bars.{bar_text}
+use Rattle.cf_refusals.specs.Scripts.{script_text}
 use Rattle.cf_run.specs.declared.answer.Ran.{Ran as Answer}
 use Rattle.cf_run.specs.declared.answer.Ran.TheVariants as ran
 use Rattle.cf_run.specs.declared.answer.Scripted.{Scripted}
 use Rattle.cf_run.specs.declared.answer.Scripted.TheVariants.{Ran, ScriptEnd, BadScript, BarredAt}
-
--- what bars a move: its name, and after a space the register of a source without a value
-unfoldable pub bar_text : Bar → List ℕ
-bar_text bar.Halted = codes "Halted"
-bar_text bar.Failed = codes "Failed"
-bar_text bar.NoSuchSite = codes "NoSuchSite"
-bar_text bar.NoPassenger = codes "NoPassenger"
-bar_text bar.NoPacket = codes "NoPacket"
-bar_text bar.Occupied = codes "Occupied"
-bar_text bar.NotMet = codes "NotMet"
-bar_text bar.AlreadyMet = codes "AlreadyMet"
-bar_text (bar.SourceMissing r) = codes "SourceMissing " ++ register_name r
-bar_text bar.NoUnit = codes "NoUnit"
-bar_text bar.NotDone = codes "NotDone"
-bar_text bar.Owes = codes "Owes"
-bar_text bar.OwesNothing = codes "OwesNothing"
-bar_text bar.OpNotThere = codes "OpNotThere"
-bar_text bar.LaneFull = codes "LaneFull"
-bar_text bar.LaneEmpty = codes "LaneEmpty"
-bar_text bar.FetchWaiting = codes "FetchWaiting"
-bar_text bar.BadGuess = codes "BadGuess"
-bar_text bar.Dead = codes "Dead"
-bar_text bar.AlreadyDone = codes "AlreadyDone"
-
--- the register of a source without a value, which the text of what bars a move ends with
-abbrev pub source_text : Bar → List ℕ
-source_text (bar.SourceMissing r) = register_name r
-source_text b = []
-
--- why a line of a script is no move: the name
-unfoldable pub script_text : ScriptKind → List ℕ
-script_text script.UnknownMove = codes "UnknownMove"
-script_text script.BadNumber = codes "BadNumber"
-script_text script.ExtraWords = codes "ExtraWords"
-script_text script.NotAscii = codes "NotAscii"
 
 -- what happened at the line of a script of this number, before the cause
 unfoldable pub place_in_script : List ℕ → ℕ → List ℕ

@@ -10,7 +10,7 @@ use Rattle.cf_bind.specs.MoveTexts.{move_line}
 use Rattle.cf_semantics.specs.moves.Bars.{bar as first_bar}
 use Rattle.cf_semantics.specs.moves.Candidates.{counted_from, at_stages}
 use Rattle.cf_semantics.specs.state.State.{State}
-use Rattle.cf_closing.specs.Lines.{bar_text}
+use Rattle.cf_refusals.specs.Bars.{bar_text}
 
 -- the moves from each cell of a siding, among them the last one, which leads nowhere
 abbrev pub cell_moves : ℕ → ℕ → List Move

@@ -4,78 +4,13 @@
 ghost use Rattle.std.specs.Prelude.{◌≡◌, ◌+◌, ◌≤◌, ◌++◌, length, codes, decimal};
 ghost use Rattle.cf_texts.specs.Texts.{line as line_of};
 ghost use Rattle.cf_texts.specs.Room.{page_room};
-ghost use Rattle.cf_closing.specs.Lines.{bar_text, source_text, script_text, place_in_script, bad_line, barred_line, line_of_run, first_line};
+ghost use Rattle.cf_closing.specs.Lines.{place_in_script, bad_line, barred_line, line_of_run, first_line};
 
 use cf_bind::Bar;
+use cf_refusals::{push_bar, push_script};
 use cf_run::{Ran, Scripted};
-use cf_scripts::{ScriptErr, ScriptKind};
+use cf_scripts::ScriptErr;
 use cf_texts::Page;
-
-/// The name of what bars a move, and a space after it where the register of a source follows.
-#[tactic(auto, unfolding(crate::specs::Lines::bar_text))]
-fn bar_name(bar: Bar) -> &'static [u8]
-    ensures text { bar_text bar ≡ result.now ++ source_text bar }
-    ensures short { length result.now ≤ 14 }
-{
-    match bar {
-        Bar::Halted => b"Halted",
-        Bar::Failed => b"Failed",
-        Bar::NoSuchSite => b"NoSuchSite",
-        Bar::NoPassenger => b"NoPassenger",
-        Bar::NoPacket => b"NoPacket",
-        Bar::Occupied => b"Occupied",
-        Bar::NotMet => b"NotMet",
-        Bar::AlreadyMet => b"AlreadyMet",
-        Bar::SourceMissing(_) => b"SourceMissing ",
-        Bar::NoUnit => b"NoUnit",
-        Bar::NotDone => b"NotDone",
-        Bar::Owes => b"Owes",
-        Bar::OwesNothing => b"OwesNothing",
-        Bar::OpNotThere => b"OpNotThere",
-        Bar::LaneFull => b"LaneFull",
-        Bar::LaneEmpty => b"LaneEmpty",
-        Bar::FetchWaiting => b"FetchWaiting",
-        Bar::BadGuess => b"BadGuess",
-        Bar::Dead => b"Dead",
-        Bar::AlreadyDone => b"AlreadyDone",
-    }
-}
-
-/// What bars a move: its name, and the register of a source without a value.
-#[tactic(auto, using(crate::proofs::Texts::no_source))]
-pub fn push_bar(page: &mut Page, bar: Bar)
-    requires { length page.old + 20 ≤ page_room }
-    ensures text { page.new ≡ page.old ++ bar_text bar }
-    ensures size { length page.new ≤ length page.old + 20 }
-{
-    page.push(bar_name(bar));
-    if let Bar::SourceMissing(register) = bar {
-        page.push_register_name(register);
-    }
-}
-
-/// The name of why a line of a script is no move.
-#[tactic(auto, unfolding(crate::specs::Lines::script_text))]
-fn script_name(kind: ScriptKind) -> &'static [u8]
-    ensures text { result.now ≡ script_text kind }
-    ensures short { length result.now ≤ 11 }
-{
-    match kind {
-        ScriptKind::UnknownMove => b"UnknownMove",
-        ScriptKind::BadNumber => b"BadNumber",
-        ScriptKind::ExtraWords => b"ExtraWords",
-        ScriptKind::NotAscii => b"NotAscii",
-    }
-}
-
-/// Why a line of a script is no move.
-pub fn push_script(page: &mut Page, kind: ScriptKind)
-    requires { length page.old + 20 ≤ page_room }
-    ensures text { page.new ≡ page.old ++ script_text kind }
-    ensures size { length page.new ≤ length page.old + 20 }
-{
-    page.push(script_name(kind));
-}
 
 /// What happened at the line of a script of this number, before the cause.
 #[tactic(auto, unfolding(crate::specs::Lines::place_in_script))]

@@ -8,5 +8,5 @@ mod moves;
 mod parts;
 
 pub use closing::{put_closing, put_closing_in_rounds, put_machine_closing};
-pub use first_line::{push_bar, push_script, run_line};
+pub use first_line::run_line;
 pub use moves::put_moves;

@@ -5,15 +5,15 @@ ghost use Rattle.std.specs.Prelude.{◌≡◌, ◌++◌, codes};
 ghost use Rattle.cf_bind.specs.MoveTexts.{move_line};
 ghost use Rattle.cf_semantics.specs.moves.Candidates.{at_stages};
 ghost use Rattle.cf_report.specs.Putting.{PutsText};
-ghost use Rattle.cf_closing.specs.Lines.{bar_text};
+ghost use Rattle.cf_refusals.specs.Bars.{bar_text};
 ghost use Rattle.cf_closing.specs.Moves.{between, cell_moves, siding_moves, line_in, moves_text};
 ghost use Rattle.cf_closing.specs.Parts.{move_at, part_moves, lines_in};
 
-use crate::first_line::push_bar;
 use crate::parts::{PARTS, Part, StageMove};
 use cf_bind::{Bar, Move, MoveLine, move_text};
 use cf_core::Core;
 use cf_io::{Failed, Sink, put_all};
+use cf_refusals::push_bar;
 use cf_texts::Page;
 
 /// What follows the move in the line of a move that is barred.

@@ -14,7 +14,8 @@ use Rattle.digits.specs.Hexadecimal.{hex8}
 use Rattle.cf_texts.specs.Texts.{line, counted_line}
 use Rattle.cf_report.specs.Lines.{registers_text}
 use Rattle.cf_report.specs.Picture.{picture}
-use Rattle.cf_closing.specs.Lines.{bar_text, script_text}
+use Rattle.cf_refusals.specs.Bars.{bar_text}
+use Rattle.cf_refusals.specs.Scripts.{script_text}
 use Rattle.cf_run.specs.Made.{retirement}
 use Rattle.cf_debug.specs.declared.command.Command.{Command}
 use Rattle.cf_debug.specs.declared.command.Command.TheVariants.{Nothing, Move, Auto, Show, Break, Back, End}

@@ -4,16 +4,16 @@ ghost use Rattle.std.specs.Prelude.{◌≡◌, ◌+◌, ◌*◌, ◌<◌, ◌≤
 ghost use Rattle.cf_texts.specs.Texts.{counted_line};
 ghost use Rattle.cf_texts.specs.Room.{page_room};
 ghost use Rattle.mem_regions.specs.Ranges.{range_of};
-ghost use Rattle.cf_closing.specs.Lines.{bar_text};
+ghost use Rattle.cf_refusals.specs.Bars.{bar_text};
 ghost use Rattle.cf_report.specs.Putting.{PutsText};
 ghost use Rattle.cf_run.specs.Made.{retirement};
 ghost use Rattle.cf_debug.specs.Replies.{back_text, break_text, bytes_text, memory_text, refusal_text, refused_line};
 
 use crate::command::Refusal;
 use cf_bind::{Bar, Move, MoveLine, move_text};
-use cf_closing::{push_bar, push_script};
 use cf_core::{Core, Event};
 use cf_io::{Failed, Sink, put_all};
+use cf_refusals::{push_bar, push_script};
 use cf_report::put_retired;
 use cf_texts::Page;
 use digits::hex_digit;

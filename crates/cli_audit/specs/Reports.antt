@@ -2,7 +2,7 @@
 use Rattle.std.specs.Prelude.{ℕ, List, ◌++◌, codes, decimal}
 use Rattle.cf_scripts.specs.declared.trace_refusal.TraceKind.{TraceKind}
 use Rattle.cf_scripts.specs.declared.trace_refusal.TraceKind.TheVariants as kind
-use Rattle.cf_closing.specs.Lines.{bar_text}
+use Rattle.cf_refusals.specs.Bars.{bar_text}
 use Rattle.cf_texts.specs.Texts.{line}
 use Rattle.cli_files.specs.declared.status.TraceFault.{TraceFault}
 use Rattle.cli_files.specs.declared.status.TraceFault.TheVariants as fault

@@ -5,7 +5,7 @@ ghost use Rattle.std.specs.Prelude.{◌≡◌, ◌+◌, ◌≤◌, ◌++◌, len
 ghost use Rattle.cli_audit.specs.Reports.{kind_text, place_text, fault_text, bad_trace as bad_trace_text, trace_of as trace_text};
 ghost use Rattle.cf_texts.specs.Room.{page_room};
 
-use cf_closing::push_bar;
+use cf_refusals::push_bar;
 use cf_scripts::TraceKind;
 use cf_texts::Page;
 use cli_files::TraceFault;

@@ -1,6 +1,7 @@
 //! How a run finished, what bars a move and why a line is no move, as the tables of reports have it.
 use cf_bind::Bar;
-use cf_closing::{push_bar, push_script, run_line};
+use cf_closing::run_line;
+use cf_refusals::{push_bar, push_script};
 use cf_run::Ran;
 use cf_scripts::ScriptKind;
 use cf_texts::Page;
