@@ -1,5 +1,8 @@
 //! The rows of a file, line by line.
 
+ghost use Rattle.std.specs.Prelude.{◌↔◌, IsTrue};
+ghost use Rattle.rows.specs.Heads.{IsHead};
+
 use crate::call::{Call, Fails, Named, Outcome, keep};
 use crate::content::{change, number, split};
 use crate::line_err::LineErr;
@@ -94,7 +97,9 @@ impl Sheet {
     }
 
     /// Whether a row begins with the line.
-    pub fn begins_row(line: &str) -> bool {
+    pub fn begins_row(line: &str) -> bool
+        ensures { IsTrue result ↔ IsHead line.now }
+    {
         line.starts_with("row ") || line.starts_with("again ")
     }
 
