@@ -11,10 +11,10 @@ use Rattle.cf_bind.specs.declared.passenger.Guess.TheVariants as guess
 use Rattle.cf_bind.specs.declared.moves.Move.{Move}
 use Rattle.cf_bind.specs.declared.moves.Move.TheVariants.{Issue, Emit, Climb, Fall, Meet, Execute, Send, Launch, Slide, Access, Recover, Leave, Exit, Serve}
 use Rattle.std.specs.Char.{digit_char}
-use Rattle.digits.specs.Hexadecimal.{hex8}
+use Rattle.texts.specs.Hexadecimal.{hex8}
 use Rattle.cf_bind.specs.MoveTexts.{move_line}
 use Rattle.cf_report.specs.Lines.{numbered_move}
-use Rattle.cf_scripts.specs.MoveLines.{move_in}
+use Rattle.run_scripts.specs.MoveLines.{move_in}
 use Rattle.cf_audit.specs.Lines.{move_front, IsFirstLine, Tells}
 use Rattle.cf_audit.specs.Traces.{BeginsWith, IsReadBack, has_line}
 

@@ -1,6 +1,6 @@
 -- The retirement lines of the trace of a run are those of the sequential machine.
 use Rattle.std.proofs.Common.{◌≡◌, ℕ, ◌+◌, List, length, Option, Some, None, refl, ap, subst, ◌∙◌}
-use Rattle.cf_asked.specs.declared.show.Show.TheVariants as show
+use Rattle.run_options.specs.declared.show.Show.TheVariants as show
 use Rattle.rv_machine.specs.Hart.{Hart}
 use Rattle.rv_machine.specs.Machine.{Machine}
 use Rattle.cf_layout.specs.Accepted.{IsAccepted}
@@ -9,8 +9,8 @@ use Rattle.cf_semantics.specs.runs.Lines.{Line, lines}
 use Rattle.cf_semantics.specs.claims.Refines.{Refines, gained}
 use Rattle.cf_semantics.specs.runs.Runs.{opened as opened_on, start as start_on}
 use Rattle.cf_semantics.specs.state.State.{Moment}
-use Rattle.cf_refinement.proofs.claims.Runs.{opened_retired}
-use Rattle.cf_refinement.proofs.Theorems.{run_refines}
+use Rattle.theory_refinement.proofs.claims.Runs.{opened_retired}
+use Rattle.theory_refinement.proofs.Theorems.{run_refines}
 use Rattle.cf_core.specs.Processors.{Processor, opened}
 use Rattle.cf_run.specs.Going.{moment_of, Leads}
 use Rattle.cf_run.specs.Headline.{machine_on, moment_after, AreTexts}

@@ -1,7 +1,7 @@
 -- What a move that was made and shown says of the next group of the trace.
 use Rattle.std.proofs.Common.{◌≡◌, ℕ, ◌≤◌, List, length, Option, Some, None, Ok, Err, sym, subst, arith}
 use Rattle.std.proofs.Math.Seq.{take-length}
-use Rattle.cf_asked.specs.declared.show.Show.TheVariants as show
+use Rattle.run_options.specs.declared.show.Show.TheVariants as show
 use Rattle.cf_io.specs.Causes.{HasCause, raised}
 use Rattle.cf_io.specs.Puts.{Writes, WritesFront}
 use Rattle.cf_bind.specs.declared.moves.Move.{Move}
@@ -10,7 +10,7 @@ use Rattle.cf_run.specs.declared.answer.Ran.TheVariants as ran
 use Rattle.cf_run.specs.Moving.{MakesAndShows, MakesUnshown, Does, shown_of}
 use Rattle.cf_audit.specs.declared.answer.Audit.{Audit}
 use Rattle.cf_audit.specs.declared.answer.Audit.TheVariants.{Agrees, Wrong, ReadFault}
-use Rattle.cf_scripts.specs.declared.trace_refusal.TraceKind.TheVariants.{NotAMove, Barred, Differs, Cut}
+use Rattle.run_scripts.specs.declared.trace_refusal.TraceKind.TheVariants.{NotAMove, Barred, Differs, Cut}
 use Rattle.cf_audit.specs.Compared.{Comparison, HasOther}
 use Rattle.cf_audit.specs.Turns.{Stand, Compares, Parts, PutsSome, Tries, input_tested}
 

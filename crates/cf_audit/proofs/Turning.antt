@@ -3,7 +3,7 @@ use Rattle.std.proofs.Common.{◌≡◌, ℕ, ◌+◌, ◌-◌, ◌<◌, ◌≤�
 use Rattle.std.specs.Prelude.{slice_get}
 use Rattle.std.proofs.lemmas.List.{take_all}
 use Rattle.std.proofs.lemmas.Option.{same_Some}
-use Rattle.cf_asked.specs.declared.show.Show.TheVariants as show
+use Rattle.run_options.specs.declared.show.Show.TheVariants as show
 use Rattle.rv_machine.specs.Streams.{Streams, streams_of}
 use Rattle.cf_layout.specs.Layout.{Plan}
 use Rattle.cf_bind.specs.declared.moves.Move.{Move}
@@ -23,8 +23,8 @@ use Rattle.cf_run.proofs.Runs.{reached-more, reached-trace, reached-rest}
 use Rattle.cf_run.proofs.Stopping.{filled, shown_too}
 use Rattle.cf_audit.specs.declared.answer.Audit.{Audit}
 use Rattle.cf_audit.specs.declared.answer.Audit.TheVariants.{Agrees, Wrong, ReadFault}
-use Rattle.cf_scripts.specs.declared.trace_refusal.TraceKind.{TraceKind}
-use Rattle.cf_scripts.specs.declared.trace_refusal.TraceKind.TheVariants.{NotAMove, Barred, Differs, Cut}
+use Rattle.run_scripts.specs.declared.trace_refusal.TraceKind.{TraceKind}
+use Rattle.run_scripts.specs.declared.trace_refusal.TraceKind.TheVariants.{NotAMove, Barred, Differs, Cut}
 use Rattle.cf_audit.specs.Audits.{Audits}
 use Rattle.cf_audit.specs.Compared.{alone, told_by}
 use Rattle.cf_audit.specs.Traces.{most_retired, line_of, has_line, BeginsWith, IsTrace, StandsAt, PartsAt, Fails, GoesWrong}

@@ -1,7 +1,7 @@
 -- Recorded traces: the text of a run, and where a text that is no trace goes wrong (a format of this project).
 use Rattle.std.specs.Prelude.{◌≡◌, ◌⊎◌, ℕ, ◌+◌, ◌-◌, ◌<◌, ◌^◌, Bool, true, false, List, [], ◌∷◌, ◌++◌, length, take, slice_get, count_by, Option, Some, None, Ok}
 use Rattle.std.specs.List.{list_any}
-use Rattle.cf_asked.specs.declared.show.Show.TheVariants as show
+use Rattle.run_options.specs.declared.show.Show.TheVariants as show
 use Rattle.rv_text.specs.Lines.{is_line_feed}
 use Rattle.rv_machine.specs.Streams.{IsTold, Becomes, streams_of}
 use Rattle.cf_layout.specs.Layout.{Plan}
@@ -14,11 +14,11 @@ use Rattle.cf_semantics.specs.state.State.{Moment}
 use Rattle.cf_core.specs.Processors.{Processor, in_state}
 use Rattle.cf_core.specs.Stepping.{FailsToRead}
 use Rattle.cf_report.specs.Lines.{numbered_move}
-use Rattle.cf_scripts.specs.MoveLines.{move_in}
+use Rattle.run_scripts.specs.MoveLines.{move_in}
 use Rattle.cf_run.specs.Made.{Made, shown, all_shown}
 use Rattle.cf_run.specs.Going.{moment_of, Finds, IsMade, Leads}
-use Rattle.cf_scripts.specs.declared.trace_refusal.TraceKind.{TraceKind}
-use Rattle.cf_scripts.specs.declared.trace_refusal.TraceKind.TheVariants.{NotAMove, Barred, Differs, Cut}
+use Rattle.run_scripts.specs.declared.trace_refusal.TraceKind.{TraceKind}
+use Rattle.run_scripts.specs.declared.trace_refusal.TraceKind.TheVariants.{NotAMove, Barred, Differs, Cut}
 
 -- at most this many instructions can retire: their count is a u64
 abbrev pub most_retired : ℕ

@@ -1,6 +1,6 @@
 //! What an audit answers.
 
-use cf_scripts::TraceKind;
+use run_scripts::TraceKind;
 
 /// What an audit answers.
 #[derive(Clone, Copy)]

@@ -18,7 +18,7 @@ use cf_core::Core;
 use cf_io::{Nowhere, Source};
 use cf_report::Tally;
 use cf_run::{Ran, Show, known, make_and_show};
-use cf_scripts::{MOST_SCRIPT, TraceKind};
+use run_scripts::{MOST_SCRIPT, TraceKind};
 
 /// The greatest length of a trace, in bytes: that of a script.
 pub const MOST_TRACE: usize = MOST_SCRIPT;

@@ -8,7 +8,7 @@ ghost use Rattle.cf_audit.specs.Traces.{BeginsWith};
 
 use cf_bind::{Move, MoveLine, move_text};
 use cf_report::move_number;
-use cf_scripts::read_move;
+use run_scripts::read_move;
 use rv_text::find_byte;
 
 /// What comes after a front of the text, where it begins with that front.

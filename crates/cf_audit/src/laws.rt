@@ -3,7 +3,7 @@
 ghost use Rattle.std.specs.Prelude.{◌≡◌, ℕ, List, Some};
 ghost use Rattle.cf_core.specs.Processors.{Processor};
 ghost use Rattle.cf_semantics.specs.state.State.{Moment};
-ghost use Rattle.cf_scripts.specs.declared.trace_refusal.TraceKind.{TraceKind as Kind};
+ghost use Rattle.run_scripts.specs.declared.trace_refusal.TraceKind.{TraceKind as Kind};
 ghost use Rattle.cf_audit.specs.Traces.{GoesWrong, IsTrace};
 
 /// Over an input that tells what it has left, a text is the trace of runs of one number of moves, and of no run where

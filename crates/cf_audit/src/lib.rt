@@ -10,4 +10,4 @@ pub mod laws;
 
 pub use answer::Audit;
 pub use auditing::{MOST_TRACE, audit};
-pub use cf_scripts::TraceKind;
+pub use run_scripts::TraceKind;

@@ -1,6 +1,6 @@
 -- The line of a move in a script (a format of this project).
 use Rattle.std.specs.Prelude.{ℕ, List, ◌++◌, codes, decimal}
-use Rattle.digits.specs.Hexadecimal.{hex8}
+use Rattle.texts.specs.Hexadecimal.{hex8}
 use Rattle.cf_bind.specs.declared.passenger.Guess.{Guess}
 use Rattle.cf_bind.specs.declared.passenger.Guess.TheVariants as guess
 use Rattle.cf_bind.specs.declared.moves.Move.{Move}

@@ -1,10 +1,10 @@
 //! A buffer for the text of one move.
 
 ghost use Rattle.std.specs.Prelude.{◌≡◌, ◌+◌, ◌<◌, ◌≤◌, ◌++◌, [], length, decimal};
-ghost use Rattle.digits.specs.Hexadecimal.{hex8};
+ghost use Rattle.texts.specs.Hexadecimal.{hex8};
 
 use arrayvec::ArrayVec;
-use digits::hex8;
+use texts::hex8;
 use itoa::Buffer;
 use std::marker::Model;
 

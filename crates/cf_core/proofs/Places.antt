@@ -18,7 +18,7 @@ use Rattle.cf_semantics.specs.state.Options.{on}
 use Rattle.cf_semantics.specs.state.Passengers.{reg_in}
 use Rattle.cf_semantics.specs.state.State.{State, cell_at, siding_at}
 use Rattle.cf_stages.proofs.Parts.{stage-high, stage-low}
-use Rattle.cf_confluence.proofs.back.TakenBack.{state_back}
+use Rattle.theory_confluence.proofs.back.TakenBack.{state_back}
 use Rattle.cf_core.specs.Places.{CanReturn, Each, FitsLane, IsOldCell, IsOldOp}
 use Rattle.cf_core.specs.Processors.{Processor, IsProcessor, IsStage}
 use Rattle.cf_core.specs.Undo.{CanStand, IsAfter, cell_kept, kept_by, lane_kept, listed, op_kept, register_kept}

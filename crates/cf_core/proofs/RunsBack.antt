@@ -3,7 +3,7 @@ use Rattle.std.proofs.Common.{◌≡◌, ◌≢◌, ◌∙◌, ℕ, List, [], �
 use Rattle.std.proofs.lemmas.List.Elements.{All-tail}
 use Rattle.cf_bind.specs.declared.moves.Move.{Move}
 use Rattle.cf_bind.specs.declared.moves.Move.TheVariants.{Serve}
-use Rattle.cf_confluence.proofs.back.TakenBack.{moment_back}
+use Rattle.theory_confluence.proofs.back.TakenBack.{moment_back}
 use Rattle.cf_layout.specs.Layout.{Plan}
 use Rattle.cf_semantics.specs.moves.Kept.{kept, taken_back}
 use Rattle.cf_semantics.specs.moves.Moves.{next}

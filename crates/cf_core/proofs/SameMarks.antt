@@ -8,7 +8,7 @@ use Rattle.cf_bind.specs.declared.moves.Bar.{Bar}
 use Rattle.cf_bind.specs.declared.moves.Bar.TheVariants.{Dead, AlreadyDone, NoUnit, NotMet, NoSuchSite, NoPassenger}
 use Rattle.cf_bind.specs.declared.passenger.Passenger.{Passenger}
 use Rattle.cf_layout.specs.Layout.{Plan, launch_stage, recover_stage, siding_of}
-use Rattle.cf_refinement.proofs.column.Sidings.{put_other}
+use Rattle.theory_refinement.proofs.column.Sidings.{put_other}
 use Rattle.cf_semantics.specs.moves.Bars.{entry_bar, execute_bar, exit_op_bar, first_of, is_full, launch_bar, recover_bar, source_bar, stops_at}
 use Rattle.cf_semantics.specs.moves.Instructions.{is_memory}
 use Rattle.cf_semantics.specs.state.Layouts.{launches, recovers}

@@ -12,8 +12,8 @@ use Rattle.cf_semantics.specs.declared.event.Event.{Event}
 use Rattle.cf_semantics.specs.moves.Bars.{bar}
 use Rattle.cf_semantics.specs.moves.Kept.{Kept, restored}
 use Rattle.cf_core.specs.Processors.{Processor, in_state}
-use Rattle.cf_texts.specs.Texts.{counted_line}
-use Rattle.cf_refusals.specs.Bars.{bar_text}
+use Rattle.texts.specs.Lines.{counted_line}
+use Rattle.report_refusals.specs.Bars.{bar_text}
 use Rattle.cf_report.specs.Putting.{PutsText}
 use Rattle.cf_run.specs.Made.{Made}
 use Rattle.cf_debug.specs.declared.answer.Broken.{Broken}

@@ -12,7 +12,7 @@ use Rattle.cf_semantics.specs.declared.event.Event.{Event}
 use Rattle.cf_semantics.specs.moves.Bars.{bar}
 use Rattle.cf_semantics.specs.state.Drained.{is_drained}
 use Rattle.cf_semantics.specs.moves.Holding.{offered, paced}
-use Rattle.cf_untold.proofs.Offered.{offered_allowed}
+use Rattle.theory_unknown_input.proofs.Offered.{offered_allowed}
 use Rattle.cf_semantics.specs.state.State.{State}
 use Rattle.cf_sched.specs.Paces.{Count, offers as offers_by, saw, stopped}
 use Rattle.cf_sched.specs.Policies.{round_pick, round_on}

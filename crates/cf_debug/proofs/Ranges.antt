@@ -4,9 +4,9 @@ use Rattle.std.specs.Prelude.{◌&&◌, ◌==◌, Result, codes, nat_le, nat_lt,
 use Rattle.std.specs.Str.{bytes_eq}
 use Rattle.std.proofs.lemmas.Bool.Decides.{nat_tests}
 use Rattle.rv_text.specs.Pieces.{name_part, operand_part}
-use Rattle.cf_scripts.specs.declared.refusal.ScriptKind.{ScriptKind}
-use Rattle.cf_scripts.specs.MoveLines.{move_in}
-use Rattle.cf_scripts.specs.Words.{words_of, first_word, first_number}
+use Rattle.run_scripts.specs.declared.refusal.ScriptKind.{ScriptKind}
+use Rattle.run_scripts.specs.MoveLines.{move_in}
+use Rattle.run_scripts.specs.Words.{words_of, first_word, first_number}
 use Rattle.cf_bind.specs.declared.moves.Move.{Move as AnyMove}
 use Rattle.cf_debug.specs.declared.command.Command.{Command}
 use Rattle.cf_debug.specs.declared.command.Command.TheVariants.{Nothing, Auto, Show, Break, Back, End}

@@ -15,8 +15,8 @@ use Rattle.cf_semantics.specs.moves.Kept.{Kept, kept, restored}
 use Rattle.cf_semantics.specs.moves.Moves.{moved, next}
 use Rattle.cf_semantics.specs.runs.Runs.{IsReached, IsRun, opened as opened_on, run, start as start_on}
 use Rattle.cf_semantics.specs.state.State.{Moment, State}
-use Rattle.cf_confluence.proofs.Laws.{some_pick}
-use Rattle.cf_confluence.proofs.back.TakenBack.{state_back}
+use Rattle.theory_confluence.proofs.Laws.{some_pick}
+use Rattle.theory_confluence.proofs.back.TakenBack.{state_back}
 use Rattle.cf_core.specs.Processors.{Processor, in_state, opened}
 use Rattle.cf_core.specs.Undo.{IsAfter}
 use Rattle.cf_core.proofs.Steps.{next_moved}

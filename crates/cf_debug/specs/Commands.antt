@@ -3,9 +3,9 @@ use Rattle.std.specs.Prelude.{ℕ, ◌≤◌, ◌==◌, ◌&&◌, List, [], drop
 use Rattle.std.specs.Str.{bytes_eq}
 use Rattle.rv_text.specs.Pieces.{name_part, operand_part}
 use Rattle.cf_bind.specs.declared.moves.Move.{Move as AnyMove}
-use Rattle.cf_scripts.specs.declared.refusal.ScriptKind.{ScriptKind}
-use Rattle.cf_scripts.specs.MoveLines.{move_in}
-use Rattle.cf_scripts.specs.Words.{words_of, first_word, first_number, address_in}
+use Rattle.run_scripts.specs.declared.refusal.ScriptKind.{ScriptKind}
+use Rattle.run_scripts.specs.MoveLines.{move_in}
+use Rattle.run_scripts.specs.Words.{words_of, first_word, first_number, address_in}
 use Rattle.cf_debug.specs.declared.command.Command.{Command}
 use Rattle.cf_debug.specs.declared.command.Command.TheVariants.{Nothing, Move, Auto, Show, Break, Back, End}
 use Rattle.cf_debug.specs.declared.command.View.{View}

@@ -10,12 +10,12 @@ use Rattle.cf_semantics.specs.moves.Bars.{bar}
 use Rattle.cf_semantics.specs.moves.Kept.{Kept, restored}
 use Rattle.cf_semantics.specs.claims.Weight.{weight}
 use Rattle.cf_core.specs.Processors.{Processor, in_state}
-use Rattle.digits.specs.Hexadecimal.{hex8}
-use Rattle.cf_texts.specs.Texts.{line, counted_line}
+use Rattle.texts.specs.Hexadecimal.{hex8}
+use Rattle.texts.specs.Lines.{line, counted_line}
 use Rattle.cf_report.specs.Lines.{registers_text}
 use Rattle.cf_report.specs.Picture.{picture}
-use Rattle.cf_refusals.specs.Bars.{bar_text}
-use Rattle.cf_refusals.specs.Scripts.{script_text}
+use Rattle.report_refusals.specs.Bars.{bar_text}
+use Rattle.report_refusals.specs.Scripts.{script_refusal}
 use Rattle.cf_run.specs.Made.{retirement}
 use Rattle.cf_debug.specs.declared.command.Command.{Command}
 use Rattle.cf_debug.specs.declared.command.Command.TheVariants.{Nothing, Move, Auto, Show, Break, Back, End}
@@ -48,7 +48,7 @@ refusal_text TooLong = codes "TooLong"
 refusal_text UnknownCommand = codes "UnknownCommand"
 refusal_text BadNumber = codes "BadNumber"
 refusal_text ExtraWords = codes "ExtraWords"
-refusal_text (Script kind) = script_text kind
+refusal_text (Script kind) = script_refusal kind
 
 -- bytes, each as two hexadecimal digits after a space
 unfoldable pub bytes_text : List ℕ → List ℕ

@@ -1,7 +1,7 @@
 //! The commands of the debugger, and why a line is no command.
 
 use cf_bind::Move as AnyMove;
-use cf_scripts::ScriptKind;
+use run_scripts::ScriptKind;
 
 /// A command of the debugger.
 #[derive(Clone, Copy)]

@@ -1,12 +1,12 @@
 //! A line is read.
 
 ghost use Rattle.std.specs.Prelude.{◌≡◌, drop};
-ghost use Rattle.cf_scripts.specs.MoveLines.{move_in};
-ghost use Rattle.cf_scripts.specs.Words.{words_of};
+ghost use Rattle.run_scripts.specs.MoveLines.{move_in};
+ghost use Rattle.run_scripts.specs.Words.{words_of};
 ghost use Rattle.cf_debug.specs.Commands.{address_told, alone, auto_told, break_told, command_in, command_named, lone_command, lone_told, memory_told, move_told, number_told, stop_told};
 
 use crate::command::{Command, Refusal, View};
-use cf_scripts::{Words, read_move};
+use run_scripts::{Words, read_move};
 use rv_text::{numeral, split_name};
 
 /// How many moves one command asks for at most.

@@ -1,10 +1,10 @@
 //! The answers of the debugger.
 
 ghost use Rattle.std.specs.Prelude.{◌≡◌, ◌+◌, ◌*◌, ◌<◌, ◌≤◌, ◌++◌, length, codes, map};
-ghost use Rattle.cf_texts.specs.Texts.{counted_line};
-ghost use Rattle.cf_texts.specs.Room.{page_room};
+ghost use Rattle.texts.specs.Lines.{counted_line};
+ghost use Rattle.texts.specs.Room.{page_room};
 ghost use Rattle.mem_regions.specs.Ranges.{range_of};
-ghost use Rattle.cf_refusals.specs.Bars.{bar_text};
+ghost use Rattle.report_refusals.specs.Bars.{bar_text};
 ghost use Rattle.cf_report.specs.Putting.{PutsText};
 ghost use Rattle.cf_run.specs.Made.{retirement};
 ghost use Rattle.cf_debug.specs.Replies.{back_text, break_text, bytes_text, memory_text, refusal_text, refused_line};
@@ -13,10 +13,10 @@ use crate::command::Refusal;
 use cf_bind::{Bar, Move, MoveLine, move_text};
 use cf_core::{Core, Event};
 use cf_io::{Failed, Sink, put_all};
-use cf_refusals::{push_bar, push_script};
+use report_refusals::{push_bar, push_script};
 use cf_report::put_retired;
-use cf_texts::Page;
-use digits::hex_digit;
+use texts::Page;
+use texts::hex_digit;
 
 /// Puts a text. After `Failed` a front of it was put.
 fn put<R: Sink>(text: &[u8], report: &mut R) -> Result<(), Failed>
@@ -26,7 +26,7 @@ fn put<R: Sink>(text: &[u8], report: &mut R) -> Result<(), Failed>
 }
 
 /// Puts a line of a name and a number.
-#[tactic(auto, unfolding(cf_texts::specs::Texts::counted_line))]
+#[tactic(auto, unfolding(texts::specs::Lines::counted_line))]
 pub(crate) fn put_counted<R: Sink>(name: &[u8], number: u64, report: &mut R) -> Result<(), Failed>
     requires { length name.now ≤ 100 }
     ensures { PutsText (R.written report.old) (R.written report.new) (R.faults report.old) (R.faults report.new)

@@ -1,7 +1,7 @@
 -- The text of a drawn program (a format of this project, in GNU as's syntax): registers are given drawn numbers, a number of drawn statements follow, and what the registers then hold is written out.
 use Rattle.std.specs.Prelude.{ℕ, ◌+◌, ◌*◌, ◌-◌, min, List, ◌++◌, codes, decimal}
 use Rattle.std.specs.List.{flat_map, range_with_len}
-use Rattle.cf_texts.specs.Texts.{line}
+use Rattle.texts.specs.Lines.{line}
 use Rattle.cf_gen.specs.Draws.{state_after, drawn}
 use Rattle.cf_gen.specs.Statements.{choice_of, register_text, label_text, instruction_text}
 

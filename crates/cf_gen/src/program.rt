@@ -2,19 +2,19 @@
 #![tactic(auto, unfolding(crate::specs::Program::load_line, crate::specs::Program::opening_text, crate::specs::Program::drawn_statement, crate::specs::Program::closing_text))]
 
 ghost use Rattle.std.specs.Prelude.{◌≡◌, ◌+◌, ◌≤◌, ◌++◌, OnOk, OnErr, codes, decimal, length};
-ghost use Rattle.cf_asked.specs.Limits.{most_statements};
+ghost use Rattle.run_options.specs.Limits.{most_statements};
 ghost use Rattle.cf_io.specs.Causes.{HasCause};
 ghost use Rattle.cf_io.specs.Puts.{Writes, WritesFront};
 ghost use Rattle.cf_gen.specs.Draws.{state_after};
 ghost use Rattle.cf_gen.specs.Statements.{register_text};
 ghost use Rattle.cf_gen.specs.Program.{statement as statement_line, opening_text, drawn_statement, closing_text, program_text};
-ghost use Rattle.cf_texts.specs.Room.{page_room};
+ghost use Rattle.texts.specs.Room.{page_room};
 
 use crate::choice::choose;
 use crate::draws::Draws;
 use crate::statement::{push_instruction, push_label, push_register};
 use cf_io::{Failed, Sink, put_all};
-use cf_texts::Page;
+use texts::Page;
 
 /// The lines before the first draw.
 const OPENING: &[u8] = b"    .text

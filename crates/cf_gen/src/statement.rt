@@ -3,10 +3,10 @@
 
 ghost use Rattle.std.specs.Prelude.{◌≡◌, ◌+◌, ◌≤◌, ◌++◌, length};
 ghost use Rattle.cf_gen.specs.Statements.{register_text, label_text, two_registers, three_registers, register_and_word, instruction_text};
-ghost use Rattle.cf_texts.specs.Room.{page_room};
+ghost use Rattle.texts.specs.Room.{page_room};
 
 use crate::choice::{Choice, Operation};
-use cf_texts::Page;
+use texts::Page;
 
 /// A register: `x` and its number.
 pub fn push_register(page: &mut Page, register: u32)

@@ -11,8 +11,8 @@ use Rattle.cf_semantics.specs.moves.Sites.{Site, Stage, SidingCell, Lane, Fetchi
 use Rattle.cf_semantics.specs.moves.Moves.{next}
 use Rattle.cf_semantics.specs.state.State.{State, Moment, cell_at}
 use Rattle.cf_bind.specs.declared.cell.Cell.{Cell}
-use Rattle.cf_confluence.proofs.Laws.{move_local}
-use Rattle.cf_refinement.proofs.moves.Rows.{bar_row}
+use Rattle.theory_confluence.proofs.Laws.{move_local}
+use Rattle.theory_refinement.proofs.moves.Rows.{bar_row}
 use Rattle.cf_index.specs.Sites.{shares, used, uses_place}
 use Rattle.cf_index.proofs.SharedSites.{found, shared_at, shared_place}
 use Rattle.cf_index.proofs.UsedCells.{among_ways_in, among_ways_out}

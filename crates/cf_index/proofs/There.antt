@@ -17,7 +17,7 @@ use Rattle.cf_semantics.specs.state.Layouts.{port}
 use Rattle.cf_semantics.specs.state.Options.{on, is_some}
 use Rattle.cf_semantics.specs.moves.Sites.{Site}
 use Rattle.cf_semantics.specs.state.State.{State, cell_at, siding_at}
-use Rattle.cf_refinement.proofs.moves.Rows.{bar_row}
+use Rattle.theory_refinement.proofs.moves.Rows.{bar_row}
 use Rattle.cf_index.specs.Sites.{AreThere, IsPlace, way_in, way_out, ways_in, ways_out}
 use Rattle.cf_index.proofs.SiteWords.{siding_within}
 use Rattle.cf_core.specs.Processors.{IsProcessor}

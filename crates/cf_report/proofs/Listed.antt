@@ -5,7 +5,7 @@ use Rattle.std.proofs.Math.Seq.{drop-cons}
 use Rattle.std.proofs.lemmas.Option.{unwrap_or-slice_get}
 use Rattle.cf_layout.specs.Layout.{Plan, SidingPlan, no_siding, cells_of}
 use Rattle.cf_layout.specs.Accepted.{IsAccepted}
-use Rattle.cf_texts.specs.Texts.{register_name}
+use Rattle.texts.specs.Lines.{register_name}
 use Rattle.cf_semantics.specs.state.Passengers.{cached}
 use Rattle.cf_report.specs.Picture.{or_dash, requests_text, kept_text, kept_below}
 

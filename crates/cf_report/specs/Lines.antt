@@ -3,8 +3,8 @@ use Rattle.std.specs.Prelude.{ℕ, List, ◌++◌, codes, decimal}
 use Rattle.rv_machine.specs.declared.outcome.Retired.{Retired}
 use Rattle.cf_bind.specs.declared.moves.Move.{Move}
 use Rattle.cf_bind.specs.MoveTexts.{move_line}
-use Rattle.cf_texts.specs.Texts.{line, counted_line, registers_from}
-use Rattle.cf_texts.specs.Retirement.{retirement_text}
+use Rattle.texts.specs.Lines.{line, counted_line, registers_from}
+use Rattle.texts.specs.Retirement.{retirement_text}
 use Rattle.cf_report.specs.declared.tally.Tally.{Tally}
 
 -- the line of the instruction that retired as the n-th

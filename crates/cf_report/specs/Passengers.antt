@@ -9,8 +9,8 @@ use Rattle.cf_bind.specs.declared.passenger.End.{End}
 use Rattle.cf_bind.specs.declared.passenger.End.TheVariants as end
 use Rattle.cf_bind.specs.declared.passenger.Passenger.{Passenger}
 use Rattle.cf_bind.specs.declared.cell.Cell.{Cell}
-use Rattle.digits.specs.Hexadecimal.{hex8}
-use Rattle.cf_texts.specs.Texts.{line, register_name}
+use Rattle.texts.specs.Hexadecimal.{hex8}
+use Rattle.texts.specs.Lines.{line, register_name}
 
 -- a register with its value
 abbrev pub value_text : ℕ → ℕ → List ℕ

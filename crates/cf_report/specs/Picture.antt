@@ -8,8 +8,8 @@ use Rattle.cf_bind.specs.declared.cell.Op.{Op}
 use Rattle.cf_layout.specs.Layout.{Plan}
 use Rattle.cf_semantics.specs.state.State.{State}
 use Rattle.cf_semantics.specs.state.Passengers.{cached}
-use Rattle.digits.specs.Hexadecimal.{hex8}
-use Rattle.cf_texts.specs.Texts.{line, register_name}
+use Rattle.texts.specs.Hexadecimal.{hex8}
+use Rattle.texts.specs.Lines.{line, register_name}
 use Rattle.cf_report.specs.Passengers.{value_text, stage_line}
 
 -- where fetch runs, or that it waits

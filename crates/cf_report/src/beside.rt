@@ -5,14 +5,14 @@ ghost use Rattle.std.specs.Prelude.{◌≡◌, ◌+◌, ◌*◌, ◌≤◌, ◌+
 ghost use Rattle.std.specs.List.{list_any};
 ghost use Rattle.cf_report.specs.Picture.{fetch_line, or_dash, requests_text, lane_line, kept_text, kept_below, cache_line, answered_text, op_text, ops_text, siding_line};
 ghost use Rattle.cf_report.specs.Putting.{PutsText};
-ghost use Rattle.cf_texts.specs.Room.{page_room};
+ghost use Rattle.texts.specs.Room.{page_room};
 
 use crate::passengers::push_value;
 use crate::putting::put_text;
 use cf_bind::{Fetch, Op};
 use cf_core::Core;
 use cf_io::{Failed, Sink};
-use cf_texts::Page;
+use texts::Page;
 
 fn fetch_page(fetch: Fetch) -> Page
     ensures { result ≡ fetch_line fetch }

@@ -3,7 +3,7 @@
 
 ghost use Rattle.std.specs.Prelude.{◌≡◌, ◌++◌, codes, decimal};
 ghost use Rattle.cf_bind.specs.MoveTexts.{move_line};
-ghost use Rattle.cf_texts.specs.Texts.{line as line_of};
+ghost use Rattle.texts.specs.Lines.{line as line_of};
 ghost use Rattle.cf_report.specs.Lines.{retired_line, numbered_move, tally_text as text_of_tally, registers_text};
 ghost use Rattle.cf_report.specs.Putting.{PutsText};
 
@@ -11,7 +11,7 @@ use crate::putting::put_text;
 use crate::tally::Tally;
 use cf_bind::{Move, MoveLine, move_text};
 use cf_io::{Failed, Sink};
-use cf_texts::{Page, retirement_line};
+use texts::{Page, retirement_line};
 use rv_machine::Retired;
 
 /// Puts the line of the instruction that retired as the `n`th.

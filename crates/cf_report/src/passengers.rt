@@ -3,10 +3,10 @@
 
 ghost use Rattle.std.specs.Prelude.{◌≡◌, ◌+◌, ◌≤◌, ◌++◌, length, codes};
 ghost use Rattle.cf_report.specs.Passengers.{value_text, packet_text, guess_text, binding_text, owed_text, progress_text, flag_text, standing_text, bindings_text, passenger_text};
-ghost use Rattle.cf_texts.specs.Room.{page_room};
+ghost use Rattle.texts.specs.Room.{page_room};
 
 use cf_bind::{Binding, End, Guess, Packet, Passenger};
-use cf_texts::Page;
+use texts::Page;
 
 /// A register with its value.
 pub(crate) fn push_value(page: &mut Page, register: u8, value: u32)

@@ -4,13 +4,13 @@
 ghost use Rattle.std.specs.Prelude.{◌≡◌, ◌+◌, ◌≤◌, ◌++◌, length, codes, decimal};
 ghost use Rattle.cf_report.specs.Passengers.{packet_text, passenger_text, met_text as text_of_met, held_text, is_empty as is_empty_cell, stage_line};
 ghost use Rattle.cf_report.specs.Putting.{PutsText};
-ghost use Rattle.cf_texts.specs.Room.{page_room};
+ghost use Rattle.texts.specs.Room.{page_room};
 
 use crate::passengers::{push_packet, push_passenger};
 use crate::putting::put_text;
 use cf_bind::{Cell, Packet, Passenger};
 use cf_io::{Failed, Sink};
-use cf_texts::Page;
+use texts::Page;
 
 fn met_text(met: bool) -> &'static [u8]
     ensures text { result.now ≡ text_of_met met }

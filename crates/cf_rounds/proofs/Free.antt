@@ -12,7 +12,7 @@ use Rattle.std.proofs.Common.{arith}
 use Rattle.std.proofs.lemmas.Bool.Decides.{nat_tests}
 use Rattle.cf_semantics.specs.moves.Sites.{AreIndependent, OfStage, Stage, content, ends_there, reads, writes}
 use Rattle.cf_semantics.specs.state.State.{State, Moment, cell_at}
-use Rattle.cf_confluence.proofs.Laws.{independent_swap, move_local}
+use Rattle.theory_confluence.proofs.Laws.{independent_swap, move_local}
 use Rattle.cf_index.specs.Sites.{shares}
 use Rattle.cf_index.proofs.SharedSites.{shared_at, shared_place}
 use Rattle.std.specs.List.{AllByRecursion}

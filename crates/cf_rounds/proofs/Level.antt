@@ -13,8 +13,8 @@ use Rattle.cf_semantics.specs.moves.Events.{IsEvent}
 use Rattle.cf_semantics.specs.moves.Moves.{next}
 use Rattle.cf_semantics.specs.moves.Sites.{OfStage, Stage, content, writes}
 use Rattle.cf_semantics.specs.state.State.{State, Moment, cell_at}
-use Rattle.cf_confluence.proofs.Laws.{move_local}
-use Rattle.cf_refinement.proofs.claims.Runs.{Counts}
+use Rattle.theory_confluence.proofs.Laws.{move_local}
+use Rattle.theory_refinement.proofs.claims.Runs.{Counts}
 use Rattle.cf_core.specs.Stepping.{Makes}
 use Rattle.cf_index.specs.Alone.{HasSidings}
 use Rattle.cf_index.specs.Sites.{shares, uses_place}

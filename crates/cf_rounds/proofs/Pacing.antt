@@ -18,12 +18,12 @@ use Rattle.cf_semantics.specs.state.Options.{on}
 use Rattle.cf_semantics.specs.moves.Sites.{Stage}
 use Rattle.cf_semantics.specs.state.State.{State, Moment}
 use Rattle.cf_semantics.specs.claims.Weight.{is_issue}
-use Rattle.cf_confluence.proofs.Candidates.{HasShape}
-use Rattle.cf_refinement.proofs.layouts.Accepted.{accepted_suits}
-use Rattle.cf_untold.proofs.Invariant.{HoldsAnew}
-use Rattle.cf_untold.specs.Paced.{PacesTo}
-use Rattle.cf_untold.proofs.Offered.{anew_shape, offered_held}
-use Rattle.cf_untold.proofs.Theorems.{anew_kept}
+use Rattle.theory_confluence.proofs.Candidates.{HasShape}
+use Rattle.theory_refinement.proofs.layouts.Accepted.{accepted_suits}
+use Rattle.theory_unknown_input.proofs.Invariant.{HoldsAnew}
+use Rattle.theory_unknown_input.specs.Paced.{PacesTo}
+use Rattle.theory_unknown_input.proofs.Offered.{anew_shape, offered_held}
+use Rattle.theory_unknown_input.proofs.Theorems.{anew_kept}
 use Rattle.cf_index.specs.Alone.{stands_alone}
 use Rattle.cf_index.specs.Sites.{shares, uses_place}
 use Rattle.cf_index.proofs.SharedSites.{shared_at}

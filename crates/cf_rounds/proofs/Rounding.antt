@@ -1,8 +1,8 @@
 -- Where a run in rounds has arrived.
 use Rattle.std.proofs.Common.{◌≡◌, ℕ, suc, ◌+◌, ◌-◌, ◌<◌, ◌≤◌, ◌^◌, List, [], ◌∷◌, ◌++◌, length, Option, Some, None, Ok, Err, inl, inr, refl, sym, ap, subst, ◌∙◌, append-nil, append_assoc, length-append, arith}
 use Rattle.std.specs.Prelude.{if◌then◌else◌, Bool, true, false}
-use Rattle.cf_asked.specs.Limits.{most_limit}
-use Rattle.cf_asked.specs.declared.show.Show.TheVariants as show
+use Rattle.run_options.specs.Limits.{most_limit}
+use Rattle.run_options.specs.declared.show.Show.TheVariants as show
 use Rattle.rv_machine.specs.Machine.{Machine}
 use Rattle.cf_layout.specs.Accepted.{IsAccepted}
 use Rattle.cf_layout.specs.Layout.{Plan}
@@ -14,8 +14,8 @@ use Rattle.cf_semantics.specs.runs.Lines.{Line}
 use Rattle.cf_semantics.specs.moves.Moves.{next}
 use Rattle.cf_semantics.specs.runs.Runs.{start as start_on}
 use Rattle.cf_semantics.specs.state.State.{State, Moment}
-use Rattle.cf_untold.specs.Paced.{PacesTo}
-use Rattle.cf_untold.proofs.Theorems.{anew_started}
+use Rattle.theory_unknown_input.specs.Paced.{PacesTo}
+use Rattle.theory_unknown_input.proofs.Theorems.{anew_started}
 use Rattle.cf_core.specs.Processors.{Processor, IsProcessor}
 use Rattle.cf_core.specs.Stepping.{Makes}
 use Rattle.cf_report.specs.declared.tally.Tally.{Tally}

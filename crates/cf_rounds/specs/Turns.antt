@@ -1,6 +1,6 @@
 -- One turn of a run in rounds: the round of what is offered is made, or the run stops.
 use Rattle.std.specs.Prelude.{◌≡◌, ℕ, ◌<◌, List, [], ◌∷◌, length, Option, Some, None, Result, Ok, Err}
-use Rattle.cf_asked.specs.declared.show.Show.TheVariants as show
+use Rattle.run_options.specs.declared.show.Show.TheVariants as show
 use Rattle.cf_bind.specs.declared.moves.Move.{Move}
 use Rattle.cf_bind.specs.declared.moves.Move.TheVariants.{Serve}
 use Rattle.cf_semantics.specs.moves.Holding.{offered}

@@ -2,7 +2,7 @@
 #![tactic(auto, unfolding(crate::specs::Turns::Turns, crate::specs::Firing::Fires))]
 
 ghost use Rattle.std.specs.Prelude.{◌≡◌, ℕ, ◌+◌, ◌<◌, ◌≤◌, ◌^◌, MatchOption, None, Some, length};
-ghost use Rattle.cf_asked.specs.Limits.{most_limit};
+ghost use Rattle.run_options.specs.Limits.{most_limit};
 ghost use Rattle.cf_io.specs.Causes.{HasCause};
 ghost use Rattle.rv_machine.specs.Streams.{streams_of};
 ghost use Rattle.cf_semantics.specs.moves.Holding.{offered};

@@ -1,7 +1,7 @@
 -- Where a run has arrived, whatever its input tells; and where it has arrived over an input that tells what it has left.
 use Rattle.std.proofs.Common.{◌≡◌, ℕ, ◌+◌, List, [], Option, Some, ap, subst, ◌∙◌, refl, length}
-use Rattle.cf_asked.specs.declared.show.Show.{Show}
-use Rattle.cf_asked.specs.declared.show.Show.TheVariants as show
+use Rattle.run_options.specs.declared.show.Show.{Show}
+use Rattle.run_options.specs.declared.show.Show.TheVariants as show
 use Rattle.cf_io.specs.Puts.{Writes}
 use Rattle.rv_machine.specs.Hart.{Hart}
 use Rattle.rv_machine.specs.Machine.{Machine}
@@ -12,8 +12,8 @@ use Rattle.cf_bind.specs.declared.moves.Move.{Move}
 use Rattle.cf_semantics.specs.runs.Lines.{Line, lines}
 use Rattle.cf_semantics.specs.runs.Runs.{IsRun, opened as opened_on, start as start_on}
 use Rattle.cf_semantics.specs.state.State.{State, Moment}
-use Rattle.cf_refinement.proofs.claims.Runs.{opened_retired}
-use Rattle.cf_refinement.proofs.Theorems.{run_refines}
+use Rattle.theory_refinement.proofs.claims.Runs.{opened_retired}
+use Rattle.theory_refinement.proofs.Theorems.{run_refines}
 use Rattle.cf_core.specs.Processors.{Processor, in_state, opened}
 use Rattle.cf_run.specs.Going.{moment_of, Leads}
 use Rattle.cf_run.specs.Headline.{machine_on, moment_after, lines_after, IsRight, AreTexts}

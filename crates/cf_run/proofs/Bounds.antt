@@ -2,8 +2,8 @@
 use Rattle.std.proofs.Common.{◌≡◌, ℕ, suc, ◌+◌, ◌-◌, ◌*◌, ◌≤◌, ◌<◌, ◌^◌, List, [], ◌∷◌, None, All, refl, sym, ap, subst, ◌∙◌, length, arith}
 use Rattle.std.proofs.lemmas.List.{length-map}
 use Rattle.std.proofs.lemmas.Bool.Decides.{nat_tests}
-use Rattle.cf_asked.specs.Limits.{most_limit}
-use Rattle.cf_asked.specs.declared.show.Show.{Show}
+use Rattle.run_options.specs.Limits.{most_limit}
+use Rattle.run_options.specs.declared.show.Show.{Show}
 use Rattle.rv_machine.specs.Machine.{Machine}
 use Rattle.cf_layout.specs.Accepted.{IsAccepted, IsSiding}
 use Rattle.cf_layout.specs.Layout.{SidingPlan, Plan}
@@ -14,11 +14,11 @@ use Rattle.cf_semantics.specs.claims.Refines.{gained}
 use Rattle.cf_semantics.specs.runs.Runs.{opened as opened_on, start as start_on}
 use Rattle.cf_semantics.specs.state.State.{Moment}
 use Rattle.cf_semantics.specs.claims.Weight.{most_cells, moves_per_issue}
-use Rattle.cf_untold.proofs.Invariant.{HoldsAnew}
-use Rattle.cf_untold.specs.Paced.{PacesTo}
-use Rattle.cf_untold.proofs.Offered.{offered_some}
-use Rattle.cf_untold.proofs.Pacing.{paces_leads, paced_bounded_anew}
-use Rattle.cf_untold.proofs.Theorems.{anew_started, holds_anew}
+use Rattle.theory_unknown_input.proofs.Invariant.{HoldsAnew}
+use Rattle.theory_unknown_input.specs.Paced.{PacesTo}
+use Rattle.theory_unknown_input.proofs.Offered.{offered_some}
+use Rattle.theory_unknown_input.proofs.Pacing.{paces_leads, paced_bounded_anew}
+use Rattle.theory_unknown_input.proofs.Theorems.{anew_started, holds_anew}
 use Rattle.cf_core.specs.Processors.{Processor, in_state, opened}
 use Rattle.cf_run.specs.Going.{moment_of, Leads}
 use Rattle.cf_run.specs.Headline.{machine_on}

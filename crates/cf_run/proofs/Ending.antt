@@ -1,6 +1,6 @@
 -- A run that ends with the program's end or at the limit ends as the sequential machine does.
 use Rattle.std.proofs.Common.{◌≡◌, ℕ, ◌+◌, ◌-◌, ◌<◌, List, [], ◌∷◌, Option, Some, None, refl, sym, ap, subst, ◌∙◌, length, arith}
-use Rattle.cf_asked.specs.declared.show.Show.{Show}
+use Rattle.run_options.specs.declared.show.Show.{Show}
 use Rattle.rv_inst.specs.declared.isa.Isa.{Isa}
 use Rattle.rv_machine.specs.After.{after}
 use Rattle.rv_machine.specs.Hart.{Hart}
@@ -25,13 +25,13 @@ use Rattle.cf_semantics.specs.moves.Moves.{next}
 use Rattle.cf_semantics.specs.claims.Refines.{Refines, gained}
 use Rattle.cf_semantics.specs.runs.Runs.{IsRun, opened as opened_on, run, start as start_on}
 use Rattle.cf_semantics.specs.state.State.{State, Moment}
-use Rattle.cf_confluence.proofs.drains.Counted.{after_counts}
-use Rattle.cf_confluence.proofs.drains.Rested.{drained_is}
-use Rattle.cf_refinement.proofs.claims.Level.{retired_unserved}
-use Rattle.cf_refinement.proofs.Theorems.{run_refines}
-use Rattle.cf_untold.specs.Anew.{finding, GoesTo}
-use Rattle.cf_untold.proofs.Invariant.{HoldsAnew}
-use Rattle.cf_untold.proofs.Theorems.{holds_anew, refines_held}
+use Rattle.theory_confluence.proofs.drains.Counted.{after_counts}
+use Rattle.theory_confluence.proofs.drains.Rested.{drained_is}
+use Rattle.theory_refinement.proofs.claims.Level.{retired_unserved}
+use Rattle.theory_refinement.proofs.Theorems.{run_refines}
+use Rattle.theory_unknown_input.specs.Anew.{finding, GoesTo}
+use Rattle.theory_unknown_input.proofs.Invariant.{HoldsAnew}
+use Rattle.theory_unknown_input.proofs.Theorems.{holds_anew, refines_held}
 use Rattle.cf_core.specs.Processors.{Processor, in_state, opened}
 use Rattle.cf_run.specs.declared.answer.Ran.{Ran as Answer}
 use Rattle.cf_run.specs.declared.answer.Ran.TheVariants as ran

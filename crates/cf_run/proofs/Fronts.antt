@@ -25,15 +25,15 @@ use Rattle.cf_semantics.specs.state.Options.{on, Where}
 use Rattle.cf_semantics.specs.state.Passengers.{instruction, kind}
 use Rattle.cf_semantics.specs.claims.Refines.{Spoke, gained}
 use Rattle.cf_semantics.specs.state.State.{Moment, cell_at, put_cell}
-use Rattle.cf_refinement.proofs.invariant.Invariant.{HoldsAfter, HoldsAt, Sound}
-use Rattle.cf_refinement.proofs.invariant.Sure as sure
-use Rattle.cf_refinement.proofs.layouts.Accepted.{accepted_suits}
-use Rattle.cf_refinement.proofs.moves.Rows.{bar_row}
-use Rattle.cf_refinement.proofs.claims.Output.{output_ahead}
-use Rattle.cf_refinement.proofs.claims.Runs.{going, kept, serve_counts}
-use Rattle.cf_refinement.proofs.moves.Serve.{Serves, Scene, scene, serve_ready, next_serve}
-use Rattle.cf_confluence.proofs.weight.Bound.{sound_at}
-use Rattle.cf_confluence.proofs.drains.Rested.{after_gained}
+use Rattle.theory_refinement.proofs.invariant.Invariant.{HoldsAfter, HoldsAt, Sound}
+use Rattle.theory_refinement.proofs.invariant.Sure as sure
+use Rattle.theory_refinement.proofs.layouts.Accepted.{accepted_suits}
+use Rattle.theory_refinement.proofs.moves.Rows.{bar_row}
+use Rattle.theory_refinement.proofs.claims.Output.{output_ahead}
+use Rattle.theory_refinement.proofs.claims.Runs.{going, kept, serve_counts}
+use Rattle.theory_refinement.proofs.moves.Serve.{Serves, Scene, scene, serve_ready, next_serve}
+use Rattle.theory_confluence.proofs.weight.Bound.{sound_at}
+use Rattle.theory_confluence.proofs.drains.Rested.{after_gained}
 use Rattle.cf_stages.specs.Changes.{passenger_at}
 use Rattle.cf_run.specs.Headline.{IsFrontAfter}
 

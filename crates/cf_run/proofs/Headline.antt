@@ -1,6 +1,6 @@
 -- A run is a run of the sequential machine on which its processor was opened, whatever chose its moves and whatever stops it, and whether or not the input tells what it has left.
 use Rattle.std.proofs.Common.{◌≡◌, ℕ, ◌+◌, List, Option, Some, None, refl, sym, ap, subst, ◌∙◌, length}
-use Rattle.cf_asked.specs.declared.show.Show.{Show}
+use Rattle.run_options.specs.declared.show.Show.{Show}
 use Rattle.rv_machine.specs.Hart.{Hart}
 use Rattle.rv_machine.specs.Machine.{Machine}
 use Rattle.cf_layout.specs.Accepted.{IsAccepted}
@@ -8,7 +8,7 @@ use Rattle.cf_layout.specs.Layout.{Plan}
 use Rattle.cf_bind.specs.declared.moves.Move.{Move}
 use Rattle.cf_semantics.specs.runs.Runs.{opened as opened_on}
 use Rattle.cf_core.specs.Processors.{Processor, opened}
-use Rattle.cf_untold.proofs.Theorems.{refines_held}
+use Rattle.theory_unknown_input.proofs.Theorems.{refines_held}
 use Rattle.cf_run.specs.declared.answer.Scripted.{Scripted}
 use Rattle.cf_run.specs.Headline.{machine_on, moment_after, lines_after, RunsAs, RunsAnew, RunsOver, RunsSequentially}
 use Rattle.cf_run.specs.Moving.{Place}

@@ -1,6 +1,6 @@
 -- What a move of the processor did, in the words of a move of a run.
 use Rattle.std.proofs.Common.{◌≡◌, ℕ, List, Option, Some, None, Ok, Err, refl, subst}
-use Rattle.cf_asked.specs.declared.show.Show.{Show}
+use Rattle.run_options.specs.declared.show.Show.{Show}
 use Rattle.rv_machine.specs.Streams.{Streams}
 use Rattle.cf_bind.specs.declared.moves.Move.{Move}
 use Rattle.cf_layout.specs.Layout.{Plan}
@@ -18,7 +18,7 @@ use Rattle.cf_run.specs.Made.{counted, shown}
 use Rattle.cf_run.specs.Moving.{Place, place_of, MakesOne, MakesAndShows, MakesUnshown, Does}
 use Rattle.cf_run.specs.Reaching.{GoesOn}
 use Rattle.cf_run.specs.Scripts.{Stand, DoesLine, Stops, Tries}
-use Rattle.cf_scripts.specs.Scripts.{next_of, after_next}
+use Rattle.run_scripts.specs.Scripts.{next_of, after_next}
 
 -- the move was made and counted
 made : (mv : Move) (now new : Place) (e : Event) → bar now.core.plan now.core.state mv ≡ None → MakesOrFails now.core new.core mv now.streams new.streams (Ok e) → new.tally ≡ counted now.tally mv e → MakesOne mv e now new

@@ -1,6 +1,6 @@
 -- A processor that was opened on a hart.
 use Rattle.std.proofs.Common.{◌≡◌, ◌≤◌, ℕ, false, refl, sym, ap, ◌∙◌, arith}
-use Rattle.cf_asked.specs.Limits.{most_limit}
+use Rattle.run_options.specs.Limits.{most_limit}
 use Rattle.rv_machine.specs.Hart.{Hart}
 use Rattle.cf_layout.specs.Layout.{Plan}
 use Rattle.cf_core.specs.Processors.{Processor, opened}

@@ -10,13 +10,13 @@ use Rattle.cf_semantics.specs.runs.Lines.{Line, retires}
 use Rattle.cf_semantics.specs.moves.Moves.{next}
 use Rattle.cf_semantics.specs.state.State.{State, Moment}
 use Rattle.cf_semantics.specs.claims.Weight.{is_issue}
-use Rattle.cf_refinement.proofs.layouts.Accepted.{accepted_suits}
-use Rattle.cf_refinement.proofs.claims.Runs.{going}
-use Rattle.cf_untold.specs.Anew.{finding}
-use Rattle.cf_untold.proofs.Invariant.{HoldsAnew}
-use Rattle.cf_untold.specs.Paced.{PacesTo}
-use Rattle.cf_untold.proofs.Offered.{anew_shape, offered_held}
-use Rattle.cf_untold.proofs.Theorems.{anew_kept}
+use Rattle.theory_refinement.proofs.layouts.Accepted.{accepted_suits}
+use Rattle.theory_refinement.proofs.claims.Runs.{going}
+use Rattle.theory_unknown_input.specs.Anew.{finding}
+use Rattle.theory_unknown_input.proofs.Invariant.{HoldsAnew}
+use Rattle.theory_unknown_input.specs.Paced.{PacesTo}
+use Rattle.theory_unknown_input.proofs.Offered.{anew_shape, offered_held}
+use Rattle.theory_unknown_input.proofs.Theorems.{anew_kept}
 use Rattle.cf_run.specs.Made.{Made, moves_of}
 use Rattle.cf_run.specs.Going.{Leads}
 use Rattle.cf_run.specs.Policies.{Chooser, choice, after_choice, offered_to, Picks}

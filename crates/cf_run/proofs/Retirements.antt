@@ -1,6 +1,6 @@
 -- The lines that are shown of the instructions that retire are those of the run.
 use Rattle.std.proofs.Common.{◌≡◌, ℕ, ◌+◌, List, [], ◌∷◌, ◌++◌, ◌⊎◌, inl, inr, Option, Some, None, true, false, refl, sym, ap, subst, ◌∙◌, arith}
-use Rattle.cf_asked.specs.declared.show.Show.TheVariants as show
+use Rattle.run_options.specs.declared.show.Show.TheVariants as show
 use Rattle.rv_inst.proofs.OneWord.{Encodes-inj}
 use Rattle.rv_machine.specs.declared.outcome.Retired.{Retired}
 use Rattle.cf_layout.specs.Layout.{Plan}
@@ -18,9 +18,9 @@ use Rattle.cf_semantics.specs.runs.Lines.{Line, line_of, lines, retired_by, reti
 use Rattle.cf_semantics.specs.moves.Moves.{left, next}
 use Rattle.cf_semantics.specs.state.Options.{on}
 use Rattle.cf_semantics.specs.state.State.{State, Moment, cell_at}
-use Rattle.cf_refinement.proofs.moves.Rows.{bar_row}
-use Rattle.cf_refinement.proofs.moves.Leave.{Leaves, leave_ready, next_leave}
-use Rattle.cf_refinement.proofs.claims.Runs.{going, access_counts, climb_counts, emit_counts, execute_counts, exit_counts, fall_counts, issue_counts, launch_counts, meet_counts, recover_counts, send_counts, serve_counts, slide_counts}
+use Rattle.theory_refinement.proofs.moves.Rows.{bar_row}
+use Rattle.theory_refinement.proofs.moves.Leave.{Leaves, leave_ready, next_leave}
+use Rattle.theory_refinement.proofs.claims.Runs.{going, access_counts, climb_counts, emit_counts, execute_counts, exit_counts, fall_counts, issue_counts, launch_counts, meet_counts, recover_counts, send_counts, serve_counts, slide_counts}
 use Rattle.cf_report.specs.Lines.{retired_line}
 use Rattle.cf_run.specs.Made.{Made, moves_of, retirement, shown, all_shown}
 use Rattle.cf_run.specs.Going.{IsMade, Leads}

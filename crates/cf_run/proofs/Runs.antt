@@ -3,7 +3,7 @@ use Rattle.std.proofs.Common.{◌≡◌, ℕ, zero, suc, ◌+◌, ◌<◌, ◌�
 use Rattle.std.specs.Prelude.{count_by, unwrap_or}
 use Rattle.std.proofs.lemmas.List.{length-append}
 use Rattle.std.proofs.lemmas.List.Sums.{count_by-le-length, sum_by-append}
-use Rattle.cf_asked.specs.declared.show.Show.{Show}
+use Rattle.run_options.specs.declared.show.Show.{Show}
 use Rattle.cf_io.specs.Puts.{Writes}
 use Rattle.cf_io.proofs.Owing.{writes-nothing, writes-again}
 use Rattle.rv_machine.specs.Streams.{Streams, IsTold, Becomes, Leaves}
@@ -19,8 +19,8 @@ use Rattle.cf_semantics.specs.state.State.{State, Moment}
 use Rattle.cf_core.specs.Processors.{Processor, in_state}
 use Rattle.cf_core.specs.Stepping.{Makes}
 use Rattle.cf_report.specs.declared.tally.Tally.{Tally}
-use Rattle.cf_scripts.specs.Scripts.{Told, next_of, first_of, after_next}
-use Rattle.cf_scripts.specs.declared.refusal.ScriptErr.{ScriptErr}
+use Rattle.run_scripts.specs.Scripts.{Told, next_of, first_of, after_next}
+use Rattle.run_scripts.specs.declared.refusal.ScriptErr.{ScriptErr}
 use Rattle.cf_run.specs.Made.{Made, moves_of, is_meeting, is_killed, is_died, tally_of, raised_if, counted, CanCount, shown, all_shown}
 use Rattle.cf_run.specs.Going.{moment_of, Finds, IsMade, Leads, RunsTo}
 use Rattle.cf_run.specs.Moving.{Place, MakesOne, MakesAndShows, Does}

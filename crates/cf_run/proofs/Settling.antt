@@ -16,16 +16,16 @@ use Rattle.cf_semantics.specs.moves.Candidates.{all_moves, candidates, other_mov
 use Rattle.cf_semantics.specs.runs.Runs.{IsRun, run, start}
 use Rattle.cf_semantics.specs.state.State.{State, Moment}
 use Rattle.cf_semantics.specs.claims.Weight.{counts, is_issue, moves_per_issue, weight}
-use Rattle.cf_refinement.proofs.invariant.Invariant.{HoldsAfter, HoldsAt, Sound}
-use Rattle.cf_refinement.proofs.invariant.Suited.{Suits}
-use Rattle.cf_refinement.proofs.layouts.Accepted.{accepted_suits}
-use Rattle.cf_refinement.proofs.claims.Runs.{going, kept}
-use Rattle.cf_refinement.proofs.Theorems.{holds_after}
-use Rattle.cf_confluence.proofs.weight.Bound.{bounded_drain, costs, sound_at}
-use Rattle.cf_confluence.proofs.Candidates.{HasShape, no_other_stuck}
-use Rattle.cf_confluence.proofs.drains.Confluent.{agree, halted_alike}
-use Rattle.cf_confluence.proofs.drains.Determined.{ends_as}
-use Rattle.cf_confluence.proofs.drains.Tidy.{IsTidy, tidy_next, tidy_opened, tidy_run}
+use Rattle.theory_refinement.proofs.invariant.Invariant.{HoldsAfter, HoldsAt, Sound}
+use Rattle.theory_refinement.proofs.invariant.Suited.{Suits}
+use Rattle.theory_refinement.proofs.layouts.Accepted.{accepted_suits}
+use Rattle.theory_refinement.proofs.claims.Runs.{going, kept}
+use Rattle.theory_refinement.proofs.Theorems.{holds_after}
+use Rattle.theory_confluence.proofs.weight.Bound.{bounded_drain, costs, sound_at}
+use Rattle.theory_confluence.proofs.Candidates.{HasShape, no_other_stuck}
+use Rattle.theory_confluence.proofs.drains.Confluent.{agree, halted_alike}
+use Rattle.theory_confluence.proofs.drains.Determined.{ends_as}
+use Rattle.theory_confluence.proofs.drains.Tidy.{IsTidy, tidy_next, tidy_opened, tidy_run}
 use Rattle.cf_run.specs.Headline.{Settles}
 
 -- what every move keeps holds at the moment: the invariant, over the machine, and that the state is tidy

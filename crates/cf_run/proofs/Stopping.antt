@@ -1,8 +1,8 @@
 -- How a run stops, at whatever moment it has reached.
 use Rattle.std.proofs.Common.{◌≡◌, ℕ, ◌<◌, List, [], ◌∷◌, ◌++◌, Option, Some, None, Err, true, arith, refl, sym, ap, subst, ◌∙◌, take, append_assoc}
 use Rattle.std.proofs.lemmas.List.{append_cancel_left}
-use Rattle.cf_asked.specs.declared.show.Show.{Show}
-use Rattle.cf_asked.specs.declared.show.Show.TheVariants as show
+use Rattle.run_options.specs.declared.show.Show.{Show}
+use Rattle.run_options.specs.declared.show.Show.TheVariants as show
 use Rattle.cf_io.specs.Puts.{Writes, WritesFront}
 use Rattle.cf_io.proofs.Owing.{front-again, writes-again}
 use Rattle.rv_machine.specs.Machine.{Machine}
@@ -14,7 +14,7 @@ use Rattle.cf_semantics.specs.declared.event.Event.{Event}
 use Rattle.cf_semantics.specs.moves.Bars.{bar}
 use Rattle.cf_semantics.specs.runs.Lines.{Line}
 use Rattle.cf_semantics.specs.state.State.{State, Moment}
-use Rattle.cf_refinement.proofs.invariant.Invariant.{HoldsAfter}
+use Rattle.theory_refinement.proofs.invariant.Invariant.{HoldsAfter}
 use Rattle.cf_core.specs.Processors.{Processor, in_state}
 use Rattle.cf_core.specs.Stepping.{FailsToRead, FailsToWrite}
 use Rattle.cf_run.specs.declared.answer.Ran.{Ran as Answer}

@@ -1,7 +1,7 @@
 -- Where a run has arrived over an input that does not tell what it has left: at a machine to which as many steps lead as have retired, each of which finds some input.
 use Rattle.std.proofs.Common.{◌≡◌, ℕ, zero, suc, ◌+◌, List, [], ◌∷◌, ◌++◌, Option, Some, None, refl, subst, length, ◌≤◌, arith}
-use Rattle.cf_asked.specs.declared.show.Show.{Show}
-use Rattle.cf_asked.specs.declared.show.Show.TheVariants as show
+use Rattle.run_options.specs.declared.show.Show.{Show}
+use Rattle.run_options.specs.declared.show.Show.TheVariants as show
 use Rattle.rv_inst.specs.declared.isa.Isa.{Isa}
 use Rattle.rv_machine.specs.Hart.{Hart}
 use Rattle.rv_machine.specs.Machine.{Machine}
@@ -16,11 +16,11 @@ use Rattle.cf_semantics.specs.claims.Refines.{gained}
 use Rattle.cf_semantics.specs.runs.Runs.{start as start_on}
 use Rattle.cf_semantics.specs.state.State.{Moment}
 use Rattle.cf_semantics.specs.claims.Weight.{issues, weight}
-use Rattle.cf_refinement.proofs.claims.Runs.{opened_retired}
-use Rattle.cf_untold.specs.Anew.{finding, GoesTo, LeadsTo}
-use Rattle.cf_untold.proofs.Invariant.{HoldsAnew}
-use Rattle.cf_untold.proofs.Bounded.{drain_bounded_anew}
-use Rattle.cf_untold.proofs.Theorems.{holds_anew, left_open}
+use Rattle.theory_refinement.proofs.claims.Runs.{opened_retired}
+use Rattle.theory_unknown_input.specs.Anew.{finding, GoesTo, LeadsTo}
+use Rattle.theory_unknown_input.proofs.Invariant.{HoldsAnew}
+use Rattle.theory_unknown_input.proofs.Bounded.{drain_bounded_anew}
+use Rattle.theory_unknown_input.proofs.Theorems.{holds_anew, left_open}
 use Rattle.cf_core.specs.Processors.{opened}
 use Rattle.cf_run.specs.Going.{moment_of, Leads}
 use Rattle.cf_run.specs.Headline.{machine_on, AreTexts}

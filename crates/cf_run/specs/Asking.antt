@@ -1,12 +1,12 @@
 -- Which moves of a run ask the input or the output: what no move asks stays as it was ("Counterflow Pipeline Processor Architecture", 1994).
 use Rattle.std.specs.Prelude.{◌≡◌, ◌⊎◌, ℕ, List, [], ◌∷◌, Some, Ok}
-use Rattle.cf_asked.specs.declared.show.Show.{Show}
+use Rattle.run_options.specs.declared.show.Show.{Show}
 use Rattle.cf_layout.specs.Layout.{Plan}
 use Rattle.cf_bind.specs.declared.moves.Move.{Move}
 use Rattle.cf_semantics.specs.state.State.{State}
 use Rattle.cf_core.specs.Processors.{Processor}
 use Rattle.cf_core.specs.Asking.{AsksInput, AsksOutput}
-use Rattle.cf_scripts.specs.Scripts.{Told, next_of}
+use Rattle.run_scripts.specs.Scripts.{Told, next_of}
 use Rattle.cf_run.specs.declared.answer.Scripted.{Scripted}
 use Rattle.cf_run.specs.Made.{Made}
 use Rattle.cf_run.specs.Reaching.{GoesOn}

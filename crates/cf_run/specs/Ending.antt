@@ -10,7 +10,7 @@ use Rattle.rv_machine.specs.Streams.{Leaves}
 use Rattle.cf_layout.specs.Layout.{Plan}
 use Rattle.cf_semantics.specs.state.Layouts.{isa_of}
 use Rattle.cf_semantics.specs.runs.Lines.{Line}
-use Rattle.cf_untold.specs.Anew.{GoesTo}
+use Rattle.theory_unknown_input.specs.Anew.{GoesTo}
 use Rattle.cf_core.specs.Processors.{opened}
 use Rattle.cf_run.specs.declared.answer.Ran.{Ran as Answer}
 use Rattle.cf_run.specs.declared.answer.Ran.TheVariants as ran

@@ -1,7 +1,7 @@
 -- The headline: a run leaves what the sequential machine on which the processor was opened leaves, whether or not the input tells what it has left, and comes to rest ("Counterflow Pipeline Processor Architecture", 1994: the order of the local actions is free).
 use Rattle.std.specs.Prelude.{◌≡◌, ℕ, ◌+◌, ◌≤◌, List, [], ◌∷◌, ◌++◌, length, Option, Some, None}
-use Rattle.cf_asked.specs.declared.show.Show.{Show}
-use Rattle.cf_asked.specs.declared.show.Show.TheVariants as show
+use Rattle.run_options.specs.declared.show.Show.{Show}
+use Rattle.run_options.specs.declared.show.Show.TheVariants as show
 use Rattle.cf_io.specs.Puts.{Writes, WritesFront}
 use Rattle.rv_inst.specs.declared.isa.Isa.{Isa}
 use Rattle.rv_machine.specs.After.{after}
@@ -21,7 +21,7 @@ use Rattle.cf_semantics.specs.claims.Refines.{Refines, gained}
 use Rattle.cf_semantics.specs.runs.Runs.{IsRun, run, start as start_on}
 use Rattle.cf_semantics.specs.state.State.{State, Moment}
 use Rattle.cf_semantics.specs.claims.Weight.{issues, weight}
-use Rattle.cf_untold.specs.Anew.{GoesTo, LeadsTo}
+use Rattle.theory_unknown_input.specs.Anew.{GoesTo, LeadsTo}
 use Rattle.cf_core.specs.Processors.{in_state, opened}
 use Rattle.cf_core.specs.Stepping.{FailsToRead, FailsToWrite}
 use Rattle.cf_report.specs.Lines.{retired_line}

@@ -1,7 +1,7 @@
 -- Moves that were made: what is counted of them, and what a report shows.
 use Rattle.std.specs.Prelude.{ℕ, ◌+◌, ◌<◌, ◌^◌, List, [], ◌∷◌, ◌++◌, length, map, count_by, Bool, true, false, if◌then◌else◌}
-use Rattle.cf_asked.specs.declared.show.Show.{Show}
-use Rattle.cf_asked.specs.declared.show.Show.TheVariants as show
+use Rattle.run_options.specs.declared.show.Show.{Show}
+use Rattle.run_options.specs.declared.show.Show.TheVariants as show
 use Rattle.cf_layout.specs.Layout.{Plan}
 use Rattle.cf_bind.specs.declared.moves.Move.{Move}
 use Rattle.cf_bind.specs.declared.moves.Move.TheVariants.{Meet}

@@ -1,6 +1,6 @@
 -- One move of a run: it is made, counted and shown, or the answer says why the run stops there.
 use Rattle.std.specs.Prelude.{◌≡◌, ℕ, List, Option, None, Result, Ok, Err}
-use Rattle.cf_asked.specs.declared.show.Show.{Show}
+use Rattle.run_options.specs.declared.show.Show.{Show}
 use Rattle.cf_io.specs.Puts.{Writes, WritesFront}
 use Rattle.rv_machine.specs.Streams.{Streams, streams_of}
 use Rattle.cf_bind.specs.declared.moves.Move.{Move}

@@ -1,7 +1,7 @@
 -- What the run of a policy does: the moves that it picks from what it is offered, why it stops after them, and what it leaves ("Counterflow Pipeline Processor Architecture", 1994: any schedule of local actions is a run).
 use Rattle.std.specs.Prelude.{◌≡◌, ◌≤◌, ◌⊎◌, ℕ, ◌+◌, ◌*◌, List, [], ◌∷◌, ◌++◌, slice_get, drop, Option, Some, None, Result, Ok, Err}
-use Rattle.cf_asked.specs.Limits.{most_limit}
-use Rattle.cf_asked.specs.declared.show.Show.{Show}
+use Rattle.run_options.specs.Limits.{most_limit}
+use Rattle.run_options.specs.declared.show.Show.{Show}
 use Rattle.rv_machine.specs.Hart.{Hart}
 use Rattle.cf_layout.specs.Layout.{Plan}
 use Rattle.cf_bind.specs.declared.moves.Move.{Move}

@@ -1,6 +1,6 @@
 -- Where a run has arrived: the moves that it made were counted and shown, and it goes on or is over.
 use Rattle.std.specs.Prelude.{◌≡◌, ℕ, ◌<◌, List, Some, None}
-use Rattle.cf_asked.specs.declared.show.Show.{Show}
+use Rattle.run_options.specs.declared.show.Show.{Show}
 use Rattle.cf_io.specs.Puts.{Writes}
 use Rattle.rv_machine.specs.Streams.{IsTold, Leaves}
 use Rattle.cf_bind.specs.declared.passenger.End.TheVariants as ending

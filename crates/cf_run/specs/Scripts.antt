@@ -1,11 +1,11 @@
 -- What the run of a script does: the moves that it makes, why it stops after them, and what it leaves.
 use Rattle.std.specs.Prelude.{◌≡◌, ℕ, List, map, take, drop, length, Option, Some, None, Result, Ok, Err}
-use Rattle.cf_asked.specs.declared.show.Show.{Show}
+use Rattle.run_options.specs.declared.show.Show.{Show}
 use Rattle.cf_bind.specs.declared.moves.Move.{Move}
 use Rattle.cf_semantics.specs.declared.event.Event.{Event}
 use Rattle.cf_semantics.specs.moves.Bars.{bar as first_bar}
 use Rattle.cf_report.specs.declared.tally.Tally.{Tally}
-use Rattle.cf_scripts.specs.Scripts.{Told, next_of, after_next}
+use Rattle.run_scripts.specs.Scripts.{Told, next_of, after_next}
 use Rattle.cf_run.specs.declared.answer.Ran.TheVariants as ran
 use Rattle.cf_run.specs.declared.answer.Scripted.{Scripted}
 use Rattle.cf_run.specs.declared.answer.Scripted.TheVariants.{Ran, ScriptEnd, BadScript, BarredAt}

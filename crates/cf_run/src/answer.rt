@@ -1,7 +1,7 @@
 //! How a run finishes.
 
 use cf_bind::Bar;
-use cf_scripts::ScriptErr;
+use run_scripts::ScriptErr;
 
 /// How a run finishes, whatever its schedule.
 #[derive(Clone, Copy)]

@@ -2,7 +2,7 @@
 //! docs/PROMISES.md says each in plain words.
 
 ghost use Rattle.std.specs.Prelude.{◌≡◌, ◌≤◌, ◌<◌, ◌-◌, ℕ, List, None, Some, length, slice_get};
-ghost use Rattle.cf_asked.specs.declared.show.Show.{Show};
+ghost use Rattle.run_options.specs.declared.show.Show.{Show};
 ghost use Rattle.rv_machine.specs.Hart.{Hart};
 ghost use Rattle.cf_bind.specs.declared.moves.Move.{Move};
 ghost use Rattle.cf_layout.specs.Accepted.{IsAccepted};

@@ -12,7 +12,7 @@ mod script;
 mod showing;
 
 pub use answer::{Ran, Scripted};
-pub use cf_asked::Show;
+pub use run_options::Show;
 pub use facts::known;
 pub use finished::over;
 pub use making::make_and_show;

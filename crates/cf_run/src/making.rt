@@ -11,7 +11,7 @@ ghost use Rattle.cf_run.specs.Moving.{place_by, Does, input_done, output_done, r
 use crate::answer::Ran;
 use crate::counting::count;
 use crate::showing::put_shown;
-use cf_asked::Show;
+use run_options::Show;
 use cf_bind::Move;
 use cf_core::{Core, Event, Fault};
 use cf_io::{Sink, Source};

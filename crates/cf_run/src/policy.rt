@@ -16,7 +16,7 @@ use crate::answer::Ran;
 use crate::facts::known;
 use crate::finished::over;
 use crate::making::make_and_show;
-use cf_asked::Show;
+use run_options::Show;
 use cf_bind::Move;
 use cf_core::Core;
 use cf_index::Candidates;

@@ -2,7 +2,7 @@
 #![tactic(auto, unfolding(crate::specs::Scripts::Stops, crate::specs::Scripts::DoesLine))]
 
 ghost use Rattle.std.specs.Prelude.{◌≡◌, ◌+◌, ◌<◌, ◌≤◌, ◌^◌, IsNone, Some, false, length};
-ghost use Rattle.cf_asked.specs.Limits.{most_limit};
+ghost use Rattle.run_options.specs.Limits.{most_limit};
 ghost use Rattle.cf_io.specs.Causes.{HasCause};
 ghost use Rattle.cf_core.specs.Asking.{AsksInput, AsksOutput};
 ghost use Rattle.cf_run.specs.Asking.{NextAsks, RunsUnasked};
@@ -17,11 +17,11 @@ use crate::answer::Scripted;
 use crate::facts::known;
 use crate::finished::over;
 use crate::making::make_and_show;
-use cf_asked::Show;
+use run_options::Show;
 use cf_core::Core;
 use cf_io::{Sink, Source};
 use cf_report::Tally;
-use cf_scripts::Script;
+use run_scripts::Script;
 
 /// Makes the next move of the script, counts it and shows it; or says why the run stops.
 #[inline(always)]

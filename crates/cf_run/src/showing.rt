@@ -5,7 +5,7 @@ ghost use Rattle.std.specs.Prelude.{◌≡◌};
 ghost use Rattle.cf_report.specs.Putting.{PutsText};
 ghost use Rattle.cf_run.specs.Made.{retirement, shown_after};
 
-use cf_asked::Show;
+use run_options::Show;
 use cf_bind::Move;
 use cf_core::{Core, Event};
 use cf_io::{Failed, Sink};

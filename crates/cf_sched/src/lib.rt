@@ -7,7 +7,7 @@ mod pace;
 mod policy;
 mod round;
 
-pub use cf_scripts::{Script, ScriptErr, ScriptKind, Words, read_move, write_move};
+pub use run_scripts::{Script, ScriptErr, ScriptKind, Words, read_move, write_move};
 pub use drawn::Drawn;
 pub use pace::Pace;
 pub use policy::Policy;

@@ -10,7 +10,7 @@ use Rattle.cf_semantics.specs.moves.Moves.{next}
 use Rattle.cf_semantics.specs.state.Options.{on}
 use Rattle.cf_semantics.specs.runs.Runs.{IsRun, empty_siding, opened, run, start}
 use Rattle.cf_semantics.specs.state.State.{Moment}
-use Rattle.cf_confluence.proofs.Laws.{independent_before, independent_swap, move_local}
+use Rattle.theory_confluence.proofs.Laws.{independent_before, independent_swap, move_local}
 use Rattle.cf_index.specs.Alone.{HasSidings, stands_alone}
 use Rattle.cf_index.specs.Sites.{shares}
 use Rattle.cf_index.proofs.Independence.{apart_neighbours}

@@ -1,8 +1,8 @@
 -- A run by the clock is a run of the policy by times, and the clock was told its moves.
 use Rattle.std.proofs.Common.{◌≡◌, ◌≢◌, ◌∙◌, refl, sym, ap, subst, ℕ, ◌+◌, ◌-◌, ◌*◌, ◌^◌, ◌<◌, ◌≤◌, List, [], ◌∷◌, ◌++◌, length, Option, Some, None, arith, append-nil}
 use Rattle.std.specs.Prelude.{slice_get}
-use Rattle.cf_asked.specs.Limits.{most_limit}
-use Rattle.cf_asked.specs.declared.show.Show.TheVariants as show
+use Rattle.run_options.specs.Limits.{most_limit}
+use Rattle.run_options.specs.declared.show.Show.TheVariants as show
 use Rattle.cf_layout.specs.Layout.{Plan}
 use Rattle.cf_layout.specs.Accepted.{IsAccepted}
 use Rattle.cf_bind.specs.declared.moves.Move.{Move}

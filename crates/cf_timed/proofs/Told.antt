@@ -5,7 +5,7 @@ use Rattle.std.proofs.lemmas.List.{take_all}
 use Rattle.std.proofs.lemmas.List.Elements.{All-map, All-same, All-weaker}
 use Rattle.rv_text.specs.Lines.{text_lines}
 use Rattle.rv_text.proofs.LineCuts.{no_lines}
-use Rattle.cf_scripts.specs.declared.delay_refusal.DelayErr.{DelayErr}
+use Rattle.run_scripts.specs.declared.delay_refusal.DelayErr.{DelayErr}
 use Rattle.cf_timed.specs.Delays.{AreDelays, IsDelay}
 use Rattle.cf_timed.specs.DelayLines.{and_then, delays_in, filled, lines_told, unnamed}
 

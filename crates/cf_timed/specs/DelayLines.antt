@@ -2,14 +2,14 @@
 use Rattle.std.specs.Prelude.{ℕ, ◌+◌, Bool, Option, Some, None, Result, Ok, Err, List, [], ◌∷◌, length, map, drop, replicate, slice_get, slice_set, unwrap_or, ◌&&◌, nat_le, nat_lt, if◌then◌else◌}
 use Rattle.rv_text.specs.Lines.{text_lines}
 use Rattle.rv_text.specs.Numbers.{numeral}
-use Rattle.cf_scripts.specs.Kinds.{place_named}
-use Rattle.cf_scripts.specs.MoveLines.{is_ascii}
-use Rattle.cf_scripts.specs.Scripts.{is_skipped}
-use Rattle.cf_scripts.specs.Words.{words_of, first_word}
+use Rattle.run_scripts.specs.Kinds.{place_named}
+use Rattle.run_scripts.specs.MoveLines.{is_ascii}
+use Rattle.run_scripts.specs.Scripts.{is_skipped}
+use Rattle.run_scripts.specs.Words.{words_of, first_word}
 use Rattle.cf_semantics.specs.state.Options.{on, is_some}
-use Rattle.cf_scripts.specs.declared.delay_refusal.DelayErr.{DelayErr}
-use Rattle.cf_scripts.specs.declared.delay_refusal.DelayKind.{DelayKind}
-use Rattle.cf_scripts.specs.declared.delay_refusal.DelayKind.TheVariants.{NotAscii, UnknownKind, KindTwice, BadDelay, ExtraWords}
+use Rattle.run_scripts.specs.declared.delay_refusal.DelayErr.{DelayErr}
+use Rattle.run_scripts.specs.declared.delay_refusal.DelayKind.{DelayKind}
+use Rattle.run_scripts.specs.declared.delay_refusal.DelayKind.TheVariants.{NotAscii, UnknownKind, KindTwice, BadDelay, ExtraWords}
 
 -- the first refusal, or what the second step makes of the first one's answer
 abbrev pub and_then : {A B E : Type 0} → Result A E → (A → Result B E) → Result B E

@@ -1,6 +1,6 @@
 -- A timed run: the moves that are done first, one after another, and what the clock tells of them.
 use Rattle.std.specs.Prelude.{◌≡◌, ◌≢◌, ℕ, List, [], Some, None}
-use Rattle.cf_asked.specs.declared.show.Show.TheVariants as show
+use Rattle.run_options.specs.declared.show.Show.TheVariants as show
 use Rattle.cf_io.specs.Causes.{HasCause}
 use Rattle.rv_machine.specs.Streams.{Streams}
 use Rattle.cf_bind.specs.declared.moves.Move.{Move}

@@ -14,7 +14,7 @@ mod soonest;
 mod timing;
 
 pub use answer::Timed;
-pub use cf_scripts::{DelayErr, DelayKind};
+pub use run_scripts::{DelayErr, DelayKind};
 pub use clock::Clock;
 pub use delays::{Delays, kind_place};
 pub use reaching::port;

@@ -6,7 +6,7 @@ ghost use Rattle.cf_timed.specs.DelayLines.{delay_word, delays_in, filled, line_
 ghost use Rattle.cf_timed.specs.Limits.{most_delays};
 
 use crate::delays::Delays;
-use cf_scripts::{DelayErr, DelayKind, Words, is_ascii, is_skipped, place_named};
+use run_scripts::{DelayErr, DelayKind, Words, is_ascii, is_skipped, place_named};
 use rv_text::{cut_line, numeral};
 
 /// The delay that a word spells, if it spells one.

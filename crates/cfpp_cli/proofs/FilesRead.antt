@@ -1,7 +1,7 @@
 -- The answer of a command says which files it read.
 use Rattle.std.proofs.Common.{◌+◌, ℕ, List, [], ◌∷◌, ◌++◌, true, false, Option, Result, Ok, Err, inl, inr}
-use Rattle.cf_asked.specs.declared.show.Show.TheVariants as shows
-use Rattle.cf_words.specs.Words.{Asked, Layout, machine, run, moves, rounds, debug, time, audit, check, asm, listing, gen, help, version}
+use Rattle.run_options.specs.declared.show.Show.TheVariants as shows
+use Rattle.cli_arguments.specs.Words.{Asked, Layout, machine, run, moves, rounds, debug, time, audit, check, asm, listing, gen, help, version}
 use Rattle.cli_audit.specs.Audit.{audit_asked, side_of as audit_side}
 use Rattle.cli_audit.proofs.Reading.{audited-read}
 use Rattle.cli_debug.proofs.Reading.{debugged-read, broken-read}

@@ -15,7 +15,7 @@ use Rattle.cf_run.specs.declared.answer.Scripted.TheVariants.{Ran}
 use Rattle.cf_run.specs.Ending.{EndsSequentially}
 use Rattle.cf_run.specs.Moving.{place_of}
 use Rattle.cf_run.specs.Policies.{most_moves}
-use Rattle.cf_closing.specs.Closing.{closing_in_rounds}
+use Rattle.report_closing.specs.Closing.{closing_in_rounds}
 use Rattle.cli_files.specs.Causes.{files_answered, input_answered, output_answered}
 use Rattle.cli_files.specs.Loading.{IsLoaded}
 use Rattle.cli_files.specs.Outside.{Outside, Report}

@@ -1,6 +1,6 @@
 -- A run of the processor that ends with Exit, Trap or Limit answers as `machine` does.
 use Rattle.std.proofs.Common.{◌≡◌, ◌<◌, ◌+◌, ◌-◌, ℕ, zero, suc, List, [], ◌++◌, Option, Some, None, Result, Ok, Err, false, refl, sym, ap, subst, ◌∙◌, inl, inr, arith}
-use Rattle.cf_asked.specs.declared.show.Show.{Show}
+use Rattle.run_options.specs.declared.show.Show.{Show}
 use Rattle.rv_inst.specs.declared.isa.Isa.{Isa}
 use Rattle.rv_machine.specs.Hart.{Hart}
 use Rattle.rv_machine.specs.Machine.{Machine}
@@ -23,9 +23,9 @@ use Rattle.cf_run.specs.declared.answer.Scripted.TheVariants.{Ran, ScriptEnd, Ba
 use Rattle.cf_run.specs.Made.{Made}
 use Rattle.cf_run.specs.Ending.{EndsAsMachine, EndsSequentially, Ends, IsAfter}
 use Rattle.cf_run.specs.Moving.{Place, place_of}
-use Rattle.cf_untold.specs.Anew.{GoesTo}
-use Rattle.cf_closing.specs.Closing.{head_text, machine_closing}
-use Rattle.cf_closing.specs.Lines.{first_line}
+use Rattle.theory_unknown_input.specs.Anew.{GoesTo}
+use Rattle.report_closing.specs.Closing.{head_text, machine_closing}
+use Rattle.report_closing.specs.Lines.{first_line}
 use Rattle.cfpp_cli.specs.Finish.{opening, Runs}
 use Rattle.cfpp_cli.specs.Lines.{LeadsBy, ReachesBy, retired_lines, text_of}
 use Rattle.cli_files.specs.Outside.{Report}

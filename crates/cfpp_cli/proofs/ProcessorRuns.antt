@@ -1,6 +1,6 @@
 -- A run of the processor, its closing lines, and what the report then has.
 use Rattle.std.proofs.Common.{◌≡◌, ◌≤◌, ◌-◌, ℕ, List, Bool, true, false, Option, Some, Result, Ok, Err, refl, sym, ap, subst, ◌∙◌}
-use Rattle.cf_asked.specs.declared.show.Show.{Show}
+use Rattle.run_options.specs.declared.show.Show.{Show}
 use Rattle.cf_io.specs.Causes.{Rose, HasCause}
 use Rattle.cf_io.specs.Puts.{Writes}
 use Rattle.cf_io.specs.declared.failed.Failed.{Failed}
@@ -12,14 +12,14 @@ use Rattle.cf_run.specs.declared.answer.Ran.TheVariants as ran
 use Rattle.cf_run.specs.declared.answer.Scripted.{Scripted}
 use Rattle.cf_run.specs.declared.answer.Scripted.TheVariants.{Ran, ScriptEnd, BadScript, BarredAt}
 use Rattle.cf_report.specs.declared.tally.Tally.{Tally}
-use Rattle.cf_scripts.specs.Scripts.{Told, script_of}
+use Rattle.run_scripts.specs.Scripts.{Told, script_of}
 use Rattle.cf_run.specs.Ending.{EndsSequentially}
 use Rattle.cf_run.specs.Headline.{RunsSequentially}
 use Rattle.cf_run.specs.Made.{Made, all_shown}
 use Rattle.cf_run.specs.Moving.{Place, place_of, Does}
 use Rattle.cf_run.specs.Policies.{input_stopped, output_stopped, report_stopped, RunsPolicy, RunsRight, most_moves}
 use Rattle.cf_run.specs.Scripts.{Stand, stand_of, first_moves, RunsScript, DoesLine, Stops, input_scripted, output_scripted, report_scripted}
-use Rattle.cf_closing.specs.Closing.{closing, is_report_fault}
+use Rattle.report_closing.specs.Closing.{closing, is_report_fault}
 use Rattle.cli_files.specs.Causes.{files_answered, input_answered, output_answered}
 use Rattle.cli_files.specs.Outside.{Report, report_of}
 use Rattle.cfpp_cli.specs.Finishing.{PutsClosing, ClosesCore}

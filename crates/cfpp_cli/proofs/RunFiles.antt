@@ -1,13 +1,13 @@
 -- What comes of the files of a run.
 use Rattle.std.proofs.Common.{◌≡◌, ℕ, List, [], Option, Ok, Result, Err, IfOk, sym, subst, inl, inr, arith}
-use Rattle.cf_asked.specs.declared.show.Show.TheVariants.{Report as Closing}
+use Rattle.run_options.specs.declared.show.Show.TheVariants.{Report as Closing}
 use Rattle.cf_io.specs.declared.failed.Failed.{Failed}
 use Rattle.rv_machine.specs.Hart.{Hart}
 use Rattle.rv_machine.specs.Streams.{Streams}
 use Rattle.cf_core.specs.Processors.{opened}
 use Rattle.cf_layout.specs.Layout.{Plan}
 use Rattle.cf_layout.specs.Plain.{plain}
-use Rattle.cf_words.specs.Options.{default_limit}
+use Rattle.cli_arguments.specs.Options.{default_limit}
 use Rattle.cli_files.specs.Deciding.{Counts}
 use Rattle.cli_files.proofs.NoStreams.{no-cause}
 use Rattle.cli_files.specs.Outside.{Outside, Report}

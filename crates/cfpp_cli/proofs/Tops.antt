@@ -3,7 +3,7 @@ use Rattle.std.proofs.Common.{◌≡◌, ◌≤◌, ◌⊎◌, ℕ, List, false,
 use Rattle.cf_io.specs.Causes.{HasCause, Rose}
 use Rattle.cf_io.specs.Puts.{Writes, WritesFront}
 use Rattle.cf_io.specs.declared.failed.Failed.{Failed}
-use Rattle.cf_words.specs.Words.{Asked}
+use Rattle.cli_arguments.specs.Words.{Asked}
 use Rattle.cli_files.specs.Causes.{files_answered, input_answered, output_answered}
 use Rattle.cfpp_cli.specs.Deciding.{Decided}
 use Rattle.cli_files.specs.Outside.{Outside, Report}

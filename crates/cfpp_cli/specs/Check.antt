@@ -3,8 +3,8 @@ use Rattle.std.specs.Prelude.{◌≡◌, ◌⊎◌, ℕ, List, [], codes, Option
 use Rattle.cf_io.specs.Puts.{Writes, WritesFront}
 use Rattle.cf_layout.specs.Layout.{Plan}
 use Rattle.layout_file.specs.Text.{text_of}
-use Rattle.cf_texts.specs.Texts.{line}
-use Rattle.cf_words.specs.Words.{Layout}
+use Rattle.texts.specs.Lines.{line}
+use Rattle.cli_arguments.specs.Words.{Layout}
 use Rattle.cfpp_cli.specs.FileCommands.{FileSide}
 use Rattle.cli_files.specs.Layouts.{IsLayoutAt, LacksLayout}
 use Rattle.cli_files.specs.declared.status.Status.{Status}

@@ -1,7 +1,7 @@
 -- What is decided from the words.
 use Rattle.std.specs.Prelude.{ℕ, List, Result}
 use Rattle.cf_io.specs.declared.failed.Failed.{Failed}
-use Rattle.cf_words.specs.Words.{Asked}
+use Rattle.cli_arguments.specs.Words.{Asked}
 use Rattle.cfpp_cli.specs.Reporting.{CarriesOut}
 use Rattle.cfpp_cli.specs.Top.{Reading, Answers, Breaks}
 use Rattle.cfpp_cli.specs.Passages.{Span}

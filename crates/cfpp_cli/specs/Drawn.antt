@@ -1,12 +1,12 @@
 -- What the command `gen` with `--run` answers, and what it leaves of the streams.
 use Rattle.std.specs.Prelude.{◌≡◌, ◌⊎◌, ℕ, List, ◌++◌, Option}
-use Rattle.cf_asked.specs.declared.show.Show.TheVariants.{Report}
+use Rattle.run_options.specs.declared.show.Show.TheVariants.{Report}
 use Rattle.rv_machine.specs.Hart.{Hart}
 use Rattle.rv_machine.specs.Streams.{Streams}
 use Rattle.cf_core.specs.Processors.{opened as opened_on}
 use Rattle.cf_gen.specs.Program.{program_text}
 use Rattle.cf_layout.specs.Plain.{plain}
-use Rattle.cf_words.specs.Options.{default_limit}
+use Rattle.cli_arguments.specs.Options.{default_limit}
 use Rattle.cli_files.specs.Image.{IsProgram, opened}
 use Rattle.cli_files.specs.Programs.{IsNoProgram}
 use Rattle.cfpp_cli.specs.Run.{chosen_by, BreaksCore, ComesOf}

@@ -2,7 +2,7 @@
 use Rattle.std.specs.Prelude.{◌≡◌, ℕ, List, [], codes, Option}
 use Rattle.cf_io.specs.Puts.{Writes, WritesFront}
 use Rattle.cf_io.specs.Reads.{Told}
-use Rattle.cf_texts.specs.Texts.{line}
+use Rattle.texts.specs.Lines.{line}
 use Rattle.cli_files.specs.Outside.{Outside}
 use Rattle.cli_files.specs.Files.{IsFrontOf, LacksBytes}
 use Rattle.cli_files.specs.declared.status.Status.{Status}

@@ -7,7 +7,7 @@ use Rattle.cf_report.specs.declared.tally.Tally.{Tally}
 use Rattle.cf_run.specs.declared.answer.Ran.{Ran as Answer}
 use Rattle.cf_run.specs.declared.answer.Scripted.{Scripted}
 use Rattle.cf_run.specs.declared.answer.Scripted.TheVariants.{Ran}
-use Rattle.cf_closing.specs.Closing.{closing, closing_in_rounds, machine_closing, is_report_fault}
+use Rattle.report_closing.specs.Closing.{closing, closing_in_rounds, machine_closing, is_report_fault}
 use Rattle.cli_files.specs.Outside.{Report}
 use Rattle.cli_files.specs.declared.status.Status.{Status}
 use Rattle.cfpp_cli.specs.Reporting.{Puts}

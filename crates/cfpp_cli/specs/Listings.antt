@@ -3,15 +3,15 @@ use Rattle.std.specs.Prelude.{◌≡◌, ◌⊎◌, ℕ, ◌+◌, ◌<◌, ◌�
 use Rattle.elf_view.specs.Executables.{IsElf}
 use Rattle.elf_view.specs.Refusal.{starts_with_elf, refusal as elf_refusal}
 use Rattle.cf_io.specs.Puts.{WritesFront}
-use Rattle.cf_listing.specs.Listing.{elf_listing, flat_listing}
-use Rattle.cf_texts.specs.Texts.{line}
+use Rattle.asm_listing.specs.Listing.{elf_listing, flat_listing}
+use Rattle.texts.specs.Lines.{line}
 use Rattle.cli_files.specs.Image.{most_bytes}
-use Rattle.cli_files.specs.Refusals.{bad_program}
+use Rattle.report_refusals.specs.Programs.{bad_program}
 use Rattle.cfpp_cli.specs.FileCommands.{FileSide, PutsText, FailsText, ComesOfFile, RefusesFile}
 use Rattle.cfpp_cli.specs.declared.listing.ListErr.{ListErr}
 use Rattle.cfpp_cli.specs.declared.listing.ListErr.TheVariants as err
-use Rattle.cli_files.specs.declared.status.ProgramErr.{ProgramErr}
-use Rattle.cli_files.specs.declared.status.ProgramErr.TheVariants as program
+use Rattle.report_refusals.specs.declared.faults.ProgramErr.{ProgramErr}
+use Rattle.report_refusals.specs.declared.faults.ProgramErr.TheVariants as program
 use Rattle.cli_files.specs.declared.status.Status.{Status}
 use Rattle.cli_files.specs.declared.status.Status.TheVariants as status
 use Rattle.cli_files.specs.declared.status.Which.TheVariants as which

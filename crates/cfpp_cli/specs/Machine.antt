@@ -3,7 +3,7 @@ use Rattle.std.specs.Prelude.{◌≡◌, ◌⊎◌, ℕ, List, ◌++◌, Option}
 use Rattle.rv_machine.specs.Hart.{Hart}
 use Rattle.rv_machine.specs.Streams.{Streams}
 use Rattle.cf_run.specs.declared.answer.Ran.{Ran}
-use Rattle.cf_closing.specs.Closing.{machine_closing}
+use Rattle.report_closing.specs.Closing.{machine_closing}
 use Rattle.cfpp_cli.specs.Options.{Chosen}
 use Rattle.cfpp_cli.specs.Finish.{Runs, BreaksOff}
 use Rattle.cli_files.specs.Outside.{Outside}

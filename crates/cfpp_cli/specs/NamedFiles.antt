@@ -1,6 +1,6 @@
 -- Which files the words name, in the order in which they are read.
 use Rattle.std.specs.Prelude.{ℕ, List, [], ◌∷◌, ◌++◌, Result, Ok, Err}
-use Rattle.cf_words.specs.Words.{Asked, machine, run, moves, rounds, debug, time, audit, check, asm, listing, gen, help, version}
+use Rattle.cli_arguments.specs.Words.{Asked, machine, run, moves, rounds, debug, time, audit, check, asm, listing, gen, help, version}
 use Rattle.cli_files.specs.Reads.{layout_files, files_of_layouts, script_files}
 
 -- the layout, unless it is built in, the program, and the script or the trace where there is one; the delays, the layouts and the program; the one file of a command that names no other

@@ -12,8 +12,8 @@ use Rattle.cf_run.specs.declared.answer.Scripted.TheVariants.{Ran}
 use Rattle.cf_run.specs.Ending.{EndsSequentially}
 use Rattle.cf_run.specs.Moving.{place_of}
 use Rattle.cf_run.specs.Policies.{most_moves}
-use Rattle.cf_closing.specs.Closing.{closing_in_rounds}
-use Rattle.cf_words.specs.Words.{Layout}
+use Rattle.report_closing.specs.Closing.{closing_in_rounds}
+use Rattle.cli_arguments.specs.Words.{Layout}
 use Rattle.cli_files.specs.Loading.{IsLoaded, LacksLoaded}
 use Rattle.cli_files.specs.Memory.{LacksProcessor}
 use Rattle.cli_files.specs.Outside.{Outside}

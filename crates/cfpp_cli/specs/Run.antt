@@ -1,6 +1,6 @@
 -- What the commands `run` and `moves` answer, and what they leave of the outside.
 use Rattle.std.specs.Prelude.{◌≡◌, ◌≤◌, ◌-◌, ◌⊎◌, ℕ, List, [], ◌++◌, true, false, Option, None}
-use Rattle.cf_asked.specs.declared.show.Show.{Show}
+use Rattle.run_options.specs.declared.show.Show.{Show}
 use Rattle.rv_machine.specs.Hart.{Hart}
 use Rattle.rv_machine.specs.Streams.{Streams}
 use Rattle.cf_layout.specs.Layout.{Plan, has_mul}
@@ -9,7 +9,7 @@ use Rattle.cf_core.specs.Processors.{Processor, opened}
 use Rattle.cf_report.specs.declared.tally.Tally.{Tally}
 use Rattle.cf_report.specs.Lines.{registers_text}
 use Rattle.cf_sched.specs.Policies.{drawn, drawn_pick, drawn_on, round_pick, round_on}
-use Rattle.cf_scripts.specs.Scripts.{Told, script_of}
+use Rattle.run_scripts.specs.Scripts.{Told, script_of}
 use Rattle.cf_run.specs.declared.answer.Ran.{Ran as Answer}
 use Rattle.cf_run.specs.declared.answer.Ran.TheVariants as ran
 use Rattle.cf_run.specs.declared.answer.Scripted.{Scripted}
@@ -21,7 +21,7 @@ use Rattle.cf_run.specs.Moving.{Place, place_of}
 use Rattle.cf_run.specs.Policies.{RunsPolicy, most_moves}
 use Rattle.cf_run.specs.Reaching.{no_tally}
 use Rattle.cf_run.specs.Scripts.{stand_of, first_moves, RunsScript}
-use Rattle.cf_closing.specs.Closing.{closing, head_text, is_report_fault}
+use Rattle.report_closing.specs.Closing.{closing, head_text, is_report_fault}
 use Rattle.cfpp_cli.specs.Machine.{RunsHart}
 use Rattle.cfpp_cli.specs.Options.{chosen_of}
 use Rattle.cli_files.specs.Memory.{LacksProcessor}

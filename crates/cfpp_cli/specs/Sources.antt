@@ -7,7 +7,7 @@ use Rattle.rv_asm.specs.Assembling.{assembled}
 use Rattle.rv_asm.specs.Objects.{Objects}
 use Rattle.elf_make.specs.Files.{elf_file}
 use Rattle.elf_make.specs.Viewed.{IsView}
-use Rattle.asm_texts.specs.Refusals.{bad_source}
+use Rattle.report_refusals.specs.Sources.{bad_source}
 use Rattle.cfpp_cli.specs.FileCommands.{FileSide, PutsOrFails, ComesOfFile, RefusesFile}
 use Rattle.cli_files.specs.Memory.{SaysNoMemory}
 use Rattle.cli_files.specs.declared.status.Status.{Status}

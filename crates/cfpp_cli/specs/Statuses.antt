@@ -4,7 +4,7 @@ use Rattle.cf_run.specs.declared.answer.Ran.{Ran as Answer}
 use Rattle.cf_run.specs.declared.answer.Ran.TheVariants as ran
 use Rattle.cf_run.specs.declared.answer.Scripted.{Scripted}
 use Rattle.cf_run.specs.declared.answer.Scripted.TheVariants.{Ran, ScriptEnd, BadScript, BarredAt}
-use Rattle.cli_files.specs.declared.status.ScriptFault.TheVariants as fault
+use Rattle.report_refusals.specs.declared.faults.ScriptFault.TheVariants as fault
 use Rattle.cli_files.specs.declared.status.Status.{Status}
 use Rattle.cli_files.specs.declared.status.Status.TheVariants as status
 use Rattle.cli_files.specs.declared.status.Which.TheVariants as which

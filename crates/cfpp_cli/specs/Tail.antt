@@ -1,6 +1,6 @@
 -- What follows the report of a run.
 use Rattle.std.specs.Prelude.{ℕ, List, []}
-use Rattle.cf_closing.specs.Moves.{moves_text}
+use Rattle.report_closing.specs.Moves.{moves_text}
 use Rattle.cf_core.specs.Processors.{Processor}
 use Rattle.cli_files.specs.declared.status.Status.{Status}
 use Rattle.cli_files.specs.declared.status.Status.TheVariants as status

@@ -1,11 +1,11 @@
 -- What the top call answers, and what it leaves of the outside.
 use Rattle.std.specs.Prelude.{◌≡◌, ◌≤◌, ◌⊎◌, ℕ, List, ◌++◌, codes, Bool, true, false, Option, Result, Ok, Err}
-use Rattle.cf_asked.specs.declared.show.Show.TheVariants as shows
+use Rattle.run_options.specs.declared.show.Show.TheVariants as shows
 use Rattle.cf_io.specs.Causes.{Rose, HasCause}
 use Rattle.cf_io.specs.Puts.{Writes, WritesFront}
 use Rattle.cf_gen.specs.Program.{program_text}
-use Rattle.cf_texts.specs.Texts.{counted_line}
-use Rattle.cf_words.specs.Words.{Asks, IsBadAt, Asked, machine, run, moves, rounds, debug, time, audit, check, asm, listing, gen, help, version}
+use Rattle.texts.specs.Lines.{counted_line}
+use Rattle.cli_arguments.specs.Words.{Asks, IsBadAt, Asked, machine, run, moves, rounds, debug, time, audit, check, asm, listing, gen, help, version}
 use Rattle.cfpp_cli.specs.Options.{chosen_of}
 use Rattle.cli_audit.specs.Audit.{AnswersAudit, audit_asked, side_of as audit_side}
 use Rattle.cli_debug.specs.Debug.{AnswersDebug, BreaksDebug}

@@ -1,9 +1,9 @@
 //! A run of the processor by a script.
 
 ghost use Rattle.std.specs.Prelude.{◌≡◌, ◌≤◌, false, length, Ok};
-ghost use Rattle.cf_asked.specs.Limits.{most_limit};
+ghost use Rattle.run_options.specs.Limits.{most_limit};
 ghost use Rattle.cli_files.specs.Causes.{input_answered, output_answered};
-ghost use Rattle.cf_scripts.specs.Limits.{most_script};
+ghost use Rattle.run_scripts.specs.Limits.{most_script};
 ghost use Rattle.cfpp_cli.specs.Reporting.{ComesOver, Tells, files_reported};
 ghost use Rattle.cfpp_cli.specs.Run.{ByScript, RunsCore, BreaksCore};
 ghost use Rattle.cfpp_cli.specs.Passages.{passage, input_left, output_left};
@@ -14,7 +14,7 @@ use crate::streams::Streams;
 use cf_core::Core;
 use cf_io::{Failed, Sink, Source};
 use cf_run::{Show, run_script};
-use cf_scripts::Script;
+use run_scripts::Script;
 
 /// Runs the processor by the moves of a text, and puts what is shown and the closing lines.
 // A call of its own, so that the compiler makes this loop apart from those of the policies.

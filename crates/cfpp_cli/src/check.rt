@@ -2,14 +2,14 @@
 
 ghost use Rattle.std.specs.Prelude.{◌≡◌, Ok};
 ghost use Rattle.cf_io.specs.Causes.{HasCause};
-ghost use Rattle.cf_words.specs.Views.{layout_of};
+ghost use Rattle.cli_arguments.specs.Views.{layout_of};
 ghost use Rattle.cli_files.specs.Causes.{files_answered, input_answered, output_answered};
 ghost use Rattle.cfpp_cli.specs.Check.{AnswersCheck, WritesText};
 ghost use Rattle.cfpp_cli.specs.FileCommands.{file_side};
 
 use cf_io::{Files, Sink, put_all};
 use cf_layout::Layout;
-use cf_words::LayoutWord;
+use cli_arguments::LayoutWord;
 use cli_files::{Answer, done, layout_at, no_memory, write_fault};
 use layout_file::write_layout;
 use std::alloc::Global;

@@ -1,7 +1,7 @@
 //! The command `gen`.
 
 ghost use Rattle.std.specs.Prelude.{◌≡◌, ◌≤◌, Ok, IfOk, IfErr};
-ghost use Rattle.cf_asked.specs.Limits.{most_statements};
+ghost use Rattle.run_options.specs.Limits.{most_statements};
 ghost use Rattle.cf_io.specs.Causes.{HasCause};
 ghost use Rattle.cf_gen.specs.Program.{program_text};
 ghost use Rattle.cli_files.specs.Causes.{files_answered, input_answered, output_answered};
@@ -18,7 +18,7 @@ use crate::tail::Tail;
 use cf_gen::generate;
 use cf_io::{Failed, MemSink, Sink, Source};
 use cf_layout::plain;
-use cf_words::{DEFAULT_LIMIT, RunOptions, Schedule, Show};
+use cli_arguments::{DEFAULT_LIMIT, RunOptions, Schedule, Show};
 use cli_files::{Answer, Ready, ReadySchedule, done, no_memory, open_image, write_fault};
 use rv_machine::Machine;
 use std::alloc::Global;

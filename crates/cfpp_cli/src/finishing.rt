@@ -1,14 +1,14 @@
 //! How a run finishes: its status and its closing lines.
 
 ghost use Rattle.std.specs.Prelude.{◌≡◌};
-ghost use Rattle.cf_closing.specs.Closing.{is_report_fault};
+ghost use Rattle.report_closing.specs.Closing.{is_report_fault};
 ghost use Rattle.cf_run.specs.Reaching.{no_tally};
 ghost use Rattle.cli_files.specs.Outside.{report_of};
 ghost use Rattle.cfpp_cli.specs.Finishing.{ClosesCore, ClosesMachine, ClosesRounds};
 ghost use Rattle.cfpp_cli.specs.Statuses.{status_of as status_for, status_of_run as status_for_run};
 
 use crate::reporting::Reported;
-use cf_closing::{put_closing, put_closing_in_rounds, put_machine_closing};
+use report_closing::{put_closing, put_closing_in_rounds, put_machine_closing};
 use cf_core::Core;
 use cf_io::{Failed, Sink};
 use cf_report::Tally;

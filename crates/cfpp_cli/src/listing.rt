@@ -9,7 +9,7 @@ ghost use Rattle.cfpp_cli.specs.FileCommands.{file_side};
 ghost use Rattle.cfpp_cli.specs.Listings.{listing_of, IsListable, IsNotListed, ListsImage, AnswersList};
 
 use cf_io::{Files, FilesErr, Sink};
-use cf_listing::{ListingErr, put_elf_listing, put_flat_listing};
+use asm_listing::{ListingErr, put_elf_listing, put_flat_listing};
 use cli_files::{
     Answer, MOST_BYTES, ProgramErr, Which, done, is_elf, no_memory, no_program, unread, write_fault,
 };

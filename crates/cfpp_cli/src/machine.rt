@@ -13,7 +13,7 @@ use crate::reporting::{Reported, put_answer};
 use crate::running::run;
 use crate::streams::Streams;
 use cf_io::{Failed, Files, Sink, Source};
-use cf_words::MachineOptions;
+use cli_arguments::MachineOptions;
 use cli_files::program_at;
 use rv_machine::Machine;
 use std::alloc::Global;

@@ -1,9 +1,9 @@
 //! The command `rounds`.
 
 ghost use Rattle.std.specs.Prelude.{◌≡◌, ◌≤◌, Ok};
-ghost use Rattle.cf_asked.specs.Limits.{most_limit};
+ghost use Rattle.run_options.specs.Limits.{most_limit};
 ghost use Rattle.cf_io.specs.Causes.{HasCause};
-ghost use Rattle.cf_words.specs.Views.{layout_of};
+ghost use Rattle.cli_arguments.specs.Views.{layout_of};
 ghost use Rattle.cf_rounds.specs.Running.{ran_of as ran_for};
 ghost use Rattle.cf_run.specs.Policies.{IsOpened};
 ghost use Rattle.cli_files.specs.Causes.{files_answered, input_answered, output_answered};
@@ -18,7 +18,7 @@ use crate::streams::Streams;
 use cf_io::{Files, Sink, Source};
 use cf_rounds::{Clocked, run_rounds};
 use cf_run::Ran;
-use cf_words::LayoutWord;
+use cli_arguments::LayoutWord;
 use cli_files::{Loaded, load, no_memory};
 use std::alloc::Global;
 

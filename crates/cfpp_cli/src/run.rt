@@ -1,9 +1,9 @@
 //! The commands `run` and `moves`.
 
 ghost use Rattle.std.specs.Prelude.{◌≡◌, ◌≤◌, Ok};
-ghost use Rattle.cf_asked.specs.Limits.{most_limit};
+ghost use Rattle.run_options.specs.Limits.{most_limit};
 ghost use Rattle.cf_io.specs.Causes.{HasCause};
-ghost use Rattle.cf_words.specs.Views.{layout_of, schedule_view as asked_schedule};
+ghost use Rattle.cli_arguments.specs.Views.{layout_of, schedule_view as asked_schedule};
 ghost use Rattle.cf_core.specs.Processors.{opened};
 ghost use Rattle.cf_run.specs.Policies.{CanRun};
 ghost use Rattle.cli_files.specs.Causes.{input_answered, output_answered};
@@ -24,7 +24,7 @@ use cf_index::Candidates;
 use cf_io::{Failed, Files, Sink, Source};
 use cf_run::Show;
 use cf_sched::{Drawn, Round};
-use cf_words::{LayoutWord, RunOptions};
+use cli_arguments::{LayoutWord, RunOptions};
 use cli_files::{Ready, ReadySchedule, no_memory, read_files};
 use std::alloc::Global;
 

@@ -13,7 +13,7 @@ ghost use Rattle.rv_machine.specs.Streams.{streams_of};
 use cf_io::{Failed, Sink, Source};
 use cf_report::put_retired;
 use cf_run::Ran;
-use cf_words::MachineOptions;
+use cli_arguments::MachineOptions;
 use rv_inst::Isa;
 use rv_machine::{Machine, Retired, Stepped};
 

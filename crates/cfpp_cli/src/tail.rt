@@ -7,7 +7,7 @@ ghost use Rattle.cfpp_cli.specs.Reporting.{Adds};
 ghost use Rattle.cfpp_cli.specs.Tail.{lines_after};
 
 use crate::reporting::Reported;
-use cf_closing::put_moves;
+use report_closing::put_moves;
 use cf_core::Core;
 use cf_io::{Failed, Sink};
 use cli_files::Status;

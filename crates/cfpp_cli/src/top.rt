@@ -22,7 +22,7 @@ use crate::run::run_processor;
 use crate::streams::Streams;
 use crate::tail::Tail;
 use cf_io::{Failed, Files, Sink, Source};
-use cf_words::{Command, RunOptions, Show, read_words};
+use cli_arguments::{Command, RunOptions, Show, read_words};
 use cli_audit::audit_trace;
 use cli_debug::debug_program;
 use cli_files::{Answer, Status, bad_words};

@@ -8,18 +8,19 @@ use Rattle.cf_semantics.specs.state.State.{Moment}
 use Rattle.cf_core.specs.Processors.{Processor, opened}
 use Rattle.cf_audit.specs.declared.answer.Audit.{Audit}
 use Rattle.cf_audit.specs.declared.answer.Audit.TheVariants as found
-use Rattle.cf_scripts.specs.declared.trace_refusal.TraceKind.{TraceKind}
+use Rattle.run_scripts.specs.declared.trace_refusal.TraceKind.{TraceKind}
 use Rattle.cf_audit.specs.Audits.{RetiresAs}
 use Rattle.cf_audit.specs.Traces.{IsTrace, GoesWrong, StopsAtCall}
-use Rattle.cf_texts.specs.Texts.{line}
-use Rattle.cf_words.specs.Words.{Layout}
+use Rattle.texts.specs.Lines.{line}
+use Rattle.cli_arguments.specs.Words.{Layout}
 use Rattle.cli_files.specs.Loading.{IsLoaded, LacksLoaded}
 use Rattle.cli_files.specs.Outside.{Outside}
 use Rattle.cli_files.specs.declared.status.Status.{Status}
 use Rattle.cli_files.specs.declared.status.Status.TheVariants as status
-use Rattle.cli_files.specs.declared.status.TraceFault.TheVariants as fault
+use Rattle.report_refusals.specs.declared.faults.TraceFault.TheVariants as fault
 use Rattle.cli_files.specs.declared.status.Which.TheVariants as which
-use Rattle.cli_audit.specs.Reports.{bad_trace, trace_of}
+use Rattle.report_refusals.specs.Traces.{bad_trace}
+use Rattle.cli_audit.specs.Reports.{trace_of}
 use Rattle.cli_audit.specs.Traces.{IsTraceAt, LacksTrace}
 
 -- what the words ask of `audit`: where the layout is, and the files with the program and the trace

@@ -5,9 +5,9 @@ use Rattle.cf_audit.specs.Limits.{most_trace}
 use Rattle.cli_files.specs.Files.{IsFrontOf, LacksBytes}
 use Rattle.cli_files.specs.declared.status.Status.{Status}
 use Rattle.cli_files.specs.declared.status.Status.TheVariants as status
-use Rattle.cli_files.specs.declared.status.TraceFault.TheVariants as fault
+use Rattle.report_refusals.specs.declared.faults.TraceFault.TheVariants as fault
 use Rattle.cli_files.specs.declared.status.Which.TheVariants as which
-use Rattle.cli_audit.specs.Reports.{bad_trace}
+use Rattle.report_refusals.specs.Traces.{bad_trace}
 
 -- the file's first bytes, one more than a trace may have, are not too many, and are this text
 pub record IsTraceAt (name : List ℕ) (before after : Option Told) (text : List ℕ) : Type 0 where

@@ -3,18 +3,19 @@
 
 ghost use Rattle.std.specs.Prelude.{◌≡◌, ◌≤◌, length, Ok};
 ghost use Rattle.cf_io.specs.Causes.{HasCause};
-ghost use Rattle.cf_words.specs.Views.{layout_of};
+ghost use Rattle.cli_arguments.specs.Views.{layout_of};
 ghost use Rattle.cli_files.specs.Causes.{files_answered, input_answered, output_answered};
 ghost use Rattle.cf_audit.specs.Limits.{most_trace};
 ghost use Rattle.cli_audit.specs.Audit.{audit_asked, side, AnswersAudit, ComesOfTrace, status_of as status_for, text_of};
 
-use crate::reports::{bad_trace, trace_of};
+use crate::reports::trace_of;
 use crate::traces::trace_at;
 use cf_audit::{Audit, audit};
 use cf_core::Core;
 use cf_io::{Files, Source};
-use cf_words::LayoutWord;
+use cli_arguments::LayoutWord;
 use cli_files::{Answer, Loaded, Status, TraceFault, Which, load, no_memory, unread};
+use report_refusals::bad_trace;
 use std::alloc::Global;
 
 /// The answer that says what an audit found.

@@ -5,10 +5,10 @@ ghost use Rattle.cf_io.specs.Causes.{HasCause};
 ghost use Rattle.cli_files.specs.Causes.{files_read};
 ghost use Rattle.cli_audit.specs.Traces.{IsTraceAt, LacksTrace};
 
-use crate::reports::bad_trace;
 use cf_audit::MOST_TRACE;
 use cf_io::{Files, FilesErr};
 use cli_files::{Answer, Status, TraceFault, Which, no_memory, unread};
+use report_refusals::bad_trace;
 use std::alloc::Global;
 
 /// The greatest length of a trace, in bytes.

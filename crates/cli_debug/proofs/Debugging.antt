@@ -15,7 +15,7 @@ use Rattle.cli_files.specs.Deciding.{Decides}
 use Rattle.cli_files.specs.Outside.{Outside}
 use Rattle.cli_files.specs.declared.answer.Answer.{Answer}
 use Rattle.cli_files.specs.Loading.{IsLoaded}
-use Rattle.cf_words.specs.Words.{Layout}
+use Rattle.cli_arguments.specs.Words.{Layout}
 use Rattle.cli_debug.specs.Debug.{status_of, closing_of, HasSession, ComesOfCommands, BreaksSession, AnswersDebug, BreaksDebug}
 use Rattle.cli_debug.proofs.Telling.{Tells, tells}
 

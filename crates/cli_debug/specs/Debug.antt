@@ -9,8 +9,8 @@ use Rattle.cf_debug.specs.declared.answer.Debugged.{Debugged}
 use Rattle.cf_debug.specs.declared.answer.Debugged.TheVariants.{Done, Limit, ReadFault, WriteFault, ReportFault}
 use Rattle.cf_debug.specs.Making.{bench_of}
 use Rattle.cf_debug.specs.Sessions.{Debugs, StaysOnRun, session_of}
-use Rattle.cf_texts.specs.Texts.{line}
-use Rattle.cf_words.specs.Words.{Layout}
+use Rattle.texts.specs.Lines.{line}
+use Rattle.cli_arguments.specs.Words.{Layout}
 use Rattle.cli_files.specs.Loading.{IsLoaded, LacksLoaded}
 use Rattle.cli_files.specs.Memory.{LacksProcessor}
 use Rattle.cli_files.specs.Outside.{Outside}

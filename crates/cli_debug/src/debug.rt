@@ -4,7 +4,7 @@
 ghost use Rattle.std.specs.Prelude.{◌≡◌, ◌≢◌, ◌≤◌, Ok, IfOk, IfErr};
 ghost use Rattle.cf_io.specs.Causes.{HasCause};
 ghost use Rattle.rv_machine.specs.Streams.{streams_of};
-ghost use Rattle.cf_words.specs.Views.{layout_of};
+ghost use Rattle.cli_arguments.specs.Views.{layout_of};
 ghost use Rattle.cf_debug.specs.declared.answer.Debugged.TheVariants.{ReportFault};
 ghost use Rattle.cli_files.specs.Causes.{input_answered, output_answered};
 ghost use Rattle.cli_files.specs.Deciding.{Counts, Decides, files_decided};
@@ -15,7 +15,7 @@ use cf_core::Core;
 use cf_debug::{Debugged, Ring, debug};
 use cf_index::Candidates;
 use cf_io::{Failed, Files, Sink, Source};
-use cf_words::LayoutWord;
+use cli_arguments::LayoutWord;
 use cli_files::{Answer, Loaded, Status, Which, done, line, load, no_memory, unread, write_fault};
 use std::alloc::Global;
 

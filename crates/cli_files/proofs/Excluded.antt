@@ -9,8 +9,8 @@ use Rattle.mem_regions.specs.Refusal.{refusal, unless}
 use Rattle.mem_regions.proofs.Causes.{refused-cause}
 use Rattle.mem_regions.proofs.Parts.{refusal_is_told}
 use Rattle.cli_files.specs.Image.{IsProgram, IsRefused, elf_parts, flat_part, stack_part}
-use Rattle.cli_files.specs.declared.status.ProgramErr.{ProgramErr}
-use Rattle.cli_files.specs.declared.status.ProgramErr.TheVariants.{TooLong, Elf, Load}
+use Rattle.report_refusals.specs.declared.faults.ProgramErr.{ProgramErr}
+use Rattle.report_refusals.specs.declared.faults.ProgramErr.TheVariants.{TooLong, Elf, Load}
 
 -- a part to name where no part is read
 abbrev no_part : Part

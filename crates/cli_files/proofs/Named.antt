@@ -3,7 +3,7 @@ use Rattle.std.proofs.Common.{ℕ, ◌+◌, List, Option, Result, Ok, Err, IfOk,
 use Rattle.cf_io.specs.Reads.{Told}
 use Rattle.cf_layout.specs.Layout.{Plan}
 use Rattle.layout_file.specs.Answers.{Describes}
-use Rattle.cf_words.specs.Words.{in_file}
+use Rattle.cli_arguments.specs.Words.{in_file}
 use Rattle.cli_files.specs.Files.{IsFrontOf}
 use Rattle.layout_file.specs.Limits.{most_layout_bytes}
 use Rattle.cli_files.specs.Layouts.{IsLayoutAt, IsNoLayout, LacksLayout}

@@ -2,7 +2,7 @@
 use Rattle.std.proofs.Common.{◌≡◌, ℕ, List, Option, Result, Ok, Err, inl, inr, refl, arith}
 use Rattle.cf_io.specs.Causes.{HasCause}
 use Rattle.cf_io.specs.Reads.{Told}
-use Rattle.cf_words.specs.Words.{Layout, plain, in_file}
+use Rattle.cli_arguments.specs.Words.{Layout, plain, in_file}
 use Rattle.cli_files.specs.Causes.{input_answered, output_answered}
 use Rattle.cli_files.specs.Layouts.{IsNoLayout, LacksLayout}
 use Rattle.cli_files.specs.Loading.{LacksLoaded}

@@ -6,8 +6,8 @@ use Rattle.cf_io.specs.Causes.{raised}
 use Rattle.cf_io.specs.Reads.{Told, with_failed, with_read, with_unheld}
 use Rattle.rv_machine.specs.Hart.{Hart}
 use Rattle.cf_layout.specs.Layout.{Plan}
-use Rattle.cf_words.specs.Options.{Schedule, by_script, by_seed, by_rule}
-use Rattle.cf_words.specs.Words.{Layout, plain, in_file}
+use Rattle.cli_arguments.specs.Options.{Schedule, by_script, by_seed, by_rule}
+use Rattle.cli_arguments.specs.Words.{Layout, plain, in_file}
 use Rattle.cli_files.specs.Files.{IsFrontOf, NotesFailure, NotesUnheld, LacksBytes}
 use Rattle.cli_files.specs.Image.{most_bytes}
 use Rattle.layout_file.specs.Limits.{most_layout_bytes}
@@ -18,7 +18,7 @@ use Rattle.cli_files.specs.Programs.{IsProgramAt, LacksProgram}
 use Rattle.cli_files.specs.Reads.{layout_files, script_files, ReadsFirst, WereRead}
 use Rattle.cli_files.specs.RunFiles.{RunAsked, IsReady, LacksFile, ReadsFiles, AnswersFiles}
 use Rattle.cli_files.specs.Schedules.{ReadySchedule, IsScheduled, LacksSchedule, in_script, drawn_from, in_turn}
-use Rattle.cf_scripts.specs.Limits.{most_script}
+use Rattle.run_scripts.specs.Limits.{most_script}
 use Rattle.cli_files.specs.Scripts.{LacksScript}
 use Rattle.cli_files.specs.declared.status.Status.{Status}
 use Rattle.cli_files.specs.declared.status.Which.{Which}

@@ -1,6 +1,6 @@
 -- The lines of the answers that several commands give (a format of this project).
 use Rattle.std.specs.Prelude.{ℕ, List, codes}
-use Rattle.cf_texts.specs.Texts.{line}
+use Rattle.texts.specs.Lines.{line}
 use Rattle.cli_files.specs.declared.status.Which.{Which}
 use Rattle.cli_files.specs.declared.status.Which.TheVariants as which
 

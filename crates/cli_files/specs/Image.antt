@@ -11,8 +11,8 @@ use Rattle.mem_regions.specs.Loading.{loaded}
 use Rattle.mem_regions.specs.Refusal.{refusal as load_refusal}
 use Rattle.rv_machine.specs.Hart.{Hart}
 use Rattle.rv_machine.specs.Machine.{start_hart}
-use Rattle.cli_files.specs.declared.status.ProgramErr.{ProgramErr}
-use Rattle.cli_files.specs.declared.status.ProgramErr.TheVariants as program
+use Rattle.report_refusals.specs.declared.faults.ProgramErr.{ProgramErr}
+use Rattle.report_refusals.specs.declared.faults.ProgramErr.TheVariants as program
 
 -- the greatest length of a program file, in bytes
 abbrev pub most_bytes : ℕ

@@ -7,8 +7,8 @@ use Rattle.layout_file.specs.declared.fault.FileErr.{FileErr}
 use Rattle.layout_file.specs.declared.fault.FileErr.TheVariants as err
 use Rattle.layout_file.specs.Answers.{Fails, Describes}
 use Rattle.layout_file.specs.Limits.{most_layout_bytes}
-use Rattle.layout_refusals.specs.Texts.{bad_layout}
-use Rattle.cf_words.specs.Words.{Layout, plain, in_file}
+use Rattle.report_refusals.specs.Layouts.{bad_layout}
+use Rattle.cli_arguments.specs.Words.{Layout, plain, in_file}
 use Rattle.cli_files.specs.Files.{IsFrontOf, LacksBytes}
 use Rattle.cli_files.specs.Memory.{SaysNoMemory}
 use Rattle.cli_files.specs.declared.status.Status.{Status}

@@ -11,7 +11,6 @@ pub mod Opening
 pub mod Outside
 pub mod Programs
 pub mod Reads
-pub mod Refusals
 pub mod RunFiles
 pub mod Schedules
 pub mod Scripts

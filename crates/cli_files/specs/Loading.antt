@@ -3,7 +3,7 @@ use Rattle.std.specs.Prelude.{◌⊎◌, ℕ, List, Option}
 use Rattle.cf_io.specs.Reads.{Told}
 use Rattle.rv_machine.specs.Hart.{Hart}
 use Rattle.cf_layout.specs.Layout.{Plan}
-use Rattle.cf_words.specs.Words.{Layout}
+use Rattle.cli_arguments.specs.Words.{Layout}
 use Rattle.cli_files.specs.Layouts.{IsLayoutAt, LacksLayout}
 use Rattle.cli_files.specs.Programs.{IsProgramAt, LacksProgram}
 use Rattle.cli_files.specs.declared.status.Status.{Status}

@@ -1,7 +1,7 @@
 -- What is answered where memory was refused.
 use Rattle.std.specs.Prelude.{◌≡◌, List, ℕ, codes}
 use Rattle.rv_machine.specs.Streams.{Streams}
-use Rattle.cf_texts.specs.Texts.{line}
+use Rattle.texts.specs.Lines.{line}
 use Rattle.cli_files.specs.declared.status.Status.{Status}
 use Rattle.cli_files.specs.declared.status.Status.TheVariants as status
 

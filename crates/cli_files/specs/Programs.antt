@@ -5,8 +5,8 @@ use Rattle.rv_machine.specs.Hart.{Hart}
 use Rattle.cli_files.specs.Files.{IsFrontOf, LacksBytes}
 use Rattle.cli_files.specs.Image.{most_bytes, IsProgram, IsRefused, opened}
 use Rattle.cli_files.specs.Memory.{SaysNoMemory}
-use Rattle.cli_files.specs.Refusals.{bad_program}
-use Rattle.cli_files.specs.declared.status.ProgramErr.{ProgramErr}
+use Rattle.report_refusals.specs.Programs.{bad_program}
+use Rattle.report_refusals.specs.declared.faults.ProgramErr.{ProgramErr}
 use Rattle.cli_files.specs.declared.status.Status.{Status}
 use Rattle.cli_files.specs.declared.status.Status.TheVariants as status
 use Rattle.cli_files.specs.declared.status.Which.TheVariants as which

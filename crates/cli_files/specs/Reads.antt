@@ -2,8 +2,8 @@
 use Rattle.std.specs.Prelude.{◌≡◌, ◌<◌, ◌≤◌, ◌⊎◌, ℕ, List, [], ◌∷◌, ◌++◌, length, take, Option, Some, None}
 use Rattle.cf_io.specs.Causes.{raised}
 use Rattle.cf_io.specs.Reads.{Told}
-use Rattle.cf_words.specs.Options.{Schedule, by_script, by_seed, by_rule}
-use Rattle.cf_words.specs.Words.{Layout, plain, in_file}
+use Rattle.cli_arguments.specs.Options.{Schedule, by_script, by_seed, by_rule}
+use Rattle.cli_arguments.specs.Words.{Layout, plain, in_file}
 
 -- the file of a layout; the built-in one has none
 abbrev pub layout_files : Layout → List (List ℕ)

@@ -1,11 +1,11 @@
 -- The files that `run` reads, one after another: the layout's, the program's and, where a script gives the moves, the script's.
 use Rattle.std.specs.Prelude.{◌≡◌, ◌⊎◌, ℕ, List, Option}
-use Rattle.cf_asked.specs.declared.show.Show.{Show}
+use Rattle.run_options.specs.declared.show.Show.{Show}
 use Rattle.cf_io.specs.Reads.{Told}
 use Rattle.rv_machine.specs.Hart.{Hart}
 use Rattle.cf_layout.specs.Layout.{Plan}
-use Rattle.cf_words.specs.Options.{Schedule}
-use Rattle.cf_words.specs.Words.{Layout}
+use Rattle.cli_arguments.specs.Options.{Schedule}
+use Rattle.cli_arguments.specs.Words.{Layout}
 use Rattle.cli_files.specs.Loading.{IsLoaded, LacksLoaded}
 use Rattle.cli_files.specs.Outside.{Outside}
 use Rattle.cli_files.specs.Schedules.{ReadySchedule, IsScheduled, LacksSchedule}

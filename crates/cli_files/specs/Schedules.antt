@@ -1,8 +1,8 @@
 -- What chooses the moves of a run, once its files are read.
 use Rattle.std.specs.Prelude.{◌≡◌, ◌≤◌, ℕ, List, length, vec_items, Option}
 use Rattle.cf_io.specs.Reads.{Told}
-use Rattle.cf_words.specs.Options.{Schedule, by_script, by_seed, by_rule}
-use Rattle.cf_scripts.specs.Limits.{most_script}
+use Rattle.cli_arguments.specs.Options.{Schedule, by_script, by_seed, by_rule}
+use Rattle.run_scripts.specs.Limits.{most_script}
 use Rattle.cli_files.specs.Scripts.{IsScriptAt, LacksScript}
 use Rattle.cli_files.specs.declared.status.Status.{Status}
 use Rattle.cli_files.specs.declared.schedules.ReadySchedule as rust

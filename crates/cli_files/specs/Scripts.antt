@@ -1,10 +1,10 @@
 -- The script that a file holds, and why it holds none.
 use Rattle.std.specs.Prelude.{◌≡◌, ◌<◌, ◌≤◌, ◌+◌, ◌⊎◌, ℕ, List, length, codes, Option}
 use Rattle.cf_io.specs.Reads.{Told}
-use Rattle.cf_scripts.specs.Limits.{most_script}
-use Rattle.cf_texts.specs.Texts.{line}
+use Rattle.run_scripts.specs.Limits.{most_script}
+use Rattle.texts.specs.Lines.{line}
 use Rattle.cli_files.specs.Files.{IsFrontOf, LacksBytes}
-use Rattle.cli_files.specs.declared.status.ScriptFault.TheVariants as fault
+use Rattle.report_refusals.specs.declared.faults.ScriptFault.TheVariants as fault
 use Rattle.cli_files.specs.declared.status.Status.{Status}
 use Rattle.cli_files.specs.declared.status.Status.TheVariants as status
 use Rattle.cli_files.specs.declared.status.Which.TheVariants as which

@@ -1,14 +1,15 @@
 //! The outcome of a command, and the answers that several commands give.
 
 ghost use Rattle.std.specs.Prelude.{◌≡◌, [], codes};
-ghost use Rattle.cf_texts.specs.Texts.{line as line_of};
+ghost use Rattle.texts.specs.Lines.{line as line_of};
 ghost use Rattle.cli_files.specs.Answers.{unread_line};
-ghost use Rattle.cli_files.specs.Refusals.{bad_program as bad_program_text};
+ghost use Rattle.report_refusals.specs.Programs.{bad_program as bad_program_text};
 ghost use Rattle.cli_files.specs.declared.status.Status.TheVariants.{BadProgram, Done as Carried, NoMemory as Refused, ReadFault, WriteFault};
 
-use crate::refusals::{bad_program, line};
-use crate::status::{ProgramErr, Status, Which};
-use cf_texts::Page;
+use crate::lines::line;
+use crate::status::{Status, Which};
+use report_refusals::{ProgramErr, bad_program};
+use texts::Page;
 
 /// The status of a command, and the lines that close its report.
 #[derive(Drop)]

@@ -2,8 +2,8 @@
 
 ghost use Rattle.std.specs.Prelude.{IfOk, IfErr};
 ghost use Rattle.cf_io.specs.Causes.{HasCause};
-ghost use Rattle.cf_words.specs.Words.{in_file};
-ghost use Rattle.cf_words.specs.Views.{layout_of};
+ghost use Rattle.cli_arguments.specs.Words.{in_file};
+ghost use Rattle.cli_arguments.specs.Views.{layout_of};
 ghost use Rattle.layout_file.specs.Answers.{Describes};
 ghost use Rattle.cli_files.specs.Causes.{files_read};
 ghost use Rattle.cli_files.specs.Layouts.{IsNoLayout, IsLayoutAt, LacksLayout};
@@ -12,9 +12,9 @@ use crate::answer::{Answer, no_memory, unread};
 use crate::status::{Status, Which};
 use cf_io::{Files, FilesErr};
 use cf_layout::{Layout, plain};
-use cf_words::LayoutWord;
+use cli_arguments::LayoutWord;
 use layout_file::{FileErr, MOST_LAYOUT, read_layout};
-use layout_refusals::bad_layout;
+use report_refusals::bad_layout;
 use std::alloc::Global;
 
 /// The greatest length of a layout file, in bytes.

@@ -4,11 +4,11 @@
 
 mod answer;
 mod layouts;
+mod lines;
 mod loading;
 mod opening;
 mod parts;
 mod programs;
-mod refusals;
 mod run_files;
 mod schedules;
 mod scripts;
@@ -16,10 +16,11 @@ mod status;
 
 pub use answer::{Answer, done, no_memory, no_program, unread, write_fault};
 pub use layouts::layout_at;
+pub use lines::{bad_words, line};
 pub use loading::{Loaded, load};
 pub use opening::{MOST_BYTES, is_elf, open_again};
 pub use programs::{open_image, program_at};
-pub use refusals::{bad_words, line};
+pub use report_refusals::{DelaysFault, ProgramErr, ScriptFault, TraceFault};
 pub use run_files::{Ready, read_files};
 pub use schedules::ReadySchedule;
-pub use status::{DelaysFault, ProgramErr, ScriptFault, Status, TraceFault, Which};
+pub use status::{Status, Which};

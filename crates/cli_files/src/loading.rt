@@ -2,7 +2,7 @@
 
 ghost use Rattle.std.specs.Prelude.{◌≡◌, IfOk, IfErr};
 ghost use Rattle.cf_io.specs.Causes.{HasCause};
-ghost use Rattle.cf_words.specs.Views.{layout_of};
+ghost use Rattle.cli_arguments.specs.Views.{layout_of};
 ghost use Rattle.cli_files.specs.Causes.{files_read};
 ghost use Rattle.cli_files.specs.Loading.{IsLoaded, LacksLoaded};
 
@@ -11,7 +11,7 @@ use crate::layouts::layout_at;
 use crate::programs::program_at;
 use cf_io::Files;
 use cf_layout::Layout;
-use cf_words::LayoutWord;
+use cli_arguments::LayoutWord;
 use rv_machine::Machine;
 use std::alloc::Global;
 

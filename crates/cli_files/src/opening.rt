@@ -10,9 +10,9 @@ ghost use Rattle.cli_files.specs.Image.{IsProgram, most_bytes, opened};
 ghost use Rattle.cli_files.specs.Opening.{IsNotOpened};
 
 use crate::parts::{MOST_PARTS, STACK, count_parts, parts_of};
-use crate::status::ProgramErr;
 use elf_view::Elf;
 use mem_regions::{LoadErr, Part, Regions};
+use report_refusals::ProgramErr;
 use rv_machine::Machine;
 use std::alloc::{AllocError, Global};
 

@@ -3,7 +3,7 @@
 ghost use Rattle.std.specs.Prelude.{◌≡◌, IfOk, IfErr};
 ghost use Rattle.cf_io.specs.Causes.{HasCause};
 ghost use Rattle.cli_files.specs.Causes.{files_read};
-ghost use Rattle.cf_words.specs.Views.{layout_of, schedule_view as asked_schedule};
+ghost use Rattle.cli_arguments.specs.Views.{layout_of, schedule_view as asked_schedule};
 ghost use Rattle.cli_files.specs.RunFiles.{run_asked, IsReady, LacksFile};
 ghost use Rattle.cli_files.specs.Schedules.{schedule_view, FitsScript};
 
@@ -12,7 +12,7 @@ use crate::loading::load;
 use crate::schedules::{ReadySchedule, schedule_at};
 use cf_io::Files;
 use cf_layout::Layout;
-use cf_words::{LayoutWord, RunOptions};
+use cli_arguments::{LayoutWord, RunOptions};
 use rv_machine::Machine;
 use std::alloc::Global;
 

@@ -3,13 +3,13 @@
 ghost use Rattle.std.specs.Prelude.{IfOk, IfErr};
 ghost use Rattle.cf_io.specs.Causes.{HasCause};
 ghost use Rattle.cli_files.specs.Causes.{files_read};
-ghost use Rattle.cf_words.specs.Views.{schedule_view as asked_schedule};
+ghost use Rattle.cli_arguments.specs.Views.{schedule_view as asked_schedule};
 ghost use Rattle.cli_files.specs.Schedules.{schedule_view, FitsScript, IsScheduled, LacksSchedule};
 
 use crate::answer::Answer;
 use crate::scripts::script_at;
 use cf_io::Files;
-use cf_words::Schedule;
+use cli_arguments::Schedule;
 use std::alloc::Global;
 
 /// What chooses the moves of a run.

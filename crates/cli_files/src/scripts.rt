@@ -6,10 +6,11 @@ ghost use Rattle.cli_files.specs.Causes.{files_read};
 ghost use Rattle.cli_files.specs.Scripts.{IsScriptAt, LacksScript};
 
 use crate::answer::{Answer, no_memory, unread};
-use crate::refusals::line;
-use crate::status::{ScriptFault, Status, Which};
+use crate::lines::line;
+use crate::status::{Status, Which};
 use cf_io::{Files, FilesErr};
-use cf_scripts::MOST_SCRIPT;
+use report_refusals::ScriptFault;
+use run_scripts::MOST_SCRIPT;
 use std::alloc::Global;
 
 /// The greatest length of a script, in bytes.

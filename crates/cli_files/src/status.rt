@@ -3,10 +3,8 @@
 ghost use Rattle.std.specs.Prelude.{◌≡◌};
 
 use cf_bind::Bar;
-use cf_scripts::{DelayErr, ScriptErr, TraceKind};
-use elf_view::ElfErr;
 use layout_file::FileErr;
-use mem_regions::LoadErr;
+use report_refusals::{DelaysFault, ProgramErr, ScriptFault, TraceFault};
 use rv_asm::AsmErr;
 
 /// What could not be read.
@@ -19,50 +17,6 @@ pub enum Which {
     Delays,
     Trace,
     Input,
-}
-
-/// Why a file is no program.
-#[derive(Clone, Copy)]
-pub enum ProgramErr {
-    /// It is longer than a program may be.
-    TooLong,
-
-    /// It begins as an ELF file does, and is not one that can be viewed.
-    Elf(ElfErr),
-
-    /// The parts of memory that it describes cannot be loaded. A part is named by its index among the segments that
-    /// take room in memory, after which the stack comes.
-    Load(LoadErr),
-}
-
-/// Why a file is no script of moves that can be made.
-#[derive(Clone, Copy)]
-pub enum ScriptFault {
-    /// It is longer than a script may be.
-    TooLong,
-
-    /// The line that was reached is no move.
-    Line(ScriptErr),
-}
-
-/// Why a file does not say how long moves take.
-#[derive(Clone, Copy)]
-pub enum DelaysFault {
-    /// It is longer than a file of delays may be.
-    TooLong,
-
-    /// A line gives no delay.
-    Line(DelayErr),
-}
-
-/// Why a file is not the trace of a run.
-#[derive(Clone, Copy)]
-pub enum TraceFault {
-    /// It is longer than a trace may be.
-    TooLong,
-
-    /// The line in which that is seen, counted from 1, and why.
-    Line { line: u32, kind: TraceKind },
 }
 
 /// How a call of the simulator ended.

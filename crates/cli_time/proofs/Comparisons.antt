@@ -10,9 +10,9 @@ use Rattle.rv_machine.specs.Hart.{Hart}
 use Rattle.cf_layout.specs.Layout.{Plan}
 use Rattle.std.proofs.lemmas.Bool.{false≢true}
 use Rattle.cf_report.specs.Putting.{PutsText}
-use Rattle.cf_texts.specs.Texts.{line}
-use Rattle.cf_words.specs.declared.command.TimeOptions.{TimeOptions}
-use Rattle.cf_words.specs.Words.{Layout}
+use Rattle.texts.specs.Lines.{line}
+use Rattle.cli_arguments.specs.declared.command.TimeOptions.{TimeOptions}
+use Rattle.cli_arguments.specs.Words.{Layout}
 use Rattle.cli_files.specs.Deciding.{Decides}
 use Rattle.cli_files.specs.declared.answer.Answer.{Answer}
 use Rattle.cli_files.specs.declared.status.Status.TheVariants as status

@@ -6,7 +6,7 @@ use Rattle.std.proofs.lemmas.List.{take_all}
 use Rattle.std.proofs.lemmas.Option.{slice_get-get_or}
 use Rattle.std.proofs.lemmas.List.Concat.{flat_map-append}
 use Rattle.std.proofs.lemmas.List.Elements.{filter-append}
-use Rattle.cf_scripts.specs.Kinds.{name_at, names}
+use Rattle.run_scripts.specs.Kinds.{name_at, names}
 use Rattle.cli_time.specs.SiteLines.{Count, count_text, counts_text, is_made}
 use Rattle.cli_time.proofs.Lists.{take-next}
 

@@ -3,7 +3,7 @@ use Rattle.std.proofs.Common.{◌+◌, ℕ, List, [], ◌∷◌, ◌++◌, Optio
 use Rattle.cf_io.specs.Reads.{Told}
 use Rattle.rv_machine.specs.Hart.{Hart}
 use Rattle.cf_layout.specs.Layout.{Plan}
-use Rattle.cf_words.specs.Words.{Layout}
+use Rattle.cli_arguments.specs.Words.{Layout}
 use Rattle.cli_files.specs.Reads.{layout_files, files_of_layouts, WereRead}
 use Rattle.cli_files.specs.declared.status.Status.{Status}
 use Rattle.cli_files.proofs.Reading.{AllRead, none-read, one-read, more-read, were-all, were-before, were-after, were-lacking, layout-read, layout-lacking, program-read, program-lacking}

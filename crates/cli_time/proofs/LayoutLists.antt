@@ -4,8 +4,8 @@ use Rattle.std.specs.Prelude.{codes, slice_get, slice_index_or, string_bytes}
 use Rattle.std.specs.Global.{Global}
 use Rattle.cf_io.specs.Reads.{Told}
 use Rattle.cf_layout.specs.Layout.{Plan}
-use Rattle.cf_texts.specs.Texts.{line}
-use Rattle.cf_words.specs.Words.{Layout, layout_in}
+use Rattle.texts.specs.Lines.{line}
+use Rattle.cli_arguments.specs.Words.{Layout, layout_in}
 use Rattle.cli_files.specs.Layouts.{IsLayoutAt, LacksLayout}
 use Rattle.cli_files.specs.declared.status.Status.{Status}
 use Rattle.cli_files.specs.declared.status.Status.TheVariants as status

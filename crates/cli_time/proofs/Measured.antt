@@ -1,6 +1,6 @@
 -- What a timed run measures.
 use Rattle.std.proofs.Common.{◌≡◌, ◌∙◌, ◌≤◌, sym, ap, subst, refl, ℕ, List, Some, None, Result, Ok, Err, Bool, true, arith}
-use Rattle.cf_asked.specs.Limits.{most_limit}
+use Rattle.run_options.specs.Limits.{most_limit}
 use Rattle.cf_io.specs.Causes.{HasCause}
 use Rattle.rv_machine.specs.Hart.{Hart}
 use Rattle.cf_layout.specs.Layout.{Plan}
@@ -13,11 +13,11 @@ use Rattle.cf_timed.specs.declared.answer.Timed.TheVariants as timed
 use Rattle.cf_timed.specs.Clocks.{SiteTimes, started}
 use Rattle.cf_timed.specs.TimedRuns.{CanBegin, HasCauses, RunsTimed, answer_of, begins}
 use Rattle.cf_timed.proofs.Chaining.{longest}
-use Rattle.cf_ledger.specs.Ledgers.{opened as opened_ledger, told_by}
-use Rattle.cf_ledger.specs.NotedRuns.{RunsNoted}
-use Rattle.cf_ledger.specs.declared.breakdown.Breakdown.{Breakdown}
-use Rattle.cf_ledger.specs.declared.ledger.Ledger.{Ledger}
-use Rattle.cf_words.specs.declared.command.TimeOptions.{TimeOptions}
+use Rattle.run_ledger.specs.Ledgers.{opened as opened_ledger, told_by}
+use Rattle.run_ledger.specs.NotedRuns.{RunsNoted}
+use Rattle.run_ledger.specs.declared.breakdown.Breakdown.{Breakdown}
+use Rattle.run_ledger.specs.declared.ledger.Ledger.{Ledger}
+use Rattle.cli_arguments.specs.declared.command.TimeOptions.{TimeOptions}
 use Rattle.cf_run.proofs.Opened.{can-run}
 use Rattle.cli_time.specs.Measures.{Measures, Takes, made_of, quiet}
 use Rattle.cli_time.specs.declared.measuring.Measured.{Measured}

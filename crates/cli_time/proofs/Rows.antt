@@ -8,8 +8,8 @@ use Rattle.cf_io.proofs.Owing.{writes-again, writes-nothing}
 use Rattle.rv_machine.specs.Hart.{Hart}
 use Rattle.cf_layout.specs.Layout.{Plan}
 use Rattle.cf_report.specs.Putting.{PutsText}
-use Rattle.cf_words.specs.declared.command.TimeOptions.{TimeOptions}
-use Rattle.cf_words.specs.Words.{Layout}
+use Rattle.cli_arguments.specs.declared.command.TimeOptions.{TimeOptions}
+use Rattle.cli_arguments.specs.Words.{Layout}
 use Rattle.cli_time.specs.Lines.{layout_lines, time_lines}
 use Rattle.cli_time.specs.Measures.{Measures, MeasuresFirst}
 use Rattle.cli_time.specs.Runs.{PutsAll, PutsFewer}

@@ -1,7 +1,7 @@
 -- What the words ask of `time`.
 use Rattle.std.specs.Prelude.{ℕ, List, codes}
-use Rattle.cf_words.specs.declared.command.TimeOptions.{TimeOptions}
-use Rattle.cf_words.specs.Words.{Layout, plain, in_file}
+use Rattle.cli_arguments.specs.declared.command.TimeOptions.{TimeOptions}
+use Rattle.cli_arguments.specs.Words.{Layout, plain, in_file}
 
 -- the files with the delays and with the program, and the layouts in their order
 pub record TimeFiles : Type 0 where

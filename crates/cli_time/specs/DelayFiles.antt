@@ -4,12 +4,12 @@ use Rattle.cf_io.specs.Reads.{Told}
 use Rattle.cf_timed.specs.DelayLines.{delays_in}
 use Rattle.cf_timed.specs.Limits.{most_delays}
 use Rattle.cli_files.specs.Files.{IsFrontOf, LacksBytes}
-use Rattle.cli_files.specs.declared.status.DelaysFault.{DelaysFault}
-use Rattle.cli_files.specs.declared.status.DelaysFault.TheVariants as fault
+use Rattle.report_refusals.specs.declared.faults.DelaysFault.{DelaysFault}
+use Rattle.report_refusals.specs.declared.faults.DelaysFault.TheVariants as fault
 use Rattle.cli_files.specs.declared.status.Status.{Status}
 use Rattle.cli_files.specs.declared.status.Status.TheVariants as status
 use Rattle.cli_files.specs.declared.status.Which.TheVariants as which
-use Rattle.cli_time.specs.Refusals.{bad_delays}
+use Rattle.report_refusals.specs.Delays.{bad_delays}
 
 -- the file's first bytes, one more than it may have, are not too many, and give these
 pub record IsDelaysAt (name : List ℕ) (before after : Option Told) (delays : List ℕ) : Type 0 where

@@ -2,7 +2,7 @@
 use Rattle.std.specs.Prelude.{◌≡◌, ◌⊎◌, ℕ, List, [], ◌∷◌, Option}
 use Rattle.cf_io.specs.Reads.{Told}
 use Rattle.cf_layout.specs.Layout.{Plan}
-use Rattle.cf_words.specs.Words.{Layout}
+use Rattle.cli_arguments.specs.Words.{Layout}
 use Rattle.cli_files.specs.Layouts.{IsLayoutAt, LacksLayout}
 use Rattle.cli_files.specs.Memory.{SaysNoMemory}
 use Rattle.cli_files.specs.declared.status.Status.{Status}

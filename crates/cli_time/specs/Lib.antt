@@ -5,7 +5,6 @@ pub mod Leasts
 pub mod Lines
 pub mod Measures
 pub mod Reading
-pub mod Refusals
 pub mod Runs
 pub mod SiteLines
 pub mod Times

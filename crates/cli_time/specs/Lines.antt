@@ -1,10 +1,10 @@
 -- The lines of the report of `time` (a format of this project).
 use Rattle.std.specs.Prelude.{ℕ, ◌-◌, List, [], ◌∷◌, ◌++◌, codes, decimal, length, take}
-use Rattle.cf_closing.specs.Lines.{line_of_run}
-use Rattle.cf_texts.specs.Texts.{counted_line, line}
+use Rattle.report_closing.specs.Lines.{line_of_run}
+use Rattle.texts.specs.Lines.{counted_line, line}
 use Rattle.cf_timed.specs.declared.answer.Timed.{Timed}
 use Rattle.cf_timed.specs.TimedRuns.{answer_of}
-use Rattle.cf_words.specs.Words.{Layout}
+use Rattle.cli_arguments.specs.Words.{Layout}
 use Rattle.cli_time.specs.Asked.{name_of}
 use Rattle.cli_time.specs.SiteLines.{sites_text}
 use Rattle.cli_time.specs.declared.measuring.Measured.{Measured}

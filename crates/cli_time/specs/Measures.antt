@@ -11,9 +11,9 @@ use Rattle.cf_timed.specs.Chains.{IsLongest}
 use Rattle.cf_timed.specs.Clocks.{SiteTimes}
 use Rattle.cf_timed.specs.TimedRuns.{RunsTimed, answer_of, begins}
 use Rattle.cf_timed.specs.Times.{greatest_time, times}
-use Rattle.cf_ledger.specs.Breakdowns.{breakdown}
-use Rattle.cf_ledger.specs.declared.breakdown.Breakdown.{Breakdown}
-use Rattle.cf_words.specs.declared.command.TimeOptions.{TimeOptions}
+use Rattle.run_ledger.specs.Breakdowns.{breakdown}
+use Rattle.run_ledger.specs.declared.breakdown.Breakdown.{Breakdown}
+use Rattle.cli_arguments.specs.declared.command.TimeOptions.{TimeOptions}
 use Rattle.cli_time.specs.declared.measuring.Measured.{Measured}
 
 -- the program's streams: an input that is at its end, and an output that keeps nothing

@@ -3,8 +3,8 @@ use Rattle.std.specs.Prelude.{◌≡◌, ◌<◌, ℕ, List, length, map, Option
 use Rattle.cf_io.specs.Puts.{Writes}
 use Rattle.rv_machine.specs.Hart.{Hart}
 use Rattle.cf_layout.specs.Layout.{Plan}
-use Rattle.cf_words.specs.declared.command.TimeOptions.{TimeOptions}
-use Rattle.cf_words.specs.Words.{Layout}
+use Rattle.cli_arguments.specs.declared.command.TimeOptions.{TimeOptions}
+use Rattle.cli_arguments.specs.Words.{Layout}
 use Rattle.cli_time.specs.Lines.{time_lines}
 use Rattle.cli_time.specs.Measures.{MeasuresFirst}
 use Rattle.cli_time.specs.Times.{BreaksAtLine}

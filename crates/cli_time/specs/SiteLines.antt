@@ -2,10 +2,10 @@
 use Rattle.std.specs.Prelude.{ℕ, List, [], ◌++◌, codes, decimal, length, reverse, Bool, nat_lt, Option, Some, None}
 use Rattle.std.specs.List.{filter, flat_map, zip}
 use Rattle.cf_semantics.specs.moves.Candidates.{counted_from}
-use Rattle.cf_scripts.specs.Kinds.{names}
-use Rattle.cf_texts.specs.Texts.{counted_line, line}
+use Rattle.run_scripts.specs.Kinds.{names}
+use Rattle.texts.specs.Lines.{counted_line, line}
 use Rattle.cf_timed.specs.Clocks.{number_at}
-use Rattle.cf_ledger.specs.declared.breakdown.Breakdown.{Breakdown}
+use Rattle.run_ledger.specs.declared.breakdown.Breakdown.{Breakdown}
 
 -- a place by its name and number, and how long it was in use
 unfoldable pub busy_line : List ℕ → ℕ → ℕ → List ℕ

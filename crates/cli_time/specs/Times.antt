@@ -4,9 +4,9 @@ use Rattle.cf_io.specs.Puts.{Writes, WritesFront}
 use Rattle.cf_io.specs.Reads.{Told}
 use Rattle.rv_machine.specs.Hart.{Hart}
 use Rattle.cf_layout.specs.Layout.{Plan}
-use Rattle.cf_texts.specs.Texts.{line}
-use Rattle.cf_words.specs.declared.command.TimeOptions.{TimeOptions}
-use Rattle.cf_words.specs.Words.{Layout}
+use Rattle.texts.specs.Lines.{line}
+use Rattle.cli_arguments.specs.declared.command.TimeOptions.{TimeOptions}
+use Rattle.cli_arguments.specs.Words.{Layout}
 use Rattle.cli_files.specs.declared.status.Status.{Status}
 use Rattle.cli_files.specs.declared.status.Status.TheVariants as status
 use Rattle.cli_time.specs.Asked.{TimeAsked, TimeFiles}

@@ -1,9 +1,9 @@
 //! The command `time`.
 
 ghost use Rattle.std.specs.Prelude.{◌≡◌, ◌≤◌, IfOk, MatchResult, Ok, length, map, string_bytes, vec_items};
-ghost use Rattle.cf_asked.specs.Limits.{most_limit};
+ghost use Rattle.run_options.specs.Limits.{most_limit};
 ghost use Rattle.cf_io.specs.Causes.{HasCause};
-ghost use Rattle.cf_words.specs.Words.{layout_in};
+ghost use Rattle.cli_arguments.specs.Words.{layout_in};
 ghost use Rattle.cli_files.specs.Causes.{input_answered, output_answered};
 ghost use Rattle.cli_files.specs.Deciding.{Decides, files_decided};
 ghost use Rattle.cli_files.specs.Image.{IsProgram, opened};
@@ -18,7 +18,7 @@ use crate::measuring::measure;
 use crate::reading::{Ready, read_files};
 use arrayvec::ArrayVec;
 use cf_io::{Failed, Files, Sink};
-use cf_words::TimeOptions;
+use cli_arguments::TimeOptions;
 use cli_files::{Answer, done, no_memory};
 use std::alloc::Global;
 

@@ -7,12 +7,12 @@ ghost use Rattle.cf_timed.specs.Limits.{most_delays};
 ghost use Rattle.cli_files.specs.Causes.{files_read};
 ghost use Rattle.cli_files.specs.declared.status.Status.TheVariants.{BadDelays};
 ghost use Rattle.cli_time.specs.DelayFiles.{IsDelaysAt, LacksDelays, RefusesText};
-ghost use Rattle.cli_time.specs.Refusals.{bad_delays as bad_delays_text};
+ghost use Rattle.report_refusals.specs.Delays.{bad_delays as bad_delays_text};
 
-use crate::refusals::bad_delays;
 use cf_io::{Files, FilesErr};
 use cf_timed::{Delays, MOST_DELAYS, read_delays};
 use cli_files::{Answer, DelaysFault, Status, Which, no_memory, unread};
+use report_refusals::bad_delays;
 use std::alloc::Global;
 
 /// The greatest length of a file of delays, in bytes.

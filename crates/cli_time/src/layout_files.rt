@@ -2,14 +2,14 @@
 
 ghost use Rattle.std.specs.Prelude.{◌≡◌, ◌<◌, IfOk, IfErr, Some, length, map, slice_get, string_bytes, vec_items};
 ghost use Rattle.cf_io.specs.Causes.{HasCause};
-ghost use Rattle.cf_words.specs.Views.{layout_of};
-ghost use Rattle.cf_words.specs.Words.{layout_in};
+ghost use Rattle.cli_arguments.specs.Views.{layout_of};
+ghost use Rattle.cli_arguments.specs.Words.{layout_in};
 ghost use Rattle.cli_files.specs.Causes.{files_read};
 ghost use Rattle.cli_time.specs.LayoutFiles.{AreLayoutsAt, LacksLayouts};
 
 use cf_io::Files;
 use cf_layout::Layout;
-use cf_words::LayoutWord;
+use cli_arguments::LayoutWord;
 use cli_files::{Answer, layout_at, no_memory};
 use std::alloc::Global;
 

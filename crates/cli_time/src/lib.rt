@@ -9,7 +9,6 @@ mod leasts;
 mod lines;
 mod measuring;
 mod reading;
-mod refusals;
 mod site_lines;
 
 pub use comparing::compare_layouts;

@@ -4,19 +4,19 @@
 ghost use Rattle.std.specs.Prelude.{◌≡◌, ◌+◌, ◌≤◌, ◌++◌, length};
 ghost use Rattle.cf_report.specs.Putting.{PutsText};
 ghost use Rattle.cf_timed.specs.TimedRuns.{answer_of};
-ghost use Rattle.cf_words.specs.Views.{layout_of};
+ghost use Rattle.cli_arguments.specs.Views.{layout_of};
 ghost use Rattle.cli_time.specs.Asked.{name_of};
 ghost use Rattle.cli_time.specs.Lines.{ending_text, layout_lines, least_line, measured_text, number_text};
-ghost use Rattle.cf_texts.specs.Room.{page_room};
+ghost use Rattle.texts.specs.Room.{page_room};
 
 use crate::measuring::Measured;
 use crate::site_lines::put_sites;
-use cf_closing::run_line;
+use report_closing::run_line;
 use cf_io::{Failed, Sink, put_all};
 use cf_run::Ran;
-use cf_texts::Page;
+use texts::Page;
 use cf_timed::Timed;
-use cf_words::LayoutWord;
+use cli_arguments::LayoutWord;
 
 /// The answer of a timed run as that of any run.
 fn ran(answer: Timed) -> Ran

@@ -1,8 +1,8 @@
 //! The run of a program on a layout, by which its time is measured.
 
 ghost use Rattle.std.specs.Prelude.{◌≡◌, ◌≤◌, IfOk, false, true};
-ghost use Rattle.cf_asked.specs.Limits.{most_limit};
-ghost use Rattle.cf_ledger.specs.Ledgers.{opened as opened_ledger};
+ghost use Rattle.run_options.specs.Limits.{most_limit};
+ghost use Rattle.run_ledger.specs.Ledgers.{opened as opened_ledger};
 ghost use Rattle.cf_timed.specs.TimedRuns.{CanBegin, HasCauses, answer_of};
 ghost use Rattle.cli_files.specs.Image.{IsProgram, opened};
 ghost use Rattle.cli_time.specs.Measures.{Measures, Takes};
@@ -11,9 +11,9 @@ use cf_core::Core;
 use cf_index::Candidates;
 use cf_io::{Empty, Nowhere};
 use cf_layout::Layout;
-use cf_ledger::{Breakdown, Ledger, run_noted};
+use run_ledger::{Breakdown, Ledger, run_noted};
 use cf_timed::{Clock, Delays, Timed, run_timed};
-use cf_words::TimeOptions;
+use cli_arguments::TimeOptions;
 use cli_files::open_again;
 use std::alloc::{AllocError, Global};
 

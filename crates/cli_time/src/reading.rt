@@ -2,7 +2,7 @@
 
 ghost use Rattle.std.specs.Prelude.{◌≡◌, IfOk, IfErr, map, string_bytes, vec_items};
 ghost use Rattle.cf_io.specs.Causes.{HasCause};
-ghost use Rattle.cf_words.specs.Words.{layout_in};
+ghost use Rattle.cli_arguments.specs.Words.{layout_in};
 ghost use Rattle.cli_files.specs.Causes.{files_read};
 ghost use Rattle.cli_files.specs.Image.{IsProgram, opened};
 ghost use Rattle.cli_files.specs.Programs.{IsProgramAt, LacksProgram};

@@ -4,15 +4,15 @@
 ghost use Rattle.std.specs.Prelude.{◌≡◌, ◌+◌, ◌<◌, ◌≤◌, ◌++◌, ◌∷◌, [], length};
 ghost use Rattle.std.specs.List.{flat_map, zip};
 ghost use Rattle.cf_report.specs.Putting.{PutsText};
-ghost use Rattle.cf_scripts.specs.Kinds.{name_at, names};
-ghost use Rattle.cf_texts.specs.Room.{page_room};
+ghost use Rattle.run_scripts.specs.Kinds.{name_at, names};
+ghost use Rattle.texts.specs.Room.{page_room};
 ghost use Rattle.cf_timed.specs.Clocks.{number_at};
 ghost use Rattle.cli_time.specs.SiteLines.{breakdown_text, busy_line, counts_text, falling_stages, kinds_line, siding_line, siding_numbers, sites_text, stage_line};
 
 use cf_io::{Failed, Sink, put_all};
-use cf_ledger::Breakdown;
-use cf_scripts::kind_name;
-use cf_texts::Page;
+use run_ledger::Breakdown;
+use run_scripts::kind_name;
+use texts::Page;
 
 /// A place by its name and number, and how long it was in use.
 fn busy_page(name: &[u8], number: u32, ticks: u64) -> Page

@@ -5,7 +5,7 @@ ghost use Rattle.std.specs.Prelude.{◌≡◌, map, IfOk};
 ghost use Rattle.std.specs.Str.{IsUtf8};
 ghost use Rattle.rv_asm.specs.Labels.{named};
 
-use names::Name;
+use texts::Name;
 use std::alloc::{AllocError, Global};
 use std::marker::Model;
 use std::str;

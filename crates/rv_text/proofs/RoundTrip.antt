@@ -24,7 +24,7 @@ use Rattle.rv_text.specs.declared.text_err.TextErr.{TextErr}
 use Rattle.rv_text.specs.Names.{name_of}
 use Rattle.rv_text.specs.Pieces.{operand_count}
 use Rattle.rv_text.specs.Fields.{and_then}
-use Rattle.digits.specs.Hexadecimal.{hex8}
+use Rattle.texts.specs.Hexadecimal.{hex8}
 use Rattle.rv_text.specs.Writing.{hexadecimal, register_text, operand_text, listed, text_of}
 use Rattle.rv_text.specs.Reading.{distance_of, is_distance, aimed, Reading, AimedAt, aimed_at, placed, takes, upper_form, address_form, immediate_form, register_form, set_form, fence_form, whole, jump_form, branch_form, operands_read, statement_by, statement_of, read_text}
 use Rattle.rv_text.proofs.Solid.{IsSolid, IsCut, cut_alone, cut_before, two_operands, three_operands, no_operands, two_end, three_end}

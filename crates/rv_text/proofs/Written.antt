@@ -11,7 +11,7 @@ use Rattle.std.proofs.lemmas.Bool.Decides.{nat_tests}
 use Rattle.rv_text.specs.Numbers.{is_numeral, numeral, magnitude, number_of, plus, minus}
 use Rattle.rv_text.specs.Registers.{register_numbered, register_padded, register_of}
 use Rattle.rv_text.specs.Fields.{is_open}
-use Rattle.digits.specs.Hexadecimal.{hex8}
+use Rattle.texts.specs.Hexadecimal.{hex8}
 use Rattle.rv_text.specs.Writing.{hexadecimal, register_text}
 use Rattle.rv_text.proofs.Numerals.{test-from_AllDigits}
 use Rattle.rv_text.proofs.Solid.{is_solid, IsSolid}

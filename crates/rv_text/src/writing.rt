@@ -11,7 +11,7 @@ ghost use Rattle.rv_text.specs.Reading.{read_text};
 use crate::mnemonic::Mnemonic;
 use crate::operands::Operand::{self, Address, Number, Register, Target, Upper};
 use crate::text_line::TextLine;
-use digits::hex8;
+use texts::hex8;
 use itoa::Buffer;
 use rv_inst::Instr;
 

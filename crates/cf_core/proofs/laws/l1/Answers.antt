@@ -1,5 +1,5 @@
 -- The law is a theorem.
-use Rattle.cf_refinement.proofs.Laws.{computes_as_finished}
+use Rattle.theory_refinement.proofs.Laws.{computes_as_finished}
 use Rattle.cf_core.proofs.laws.l1.Goals as goal
 
 pub returns : goal.returns

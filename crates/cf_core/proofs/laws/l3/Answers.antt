@@ -1,5 +1,5 @@
 -- The law is a theorem.
-use Rattle.cf_refinement.proofs.Laws.{serves_and_passes}
+use Rattle.theory_refinement.proofs.Laws.{serves_and_passes}
 use Rattle.cf_core.proofs.laws.l3.Goals as goal
 
 pub returns : goal.returns

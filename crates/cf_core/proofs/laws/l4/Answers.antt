@@ -1,5 +1,5 @@
 -- The law is a theorem.
-use Rattle.cf_refinement.proofs.Laws.{reads_as_issued}
+use Rattle.theory_refinement.proofs.Laws.{reads_as_issued}
 use Rattle.cf_core.proofs.laws.l4.Goals as goal
 
 pub returns : goal.returns

@@ -1,5 +1,5 @@
 -- The law is a theorem.
-use Rattle.cf_confluence.proofs.back.TakenBack.{moment_back}
+use Rattle.theory_confluence.proofs.back.TakenBack.{moment_back}
 use Rattle.cf_core.proofs.laws.moves_are_taken_back.Goals as goal
 
 pub returns : goal.returns

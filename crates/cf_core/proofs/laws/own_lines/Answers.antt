@@ -1,5 +1,5 @@
 -- The law is a theorem.
-use Rattle.cf_refinement.proofs.instructions.OwnShown.{own_alone}
+use Rattle.theory_refinement.proofs.instructions.OwnShown.{own_alone}
 use Rattle.cf_core.proofs.laws.own_lines.Goals as goal
 
 pub returns : goal.returns

@@ -1,5 +1,5 @@
 -- The law is a theorem.
-use Rattle.cf_confluence.proofs.Laws.{move_stutters, rank_falls}
+use Rattle.theory_confluence.proofs.Laws.{move_stutters, rank_falls}
 use Rattle.cf_core.proofs.laws.stutters.Goals as goal
 
 pub returns-clause-views : goal.returns-clause-views

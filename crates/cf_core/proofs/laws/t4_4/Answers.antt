@@ -1,5 +1,5 @@
 -- The law is a theorem.
-use Rattle.cf_refinement.proofs.Theorems.{lines_prefix}
+use Rattle.theory_refinement.proofs.Theorems.{lines_prefix}
 use Rattle.cf_core.proofs.laws.t4_4.Goals as goal
 
 pub returns : goal.returns

@@ -1,5 +1,5 @@
 -- The law is a theorem.
-use Rattle.cf_confluence.proofs.Laws.{move_costs, run_bounded}
+use Rattle.theory_confluence.proofs.Laws.{move_costs, run_bounded}
 use Rattle.cf_core.proofs.laws.t5_1.Goals as goal
 
 pub returns-clause-costs : goal.returns-clause-costs

@@ -1,5 +1,5 @@
 -- The law is a theorem.
-use Rattle.cf_confluence.proofs.Laws.{stuck_rests}
+use Rattle.theory_confluence.proofs.Laws.{stuck_rests}
 use Rattle.cf_core.proofs.laws.t5_2.Goals as goal
 
 pub returns : goal.returns

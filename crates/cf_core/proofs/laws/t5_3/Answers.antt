@@ -1,5 +1,5 @@
 -- The law is a theorem.
-use Rattle.cf_confluence.proofs.Laws.{drain_bounded, drain_ends}
+use Rattle.theory_confluence.proofs.Laws.{drain_bounded, drain_ends}
 use Rattle.cf_core.proofs.laws.t5_3.Goals as goal
 
 pub returns-clause-bounded : goal.returns-clause-bounded

@@ -1,5 +1,5 @@
 -- The law is a theorem.
-use Rattle.cf_confluence.proofs.Laws.{move_local, independent_swap, independent_before}
+use Rattle.theory_confluence.proofs.Laws.{move_local, independent_swap, independent_before}
 use Rattle.cf_core.proofs.laws.t5_5.Goals as goal
 
 pub returns-clause-local : goal.returns-clause-local

@@ -1,6 +1,6 @@
 use Rattle.std.proofs.Common.{ℕ, List, ◌++◌, ◌∙◌, ap, refl}
 use Rattle.cf_bind.specs.MoveTexts.{move_line}
-use Rattle.cf_texts.specs.Texts.{line, newline}
+use Rattle.texts.specs.Lines.{line, newline}
 use Rattle.cf_report.proofs.Puttings.{puts-again, puts-stopped}
 use Rattle.cf_debug.specs.Replies.{back_text}
 use Rattle.cf_debug.proofs.replies.put_back.Goals as goal

@@ -1,6 +1,6 @@
 use Rattle.std.proofs.Common.{◌++◌, ◌∙◌, ap}
 use Rattle.cf_bind.specs.MoveTexts.{move_line}
-use Rattle.cf_texts.specs.Texts.{line}
+use Rattle.texts.specs.Lines.{line}
 use Rattle.cf_report.specs.Lines.{numbered_move}
 use Rattle.cf_report.proofs.Puttings.{puts-again, puts-stopped}
 use Rattle.cf_report.proofs.lines.put_move.Goals as goal

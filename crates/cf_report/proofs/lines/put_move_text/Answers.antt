@@ -1,6 +1,6 @@
 use Rattle.std.proofs.Common.{◌++◌, ◌∙◌, ap}
 use Rattle.cf_bind.specs.MoveTexts.{move_line}
-use Rattle.cf_texts.specs.Texts.{line, newline}
+use Rattle.texts.specs.Lines.{line, newline}
 use Rattle.cf_report.proofs.Puttings.{puts-again, puts-stopped}
 use Rattle.cf_report.proofs.lines.put_move_text.Goals as goal
 

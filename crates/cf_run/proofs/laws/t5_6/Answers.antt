@@ -1,4 +1,4 @@
-use Rattle.cf_untold.proofs.Offered.{offered_allowed}
+use Rattle.theory_unknown_input.proofs.Offered.{offered_allowed}
 use Rattle.cf_run.proofs.Bounds.{reached-offered}
 use Rattle.cf_run.proofs.ByPolicy.{policy-bounded}
 use Rattle.cf_run.specs.Policies.{first_pick, later_picks}

@@ -1,5 +1,5 @@
 use Rattle.std.proofs.Common.{refl, sym, arith}
-use Rattle.cf_untold.proofs.Offered.{offered_allowed}
+use Rattle.theory_unknown_input.proofs.Offered.{offered_allowed}
 use Rattle.cf_run.proofs.ByPolicy.{chosen-stops, over-stops}
 use Rattle.cf_run.proofs.Coming.{seen-count}
 use Rattle.cf_run.proofs.Faults.{over-read, over-reported, over-written, stopped-read, stopped-reported, stopped-written}

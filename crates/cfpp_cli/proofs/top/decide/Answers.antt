@@ -1,8 +1,8 @@
 use Rattle.std.proofs.Common.{◌≡◌, ◌++◌, true, false, map, Ok, Err, refl, []}
 use Rattle.std.specs.Prelude.{string_bytes}
 use Rattle.rv_machine.specs.Streams.{streams_of}
-use Rattle.cf_words.specs.Words.{layout_in, machine, run, moves, rounds, debug, time, audit, check, asm, listing, gen, help, version}
-use Rattle.cf_words.specs.Views.{layout_of, schedule_view}
+use Rattle.cli_arguments.specs.Words.{layout_in, machine, run, moves, rounds, debug, time, audit, check, asm, listing, gen, help, version}
+use Rattle.cli_arguments.specs.Views.{layout_of, schedule_view}
 use Rattle.cfpp_cli.specs.Drawn.{AnswersDrawn, BreaksDrawn}
 use Rattle.cli_debug.specs.Debug.{AnswersDebug, BreaksDebug}
 use Rattle.cli_files.specs.Causes.{input_answered, output_answered}

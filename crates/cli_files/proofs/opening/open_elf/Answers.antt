@@ -1,6 +1,6 @@
 use Rattle.std.proofs.Common.{rules}
 use Rattle.cli_files.specs.Image.{IsRefused}
-use Rattle.cli_files.specs.declared.status.ProgramErr.TheVariants.{Load}
+use Rattle.report_refusals.specs.declared.faults.ProgramErr.TheVariants.{Load}
 use Rattle.cli_files.proofs.Excluded.{never-refused}
 use Rattle.cli_files.proofs.opening.open_elf.Goals as goal
 

@@ -1,5 +1,5 @@
 use Rattle.std.proofs.Common.{inl, refl, ◌+◌, arith}
-use Rattle.cf_scripts.specs.Limits.{most_script}
+use Rattle.run_scripts.specs.Limits.{most_script}
 use Rattle.cli_files.proofs.FileFronts.{file-front}
 use Rattle.cli_files.proofs.scripts.script_at.Goals as goal
 

@@ -1,5 +1,5 @@
 use Rattle.std.proofs.Common.{inl}
-use Rattle.cf_words.specs.Views.{layout_of}
+use Rattle.cli_arguments.specs.Views.{layout_of}
 use Rattle.cli_time.proofs.Comparisons.{times-broken, times-fewer, times-named}
 use Rattle.cli_time.proofs.comparing.compare_ready.Goals as goal
 

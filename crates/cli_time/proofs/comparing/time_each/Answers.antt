@@ -1,5 +1,5 @@
 use Rattle.std.proofs.Common.{ap, length, arith}
-use Rattle.cf_words.specs.Views.{layout_of}
+use Rattle.cli_arguments.specs.Views.{layout_of}
 use Rattle.cli_time.proofs.LayoutLists.{plan-at}
 use Rattle.cli_time.proofs.Rows.{rows-all, rows-break, rows-cause, rows-fewer, rows-next, rows-start, rows-still}
 use Rattle.cli_time.proofs.comparing.time_each.Goals as goal

@@ -1,6 +1,6 @@
 use Rattle.std.proofs.Common.{map}
 use Rattle.std.specs.Prelude.{string_bytes, vec_items}
-use Rattle.cf_words.specs.Words.{layout_in}
+use Rattle.cli_arguments.specs.Words.{layout_in}
 use Rattle.cli_files.specs.Image.{opened}
 use Rattle.cli_time.proofs.Rows.{RowsPut}
 use Rattle.cli_time.proofs.comparing.time_each.Given as goal

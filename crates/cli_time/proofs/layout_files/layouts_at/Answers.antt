@@ -1,7 +1,7 @@
 use Rattle.std.proofs.Common.{◌+◌, ◌∙◌, List, map, take, sym, subst}
 use Rattle.std.specs.Prelude.{string_bytes}
 use Rattle.cf_layout.specs.Layout.{Plan}
-use Rattle.cf_words.specs.Words.{layout_in}
+use Rattle.cli_arguments.specs.Words.{layout_in}
 use Rattle.cli_time.specs.LayoutFiles.{AreLayoutsAt}
 use Rattle.cli_time.proofs.Lists.{pushed}
 use Rattle.cli_time.proofs.LayoutLists.{read-next, refused-next, unheld-next}

@@ -1,6 +1,6 @@
 use Rattle.std.proofs.Common.{◌≡◌, map, take}
 use Rattle.std.specs.Prelude.{string_bytes, vec_items}
-use Rattle.cf_words.specs.Words.{layout_in}
+use Rattle.cli_arguments.specs.Words.{layout_in}
 use Rattle.cli_time.specs.LayoutFiles.{AreLayoutsAt}
 use Rattle.cli_time.proofs.layout_files.layouts_at.Given as goal
 

@@ -1,6 +1,6 @@
 use Rattle.std.proofs.Common.{◌≡◌, ◌++◌}
 use Rattle.cf_report.proofs.Puttings.{puts-again, puts-stopped}
-use Rattle.cf_words.specs.Views.{layout_of}
+use Rattle.cli_arguments.specs.Views.{layout_of}
 use Rattle.cli_time.specs.Lines.{layout_lines, time_line}
 use Rattle.cli_time.specs.SiteLines.{sites_text}
 use Rattle.cli_time.proofs.lines.put_layout.Goals as goal

@@ -1,7 +1,7 @@
 use Rattle.std.proofs.Common.{◌++◌, ap, codes, refl}
 use Rattle.cf_report.proofs.Puttings.{puts-again, puts-stopped}
-use Rattle.cf_texts.specs.Texts.{line}
-use Rattle.cf_words.specs.Views.{layout_of}
+use Rattle.texts.specs.Lines.{line}
+use Rattle.cli_arguments.specs.Views.{layout_of}
 use Rattle.cli_time.specs.Asked.{name_of}
 use Rattle.cli_time.specs.Lines.{least_line}
 use Rattle.cli_time.proofs.lines.put_least.Goals as goal

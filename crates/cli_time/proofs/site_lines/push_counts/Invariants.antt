@@ -1,6 +1,6 @@
 use Rattle.std.proofs.Common.{◌≡◌, ◌+◌, ◌*◌, ◌≤◌, ◌++◌, length, take}
 use Rattle.std.specs.List.{zip}
-use Rattle.cf_scripts.specs.Kinds.{names}
+use Rattle.run_scripts.specs.Kinds.{names}
 use Rattle.cli_time.specs.SiteLines.{counts_text}
 use Rattle.cli_time.proofs.site_lines.push_counts.Given as goal
 

@@ -1,0 +1,5 @@
+use Rattle.cf_io.proofs.Owing.{err-again}
+use Rattle.asm_listing.proofs.putting.put_three.Goals as goal
+
+pub returns-clause-err : goal.returns-clause-err
+returns-clause-err g c = err-again _ _ _ _ _ _ c.in_ok-put_two.ensures.ok c.put_all.ensures.front

@@ -1,0 +1,42 @@
+//! The order in which the symbols of a file are looked for.
+
+ghost use Rattle.std.specs.Prelude.{◌≡◌, OnOk, IfOk, filter, map};
+ghost use Rattle.elf_view.specs.Symbols.{is_named, shown_lazy, symbols_of};
+ghost use Rattle.asm_listing.specs.Labels.{Ascend, HaveLines};
+
+use elf_view::{Elf, LazySymbol};
+use std::alloc::{AllocError, Global};
+
+/// The symbols of a file that have a name, in their order there.
+fn named_symbols<'a>(alloc: Global, elf: &Elf<'a>) -> Result<Vec<LazySymbol<'a>>, AllocError>
+    ensures { IfOk result (λ symbols. map shown_lazy symbols.items ≡ filter is_named (symbols_of elf.now)) }
+{
+    let mut symbols = Vec::new(alloc);
+    for symbol in elf.lazy_symbols() {
+        if symbol.is_named() {
+            symbols.push(symbol)?;
+        }
+    }
+    Ok(symbols)
+}
+
+/// Puts symbols in the order of their values. Those of one value stay in their order.
+fn sort_by_value(symbols: &mut Vec<LazySymbol>) -> Result<(), AllocError>
+    ensures ascend { OnOk result (Ascend symbols.new.items) }
+    ensures lines { OnOk result (HaveLines (map shown_lazy symbols.old.items) (map shown_lazy symbols.new.items)) }
+{
+    symbols.sort_by_key(|symbol| symbol.value)?;
+    Ok(())
+}
+
+/// The symbols of a file that may be labels, in the order of their values. Those of one value stand in their order in the
+/// file. A program may have a million symbols and a million words, so not every word can look at every symbol.
+#[tactic(auto, using(crate::proofs::Values::ordered))]
+pub fn ordered_symbols<'a>(alloc: Global, elf: &Elf<'a>) -> Result<Vec<LazySymbol<'a>>, AllocError>
+    ensures ascend { IfOk result (λ symbols. Ascend symbols.items) }
+    ensures lines { IfOk result (λ symbols. HaveLines (symbols_of elf.now) (map shown_lazy symbols.items)) }
+{
+    let mut symbols = named_symbols(alloc, elf)?;
+    sort_by_value(&mut symbols)?;
+    Ok(symbols)
+}

@@ -1,5 +1,0 @@
-use Rattle.cf_ledger.proofs.Longest.{chain-is, chain-sum}
-use Rattle.cf_ledger.proofs.laws.chain_is_longest.Goals as goal
-
-pub returns : goal.returns
-returns c = record { chain = chain-is; sum = chain-sum }

@@ -1,9 +1,0 @@
-use Rattle.std.proofs.Common.{◌≡◌, ◌+◌, ◌++◌, drop, length}
-use Rattle.cf_ledger.proofs.places.push_all.Given as goal
-
--- those that are there and those that are left make the whole list
-abbrev pub invariant-loop-place : goal.invariant-loop-place
-invariant-loop-place l = record {
-  places : l.places.items ++ drop l.place-index l.more ≡ l.initial.places.items ++ l.more;
-  size : length l.places.items ≡ length l.initial.places.items + l.place-index;
-}

@@ -1,2 +1,0 @@
-pub mod Bars
-pub mod Scripts

@@ -1,3 +1,0 @@
-pub mod Texts
-pub mod Retirement
-pub mod Room

@@ -1,7 +1,0 @@
--- How much a page has room for.
-use Rattle.std.specs.Prelude.{ℕ}
-use Rattle.cf_texts.specs.declared.page.TheConstants.{ROOM}
-
--- the bytes that a page has room for
-abbrev pub page_room : ℕ
-page_room = ROOM

@@ -1,0 +1,85 @@
+-- One turn of the loop over the words, and what is answered after it.
+use Rattle.std.proofs.Common.{◌≡◌, ◌≤◌, ◌<◌, ◌+◌, ℕ, List, [], ◌∷◌, length, map, take, get_or, arith, Option, Some, None, option_map, Result, Ok, Err, MatchResult, IfOk, sym, ◌∙◌, subst, ap}
+use Rattle.std.specs.Option.{ok_or}
+use Rattle.std.proofs.lemmas.List.{get_or-map, length-map, length-take-le, take_more, take_all}
+use Rattle.cli_arguments.specs.Words.{Asked, Asks, IsBadAt, IsBounded}
+use Rattle.cli_arguments.specs.Reading.{State, start, follow, completed}
+use Rattle.cli_arguments.proofs.InTurn.{after, reads, reads-append}
+use Rattle.cli_arguments.proofs.Bounds.{asks-bounded}
+use Rattle.cli_arguments.proofs.Grammar.{reads-sound}
+use Rattle.cli_arguments.proofs.Reached.{few-read}
+use Rattle.cli_arguments.proofs.BadWords.{bad-word, bad-end}
+
+-- the word that the loop looks at
+word-at : {X : Type 0} → (bytes : X → List ℕ) (items : List X) (index : ℕ) (item : X) →
+    index < length items →
+    item ≡ get_or items index item → get_or (map bytes items) index [] ≡ bytes item
+word-at bytes items index item inside at =
+    get_or-map bytes items index item [] inside ∙ ap (λ x. bytes x) (sym at)
+
+-- a word that has no place
+pub stops : {X : Type 0} → (bytes : X →
+    List ℕ) (items : List X) (index count : ℕ) (item : X) (state : State) (word : List ℕ) →
+    index < length items → item ≡ get_or items index item → count ≡ index →
+    reads start (take count (map bytes items)) ≡ Some state → word ≡ bytes item →
+    None ≡ follow state word →
+    IsBadAt (map bytes items) count
+stops bytes items index count item state word inside at counted h word-is none =
+    let w : get_or (map bytes items) count [] ≡ word =
+    ap (λ (n : ℕ). get_or (map bytes items) n []) counted
+    ∙ (word-at bytes items index item inside at ∙ sym word-is) in
+    bad-word (map bytes items) count state (omega (arith, length-map items bytes)) h
+    (ap (λ (v : List ℕ). follow state v) w ∙ sym none)
+
+-- a word that has a place
+pub goes-on : {X : Type 0} → (bytes : X →
+    List ℕ) (items : List X) (index count : ℕ) (item : X) (state later : State)
+    (word : List ℕ) → index < length items → item ≡ get_or items index item → count ≡ index →
+    reads start (take count (map bytes items)) ≡ Some state → word ≡ bytes item →
+    Some later ≡ follow state word →
+    reads start (take (count + 1) (map bytes items)) ≡ Some later
+goes-on bytes items index count item state later word inside at counted h word-is some =
+    let w : get_or (map bytes items) count [] ≡ word =
+    ap (λ (n : ℕ). get_or (map bytes items) n []) counted
+    ∙ (word-at bytes items index item inside at ∙ sym word-is) in
+    let f : follow state (get_or (map bytes items) count []) ≡ Some later =
+    ap (λ (v : List ℕ). follow state v) w ∙ sym some in
+    ap (λ (ws : List (List ℕ)). reads start ws)
+    (take_more (map bytes items) count [] (omega (arith, length-map items bytes)))
+    ∙ (reads-append start (take count (map bytes items)) (get_or (map bytes items) count [] ∷ [])
+    ∙ (ap (λ (o : Option State). after o (λ s. reads s (get_or (map bytes items) count [] ∷ []))) h
+    ∙ ap (λ (o : Option State). after o (λ s. reads s [])) f))
+
+-- the count of words stays small
+pub count-few : {X : Type 0} → (bytes : X → List ℕ) (items : List X) (count : ℕ) (state : State) →
+    count ≤ length items → reads start (take count (map bytes items)) ≡ Some state → count ≤ 22
+count-few bytes items count state inside h =
+    let f : length (take count (map bytes items)) ≤ 22 = few-read (take count (map bytes items)) state
+    h in
+    omega (arith, length-take-le count (map bytes items) (omega (arith, length-map items bytes)))
+
+-- what is answered to an accepted command and to words that are refused
+abbrev pub Answers : {C : Type 0} → List (List ℕ) → (C → Asked) → Result C ℕ → Type 0
+Answers words asks result =
+    MatchResult result (λ command. Asks words (asks command)) (λ index. IsBadAt words index)
+
+pub answers-bounded : {C : Type 0} → (words : List (List ℕ)) (asks : C → Asked) (result : Result C ℕ) →
+    Answers words asks result → IfOk result (λ command. IsBounded (asks command))
+answers-bounded words asks (Ok command) answers = asks-bounded words (asks command) answers
+answers-bounded words asks (Err index) answers = tt
+
+-- after the last word
+pub ends : {X C : Type 0} → (bytes : X →
+    List ℕ) (items : List X) (count : ℕ) (state : State) (asks : C → Asked)
+    (found : Option C) → count ≡ length items → reads start (take count (map bytes items)) ≡ Some state →
+    option_map asks found ≡ completed (map bytes items) state →
+    MatchResult (ok_or found count) (λ command. Asks (map bytes items) (asks command))
+    (λ index. IsBadAt (map bytes items) index)
+ends bytes items count state asks None counted h done =
+    bad-end (map bytes items) count state (counted ∙ sym (length-map items bytes)) h (sym done)
+ends bytes items count state asks (Some command) counted h done =
+    let w : take count (map bytes items) ≡ map bytes items =
+    take_all count (map bytes items) (omega (arith, length-map items bytes)) in
+    let r : reads start (map bytes items) ≡ Some state =
+    subst (λ (ws : List (List ℕ)). reads start ws ≡ Some state) w h in
+    reads-sound (map bytes items) state (asks command) r (sym done)

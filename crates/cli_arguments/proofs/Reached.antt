@@ -1,0 +1,227 @@
+-- Which states are reached, and how many words lead there: twenty-two at most.
+use Rattle.std.proofs.Common.{◌≡◌, ◌≤◌, ◌+◌, ℕ, List, [], ◌∷◌, length, Bool, true, false, refl, arith, Option, Some, None, inl, inr, ◌||◌, sym, ◌∙◌, subst, ap}
+use Rattle.std.proofs.lemmas.Bool.Decides.{nat_tests}
+use Rattle.cli_arguments.specs.declared.names.Name.{Name}
+use Rattle.cli_arguments.specs.declared.names.Name.TheVariants as names
+use Rattle.cli_arguments.specs.declared.options.Key.{Key}
+use Rattle.cli_arguments.specs.declared.options.Key.TheVariants as keys
+use Rattle.cli_arguments.specs.declared.reading.Subject.{Subject}
+use Rattle.cli_arguments.specs.Commands.{fewest, most}
+use Rattle.cli_arguments.specs.Options.{key_of, takes_key, Setting, limit_to, show_lines, show_sites, script_from, seed_from, with_mul, with_run, Given}
+use Rattle.cli_arguments.specs.Reading.{State, start, placed, options, valued, follow, after_key, has_key, is_there, nothing_given}
+use Rattle.cli_arguments.proofs.Steps.{put, start-read, place-tests, placed-read, option-read, value-read}
+use Rattle.cli_arguments.proofs.InTurn.{reads, reads-split, none-left}
+
+-- an option that has a value
+abbrev pub has_value : Key → Bool
+has_value keys.Mul = false
+has_value keys.Run = false
+has_value _ = true
+
+-- as many positional words as the command may have
+pub record HasPlaces (subject : Subject) : Type 0 where
+  pub enough : fewest subject.name ≤ subject.count
+  pub few : subject.count ≤ most subject.name
+
+-- which states are reached: not too many positional words, enough before the options, and an option of the command
+-- that has a value and has not occurred before
+abbrev pub Reached : State → Type 0
+Reached start = Unit {0}
+Reached (placed subject) = subject.count ≤ most subject.name
+Reached (options subject given) = HasPlaces subject
+Reached (valued subject given key) =
+    HasPlaces subject × (takes_key subject.name key ≡ true) × (has_value key ≡ true)
+    × (has_key given key ≡ false)
+
+reached-key : (key : Key) (subject : Subject) (given : Given) → HasPlaces subject →
+    takes_key subject.name key ≡ true → has_key given key ≡ false →
+    Reached (after_key subject given key)
+reached-key keys.Limit subject given places taken fresh = (places, taken, refl, fresh)
+reached-key keys.Show subject given places taken fresh = (places, taken, refl, fresh)
+reached-key keys.Script subject given places taken fresh = (places, taken, refl, fresh)
+reached-key keys.Seed subject given places taken fresh = (places, taken, refl, fresh)
+reached-key keys.Mul subject given places taken fresh = places
+reached-key keys.Run subject given places taken fresh = places
+
+reached-option : (subject : Subject) (given : Given) (word : List ℕ) (later : State) → HasPlaces subject →
+    follow (options subject given) word ≡ Some later → Reached later
+reached-option subject given word later places h =
+    let r = option-read subject given word later h in
+    subst Reached (sym r.after_is) (reached-key r.key subject given places r.taken r.fresh)
+
+reached-next : (state : State) (word : List ℕ) (later : State) → Reached state →
+    follow state word ≡ Some later → Reached later
+reached-next start word later reached h =
+    let r = start-read word later h in subst Reached (sym r.after_is) (omega arith)
+reached-next (placed subject) word later reached h = elim (placed-read subject word later h) [
+  | inl (place, is) ↦
+      let t = place-tests subject word place in subst Reached (sym is) (omega (arith, t.0))
+  | inr (enough, followed) ↦
+      let n : fewest subject.name ≤ subject.count = grind (arith, nat_tests, enough) in
+      reached-option subject nothing_given word later (record { enough = n; few = reached }) followed
+]
+reached-next (options subject given) word later reached h =
+    reached-option subject given word later reached h
+reached-next (valued subject given key) word later reached h =
+    let r = value-read key subject given word later h in subst Reached (sym r.after_is) reached.0
+
+pub reached-last : (words : List (List ℕ)) (state last : State) → Reached state →
+    reads state words ≡ Some last → Reached last
+reached-last [] state last reached h = subst Reached (none-left state last h) reached
+reached-last (word ∷ words) state last reached h =
+    let s = reads-split state word words last h in
+    reached-last words s.later last (reached-next state word s.later reached s.followed) s.rest
+
+-- how many words were read
+abbrev size_of : {A : Type 0} → Option A → ℕ
+size_of None = 0
+size_of (Some x) = 2
+
+abbrev size_if : ℕ → Bool → ℕ
+size_if n true = n
+size_if n false = 0
+
+abbrev given_size : Given → ℕ
+given_size given =
+    size_of given.limit + (size_of given.show + (size_if 2 given.sites + (size_of given.schedule
+    + (size_if 1 given.mul + size_if 1 given.run))))
+
+abbrev size : State → ℕ
+size start = 0
+size (placed subject) = 1 + subject.count
+size (options subject given) = 1 + (subject.count + given_size given)
+size (valued subject given key) = 2 + (subject.count + given_size given)
+
+not-there-size : {A : Type 0} → (o : Option A) → is_there o ≡ false → size_of o ≡ 0
+not-there-size None h = refl
+not-there-size (Some x) h = absurd (cc)
+
+size-if-false : (n : ℕ) (b : Bool) → b ≡ false → size_if n b ≡ 0
+size-if-false n true h = absurd (cc)
+size-if-false n false h = refl
+
+neither : (a b : Bool) → (a || b) ≡ false → (a ≡ false) × (b ≡ false)
+neither true b h = absurd (cc)
+neither false b h = (refl, h)
+
+size-key : (key : Key) (subject : Subject) (given : Given) → has_key given key ≡ false →
+    size (after_key subject given key) ≡ size (options subject given) + 1
+size-key keys.Limit subject given fresh = omega arith
+size-key keys.Show subject given fresh = omega arith
+size-key keys.Script subject given fresh = omega arith
+size-key keys.Seed subject given fresh = omega arith
+size-key keys.Mul subject given fresh = omega (arith, size-if-false 1 given.mul fresh)
+size-key keys.Run subject given fresh = omega (arith, size-if-false 1 given.run fresh)
+
+size-value : (setting : Setting) (subject : Subject) (given : Given) → has_value (key_of setting) ≡ true →
+    has_key given (key_of setting) ≡ false →
+    size (options subject (put given setting)) ≡ size (valued subject given (key_of setting)) + 1
+size-value (limit_to digits) subject given value fresh = omega (arith, not-there-size given.limit fresh)
+size-value (show_lines lines) subject given value fresh =
+    omega (arith, not-there-size given.show (neither (is_there given.show) given.sites fresh).0)
+size-value show_sites subject given value fresh =
+    omega (arith, size-if-false 2 given.sites (neither (is_there given.show) given.sites fresh).1)
+size-value (script_from file) subject given value fresh = omega (arith, not-there-size given.schedule fresh)
+size-value (seed_from digits) subject given value fresh = omega (arith, not-there-size given.schedule fresh)
+size-value with_mul subject given value fresh = absurd (cc)
+size-value with_run subject given value fresh = absurd (cc)
+
+size-option : (subject : Subject) (given : Given) (word : List ℕ) (later : State) →
+    follow (options subject given) word ≡ Some later →
+    size later ≡ size (options subject given) + 1
+size-option subject given word later h =
+    let r = option-read subject given word later h in
+    ap size r.after_is ∙ size-key r.key subject given r.fresh
+
+size-next : (state : State) (word : List ℕ) (later : State) → Reached state →
+    follow state word ≡ Some later → size later ≡ size state + 1
+size-next start word later reached h = let r = start-read word later h in ap size r.after_is
+size-next (placed subject) word later reached h = elim (placed-read subject word later h) [
+  | inl (place, is) ↦ let e = ap size is in omega (arith, e)
+  | inr (enough, followed) ↦ let e = size-option subject nothing_given word later followed in omega (arith, e)
+]
+size-next (options subject given) word later reached h = size-option subject given word later h
+size-next (valued subject given key) word later reached h =
+    let r = value-read key subject given word later h in
+    let v : has_value (key_of r.setting) ≡ true = subst (λ k. has_value k ≡ true) (sym r.key_is)
+    reached.2 in
+    let f : has_key given (key_of r.setting) ≡ false = subst (λ k. has_key given k ≡ false)
+    (sym r.key_is) reached.3 in
+    ap size r.after_is ∙ size-value r.setting subject given v f
+
+size-last : (words : List (List ℕ)) (state last : State) → Reached state → reads state words ≡ Some last →
+    size last ≡ size state + length words
+size-last [] state last reached h = let s = ap size (none-left state last h) in omega (arith, s)
+size-last (word ∷ words) state last reached h =
+    let s = reads-split state word words last h in
+    let a : size s.later ≡ size state + 1 = size-next state word s.later reached s.followed in
+    let b : size last ≡ size s.later + length words =
+    size-last words s.later last (reached-next state word s.later reached s.followed) s.rest in
+    omega arith
+
+-- the words that were read are as many as its state says
+pub words-read : (words : List (List ℕ)) (last : State) → reads start words ≡ Some last →
+    size last ≡ length words
+words-read words last h = let s = size-last words start last tt h in omega (arith, s)
+
+-- so there are at least as many words as a command and its positional words have
+abbrev pub Stands : ℕ → State → Type 0
+Stands length start = Unit {0}
+Stands length (placed subject) = 1 + subject.count ≤ length
+Stands length (options subject given) = 1 + subject.count ≤ length
+Stands length (valued subject given key) = 1 + subject.count ≤ length
+
+pub stands : (state : State) (n : ℕ) → size state ≡ n → Stands n state
+stands start n h = tt
+stands (placed subject) n h = omega (arith, h)
+stands (options subject given) n h = omega (arith, h)
+stands (valued subject given key) n h = omega (arith, h)
+
+size-of-few : {A : Type 0} → (o : Option A) → size_of o ≤ 2
+size-of-few None = omega arith
+size-of-few (Some x) = omega arith
+
+size-if-few : (n : ℕ) (b : Bool) → size_if n b ≤ n
+size-if-few n true = omega arith
+size-if-few n false = omega arith
+
+most-few : (name : Name) → most name ≤ 10
+most-few names.Machine = omega arith
+most-few names.Run = omega arith
+most-few names.Moves = omega arith
+most-few names.Rounds = omega arith
+most-few names.Debug = omega arith
+most-few names.Time = omega arith
+most-few names.Audit = omega arith
+most-few names.Check = omega arith
+most-few names.Asm = omega arith
+most-few names.List = omega arith
+most-few names.Gen = omega arith
+most-few names.Help = omega arith
+most-few names.HelpOption = omega arith
+most-few names.Version = omega arith
+
+given-few : (given : Given) → given_size given ≤ 10
+given-few given = omega (
+  arith,
+  size-of-few given.limit,
+  size-of-few given.show,
+  size-if-few 2 given.sites,
+  size-of-few given.schedule,
+  size-if-few 1 given.mul,
+  size-if-few 1 given.run,
+)
+
+size-few : (state : State) → Reached state → size state ≤ 22
+size-few start reached = omega arith
+size-few (placed subject) reached = omega (arith, reached, most-few subject.name)
+size-few (options subject given) reached =
+    omega (arith, reached.few, most-few subject.name, given-few given)
+size-few (valued subject given key) reached =
+    omega (arith, reached.0.few, most-few subject.name, given-few given)
+
+-- no more words can be read
+pub few-read : (words : List (List ℕ)) (last : State) → reads start words ≡ Some last → length words ≤ 22
+few-read words last h =
+    let s = words-read words last h in
+    omega (arith, s, size-few last (reached-last words start last tt h))

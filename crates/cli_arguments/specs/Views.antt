@@ -1,0 +1,63 @@
+-- What contracts see of the types that borrow words of the command line: the bytes of those words.
+use Rattle.std.specs.Prelude.{map, string_bytes, option_map}
+use Rattle.cli_arguments.specs.declared.options.Options.{Options}
+use Rattle.cli_arguments.specs.declared.options.Schedule as rust_schedule
+use Rattle.cli_arguments.specs.declared.options.Schedule.TheVariants as schedules
+use Rattle.cli_arguments.specs.declared.reading.Reading as rust_reading
+use Rattle.cli_arguments.specs.declared.reading.Reading.TheVariants as readings
+use Rattle.cli_arguments.specs.declared.command.Command.{Command}
+use Rattle.cli_arguments.specs.declared.command.Command.TheVariants as commands
+use Rattle.cli_arguments.specs.declared.command.LayoutWord.{LayoutWord}
+use Rattle.cli_arguments.specs.declared.command.LayoutWord.TheVariants as layout_words
+use Rattle.cli_arguments.specs.Options.{Schedule, by_script, by_seed, by_rule, Given}
+use Rattle.cli_arguments.specs.Words.{Layout, plain, in_file, layout_in, Asked, machine, run, moves, rounds, debug, time, audit, check, asm, listing, gen, help, version}
+use Rattle.cli_arguments.specs.Reading.{State, start, placed, options, valued}
+
+-- what chooses the moves
+abbrev pub schedule_view : rust_schedule.Schedule → Schedule
+schedule_view (schedules.Script file) = by_script file.now
+schedule_view (schedules.Seed seed) = by_seed seed
+schedule_view schedules.Rule = by_rule
+
+-- what the options give
+abbrev pub given_of : Options → Given
+given_of o = record {
+  limit = o.limit;
+  show = o.show;
+  sites = o.sites;
+  schedule = option_map schedule_view o.schedule;
+  mul = o.mul;
+  run = o.run;
+}
+
+-- what is known after the words that were read
+abbrev pub state_of : rust_reading.Reading → State
+state_of readings.Start = start
+state_of (readings.Placed subject) = placed subject
+state_of (readings.Options subject given) = options subject (given_of given)
+state_of (readings.Value subject given key) = valued subject (given_of given) key
+
+-- where a layout is
+abbrev pub layout_of : LayoutWord → Layout
+layout_of layout_words.Plain = plain
+layout_of (layout_words.File name) = in_file name.now
+
+-- what a command asks
+abbrev pub asked_of : Command → Asked
+asked_of (commands.Machine program chosen) =
+    machine program.now chosen.limit chosen.show_retired chosen.mul
+asked_of (commands.Run layout program chosen) =
+    run (layout_of layout) program.now (schedule_view chosen.schedule) chosen.limit chosen.show
+asked_of (commands.Moves layout program schedule limit) =
+    moves (layout_of layout) program.now (schedule_view schedule) limit
+asked_of (commands.Rounds layout program limit) = rounds (layout_of layout) program.now limit
+asked_of (commands.Debug layout program) = debug (layout_of layout) program.now
+asked_of (commands.Time delays program layouts chosen) =
+    time delays.now program.now (map layout_in (map string_bytes layouts.now)) chosen.limit chosen.sites
+asked_of (commands.Audit layout program trace) = audit (layout_of layout) program.now trace.now
+asked_of (commands.Check layout) = check (layout_of layout)
+asked_of (commands.Asm source) = asm source.now
+asked_of (commands.List program) = listing program.now
+asked_of (commands.Gen number runs) = gen number runs
+asked_of commands.Help = help
+asked_of commands.Version = version

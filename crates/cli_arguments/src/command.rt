@@ -1,0 +1,313 @@
+//! What the words of the command line ask.
+#![tactic(auto, unfolding(crate::specs::Reading::completed))]
+
+ghost use Rattle.std.specs.Prelude.{◌≡◌, ◌≤◌, [], ◌∷◌, IfOk, MatchResult, drop, length, map, string_bytes, option_map, take};
+ghost use Rattle.cli_arguments.specs.Options.{Given};
+ghost use Rattle.cli_arguments.specs.Words.{Asks, IsBadAt, IsBounded, asked_by, layout_in};
+ghost use Rattle.cli_arguments.specs.Reading.{completed};
+ghost use Rattle.cli_arguments.specs.Views.{state_of, given_of, asked_of, layout_of};
+
+use crate::names::Name;
+use crate::numbers::read_count;
+use crate::options::{Options, Schedule};
+use crate::reading::Reading;
+use run_options::Show;
+
+/// The limit where `--limit` is not given.
+pub const DEFAULT_LIMIT: u64 = 10_000_000;
+
+/// The options of `machine`.
+#[derive(Clone, Copy)]
+pub struct MachineOptions {
+    /// How many instructions are retired at most.
+    pub limit: u64,
+    /// Whether each retired instruction has a line.
+    pub show_retired: bool,
+    /// Whether multiplication and division are among the instructions.
+    pub mul: bool,
+}
+
+/// The options of `run`.
+#[derive(Clone, Copy)]
+pub struct RunOptions<'a> {
+    /// What chooses the moves.
+    pub schedule: Schedule<'a>,
+    /// How many instructions are retired at most.
+    pub limit: u64,
+    /// What is shown before the closing report.
+    pub show: Show,
+}
+
+/// The options of `time`.
+#[derive(Clone, Copy)]
+pub struct TimeOptions {
+    /// How many instructions each run retires at most.
+    pub limit: u64,
+    /// Whether it is shown what each time is made of.
+    pub sites: bool,
+}
+
+/// Where a layout is.
+#[derive(Clone, Copy)]
+pub enum LayoutWord<'a> {
+    /// The built-in layout, which the word `plain` names.
+    Plain,
+    /// The name of a file.
+    File(&'a str),
+}
+
+/// A command, with the files that it names.
+#[derive(Clone, Copy)]
+pub enum Command<'a> {
+    /// Runs the sequential machine.
+    Machine {
+        program: &'a str,
+        options: MachineOptions,
+    },
+    /// Runs the processor.
+    Run {
+        layout: LayoutWord<'a>,
+        program: &'a str,
+        options: RunOptions<'a>,
+    },
+    /// Runs the processor by a script, and says which moves can be made at its end.
+    Moves {
+        layout: LayoutWord<'a>,
+        program: &'a str,
+        schedule: Schedule<'a>,
+        limit: u64,
+    },
+    /// Runs the processor in rounds of independent moves.
+    Rounds {
+        layout: LayoutWord<'a>,
+        program: &'a str,
+        limit: u64,
+    },
+    /// Debugs a run of the processor.
+    Debug {
+        layout: LayoutWord<'a>,
+        program: &'a str,
+    },
+    /// Compares how long a program takes on one to eight layouts, each named by a word.
+    Time {
+        delays: &'a str,
+        program: &'a str,
+        layouts: &'a [String],
+        options: TimeOptions,
+    },
+    /// Says whether a recorded trace is that of a run.
+    Audit {
+        layout: LayoutWord<'a>,
+        program: &'a str,
+        trace: &'a str,
+    },
+    /// Writes the layout's one text.
+    Check {
+        layout: LayoutWord<'a>,
+    },
+    /// Assembles.
+    Asm {
+        source: &'a str,
+    },
+    /// Writes the listing of a program.
+    List {
+        program: &'a str,
+    },
+    /// Writes the text of a drawn program, or runs it.
+    Gen {
+        number: u32,
+        run: bool,
+    },
+    /// Writes the help text.
+    Help,
+    /// Writes the version.
+    Version,
+}
+
+impl<'a> LayoutWord<'a> {
+    /// The layout that a word names.
+    pub fn from_word(word: &'a str) -> Self
+        ensures { layout_of result ≡ layout_in word.entry.now }
+    {
+        match word {
+            "plain" => LayoutWord::Plain,
+            name => LayoutWord::File(name),
+        }
+    }
+}
+
+/// A command without positional words.
+fn bare<'a>(name: Name) -> Option<Command<'a>>
+    ensures { (given : Given) → option_map asked_of result ≡ asked_by name [] given }
+{
+    match name {
+        Name::Help | Name::HelpOption => Some(Command::Help),
+        Name::Version => Some(Command::Version),
+        Name::Machine | Name::Run | Name::Moves | Name::Rounds | Name::Debug => None,
+        Name::Time | Name::Audit | Name::Check | Name::Asm | Name::List | Name::Gen => None,
+    }
+}
+
+/// A command with one positional word.
+fn with_one<'a>(name: Name, word: &'a str, options: Options<'a>) -> Option<Command<'a>>
+    ensures { option_map asked_of result ≡ asked_by name (word.entry.now ∷ []) (given_of options.entry) }
+{
+    match name {
+        Name::Machine => Some(Command::Machine {
+            program: word,
+            options: MachineOptions {
+                limit: options.limit.unwrap_or(DEFAULT_LIMIT),
+                show_retired: matches!(options.show.unwrap_or(Show::Report), Show::Retired),
+                mul: options.mul,
+            },
+        }),
+        Name::Check => Some(Command::Check {
+            layout: LayoutWord::from_word(word),
+        }),
+        Name::Asm => Some(Command::Asm { source: word }),
+        Name::List => Some(Command::List { program: word }),
+        Name::Gen => {
+            let number = read_count(word)?;
+            Some(Command::Gen {
+                number,
+                run: options.run,
+            })
+        }
+        Name::Run | Name::Moves | Name::Rounds | Name::Debug | Name::Time | Name::Audit => None,
+        Name::Help | Name::HelpOption | Name::Version => None,
+    }
+}
+
+/// A command with two: a layout and a program.
+fn with_two<'a>(
+    name: Name,
+    layout: &'a str,
+    program: &'a str,
+    options: Options<'a>,
+) -> Option<Command<'a>>
+    ensures { option_map asked_of result
+        ≡ asked_by name (layout.entry.now ∷ program.entry.now ∷ []) (given_of options.entry) }
+{
+    let layout = LayoutWord::from_word(layout);
+    let limit = options.limit.unwrap_or(DEFAULT_LIMIT);
+    match name {
+        Name::Run => Some(Command::Run {
+            layout,
+            program,
+            options: RunOptions {
+                schedule: options.schedule.unwrap_or(Schedule::Rule),
+                limit,
+                show: options.show.unwrap_or(Show::Report),
+            },
+        }),
+        Name::Moves => {
+            let schedule = options.schedule?;
+            Some(Command::Moves {
+                layout,
+                program,
+                schedule,
+                limit,
+            })
+        }
+        Name::Rounds => Some(Command::Rounds {
+            layout,
+            program,
+            limit,
+        }),
+        Name::Debug => Some(Command::Debug { layout, program }),
+        Name::Machine | Name::Time | Name::Audit | Name::Check | Name::Asm | Name::List => None,
+        Name::Gen | Name::Help | Name::HelpOption | Name::Version => None,
+    }
+}
+
+/// A command with three or more.
+fn with_more<'a>(
+    name: Name,
+    first: &'a str,
+    program: &'a str,
+    others: &'a [String],
+    options: Options<'a>,
+) -> Option<Command<'a>>
+    requires { 1 ≤ length others.now }
+    ensures { option_map asked_of result ≡ asked_by name
+        (first.entry.now ∷ program.entry.now ∷ map string_bytes others.entry.now) (given_of options.entry) }
+{
+    match (name, others) {
+        (Name::Time, layouts) => Some(Command::Time {
+            delays: first,
+            program,
+            layouts,
+            options: TimeOptions {
+                limit: options.limit.unwrap_or(DEFAULT_LIMIT),
+                sites: options.sites,
+            },
+        }),
+        (Name::Audit, [trace]) => Some(Command::Audit {
+            layout: LayoutWord::from_word(first),
+            program,
+            trace: trace.as_str(),
+        }),
+        _ => None,
+    }
+}
+
+/// A command with these positional words and options, or None where a word is missing.
+fn with_words<'a>(name: Name, positional: &'a [String], options: Options<'a>) -> Option<Command<'a>>
+    ensures { option_map asked_of result
+        ≡ asked_by name (map string_bytes positional.entry.now) (given_of options.entry) }
+{
+    match positional {
+        [] => bare(name),
+        [word] => with_one(name, word.as_str(), options),
+        [layout, program] => with_two(name, layout.as_str(), program.as_str(), options),
+        [first, program, others @ ..] => {
+            with_more(name, first.as_str(), program.as_str(), others, options)
+        }
+    }
+}
+
+/// The positional words: `count` words after the first.
+fn positional(words: &[String], count: usize) -> &[String]
+    ensures { result.now ≡ take count (drop 1 words.now) }
+{
+    let later = words.get(1..).unwrap_or(&[]);
+    later.get(..count).unwrap_or(later)
+}
+
+/// What is asked where no word is left, or None where one is missing.
+#[tactic(auto, using(crate::proofs::Completions::mapped), unfolding(crate::specs::Reading::completed))]
+fn complete<'a>(words: &'a [String], reading: Reading<'a>) -> Option<Command<'a>>
+    ensures { option_map asked_of result ≡ completed (map string_bytes words.entry.now) (state_of reading.entry) }
+{
+    match reading {
+        Reading::Placed(subject) => with_words(
+            subject.name,
+            positional(words, subject.count),
+            Options::new(),
+        ),
+        Reading::Options(subject, options) => {
+            with_words(subject.name, positional(words, subject.count), options)
+        }
+        Reading::Start | Reading::Value(..) => None,
+    }
+}
+
+/// What the words ask, or the index of the first word that has no place, which is their number where a word is missing.
+pub fn read_words(words: &[String]) -> Result<Command<'_>, u32>
+    ensures answers { MatchResult result
+        (λ command. Asks (map string_bytes words.now) (asked_of command))
+        (λ index. IsBadAt (map string_bytes words.now) index) }
+    ensures bounded { IfOk result (λ command. IsBounded (asked_of command)) }
+{
+    let mut reading = Reading::Start;
+    // No command has more than twenty-two words, so the index stays small.
+    let mut index: u32 = 0;
+    for word in words {
+        let Some(later) = reading.follow(word.as_str()) else {
+            return Err(index);
+        };
+        reading = later;
+        index += 1;
+    }
+    complete(words, reading).ok_or(index)
+}

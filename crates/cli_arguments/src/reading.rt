@@ -1,0 +1,117 @@
+//! The words read one by one: what is known after each of them.
+#![tactic(auto, unfolding(crate::specs::Reading::follow))]
+
+ghost use Rattle.std.specs.Prelude.{◌≡◌, ◌+◌, ◌<◌, ◌^◌, option_map};
+ghost use Rattle.cli_arguments.specs.Reading.{follow, has_place, one_more, after_option, after_place, nothing_given};
+ghost use Rattle.cli_arguments.specs.Views.{given_of, state_of};
+
+use crate::names::Name;
+use crate::options::{Key, Options};
+
+/// A command with this many positional words.
+#[derive(Clone, Copy)]
+pub(crate) struct Subject {
+    pub(crate) name: Name,
+    pub(crate) count: usize,
+}
+
+/// What is known after the words that were read.
+#[derive(Clone, Copy)]
+pub(crate) enum Reading<'a> {
+    /// No word yet.
+    Start,
+    /// The command and the positional words that stood there.
+    Placed(Subject),
+    /// All positional words, and some options.
+    Options(Subject, Options<'a>),
+    /// An option whose value comes next.
+    Value(Subject, Options<'a>, Key),
+}
+
+impl Subject {
+    /// Whether one more positional word may stand there, and this is one.
+    fn has_place(&self, word: &str) -> bool
+        ensures { result ≡ has_place self.now word.now }
+    {
+        self.count < self.name.most() && self.name.is_positional(word)
+    }
+
+    /// With one more positional word.
+    fn one_more(self) -> Self
+        requires { self.count + 1 < 2 ^ 64 }
+        ensures { result ≡ one_more self }
+    {
+        Subject {
+            name: self.name,
+            count: self.count + 1,
+        }
+    }
+}
+
+/// What is known after an option's own word.
+fn after_subject<'a>(
+    subject: Subject,
+    options: Options<'a>,
+    key: Option<Key>,
+) -> Option<Reading<'a>>
+    ensures { option_map state_of result ≡ after_option subject (given_of options.entry) key }
+{
+    let key = key?;
+    if !key.is_of(subject.name) || options.has(key) {
+        return None;
+    }
+    match key {
+        Key::Mul => Some(Reading::Options(
+            subject,
+            Options {
+                mul: true,
+                ..options
+            },
+        )),
+        Key::Run => Some(Reading::Options(
+            subject,
+            Options {
+                run: true,
+                ..options
+            },
+        )),
+        Key::Limit | Key::Show | Key::Script | Key::Seed => Some(Reading::Value(
+            subject, options, key,
+        )),
+    }
+}
+
+/// What is known after one more positional word, or after the first option's own word.
+fn after_place<'a>(subject: Subject, word: &'a str) -> Option<Reading<'a>>
+    ensures { option_map state_of result ≡ after_place subject word.entry.now }
+{
+    if subject.has_place(word) {
+        return Some(Reading::Placed(subject.one_more()));
+    }
+    if subject.name.fewest() > subject.count {
+        return None;
+    }
+    after_subject(subject, Options::new(), Key::from_word(word))
+}
+
+impl<'a> Reading<'a> {
+    /// What is known after one more word, or None where that word has no place.
+    pub(crate) fn follow(self, word: &'a str) -> Option<Self>
+        ensures { option_map state_of result ≡ follow (state_of self.entry) word.entry.now }
+    {
+        match self {
+            Reading::Start => {
+                let name = Name::from_word(word)?;
+                Some(Reading::Placed(Subject { name, count: 0 }))
+            }
+            Reading::Placed(subject) => after_place(subject, word),
+            Reading::Options(subject, options) => {
+                after_subject(subject, options, Key::from_word(word))
+            }
+            Reading::Value(subject, options, key) => {
+                let options = options.with_value(subject.name, key, word)?;
+                Some(Reading::Options(subject, options))
+            }
+        }
+    }
+}

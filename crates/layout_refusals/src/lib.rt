@@ -1,8 +1,0 @@
-//! The reports of refused layouts.
-#![tactic(auto)]
-
-mod cutting;
-mod kept;
-mod report;
-
-pub use report::bad_layout;

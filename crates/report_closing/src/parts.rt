@@ -1,0 +1,66 @@
+//! The order of all moves, part by part.
+
+ghost use Rattle.std.specs.Prelude.{◌≡◌};
+ghost use Rattle.report_closing.specs.Parts.{move_at};
+
+use cf_bind::{Guess, Move};
+
+/// The kinds of moves that are made at a stage.
+#[derive(Clone, Copy)]
+pub(crate) enum StageMove {
+    Climb,
+    Fall,
+    Meet,
+    Execute,
+    Send,
+    Launch,
+    Recover,
+}
+
+/// A part of the order of all moves.
+#[derive(Clone, Copy)]
+pub(crate) enum Part {
+    /// One move.
+    One(Move),
+    /// Those of a kind at each stage.
+    Stages(StageMove),
+    /// Those from each cell of each siding.
+    Slides,
+}
+
+/// All moves but the issue with an address.
+pub(crate) const PARTS: [Part; 16] = [
+    Part::One(Move::Issue(Guess::Next)),
+    Part::One(Move::Issue(Guess::Taken)),
+    Part::One(Move::Issue(Guess::Wait)),
+    Part::One(Move::Emit),
+    Part::Stages(StageMove::Climb),
+    Part::Stages(StageMove::Fall),
+    Part::Stages(StageMove::Meet),
+    Part::Stages(StageMove::Execute),
+    Part::Stages(StageMove::Send),
+    Part::Stages(StageMove::Launch),
+    Part::Slides,
+    Part::One(Move::Access),
+    Part::Stages(StageMove::Recover),
+    Part::One(Move::Leave),
+    Part::One(Move::Exit),
+    Part::One(Move::Serve),
+];
+
+impl StageMove {
+    /// The move of this kind at a stage.
+    pub(crate) fn at(self, stage: u32) -> Move
+        ensures { result ≡ move_at self stage }
+    {
+        match self {
+            StageMove::Climb => Move::Climb(stage),
+            StageMove::Fall => Move::Fall(stage),
+            StageMove::Meet => Move::Meet(stage),
+            StageMove::Execute => Move::Execute(stage),
+            StageMove::Send => Move::Send(stage),
+            StageMove::Launch => Move::Launch(stage),
+            StageMove::Recover => Move::Recover(stage),
+        }
+    }
+}

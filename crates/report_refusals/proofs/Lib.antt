@@ -1,0 +1,2 @@
+pub mod Sourceless
+pub mod Cuts

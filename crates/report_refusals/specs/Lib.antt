@@ -1,0 +1,9 @@
+pub mod Bars
+pub mod Scripts
+pub mod Kept
+pub mod Variants
+pub mod Layouts
+pub mod Sources
+pub mod Programs
+pub mod Delays
+pub mod Traces

@@ -1,0 +1,121 @@
+-- How a ledger of a run is kept: at each place of the processor stands a mark of the last move that used it.
+use Rattle.std.specs.Prelude.{ℕ, ◌+◌, ◌-◌, ◌*◌, ◌^◌, List, [], ◌∷◌, length, map, min, replicate, slice_get, slice_set, unwrap_or, Bool, ◌&&◌, ◌||◌, nat_lt, nat_eq, if◌then◌else◌}
+use Rattle.cf_layout.specs.Layout.{Plan}
+use Rattle.cf_bind.specs.declared.moves.Move.{Move}
+use Rattle.cf_semantics.specs.moves.Candidates.{counted_from}
+use Rattle.cf_semantics.specs.moves.Sites.{Site, Stage, SidingCell, Lane, Fetching, Memory, Code}
+use Rattle.cf_index.specs.Order.{kind_place}
+use Rattle.cf_index.specs.Sites.{used}
+use Rattle.cf_timed.specs.Clocks.{number_at}
+use Rattle.cf_timed.specs.Delays.{delay}
+use Rattle.run_ledger.specs.Breakdowns.{uses_siding, uses_stage}
+use Rattle.run_ledger.specs.declared.breakdown.Breakdown.{Breakdown}
+use Rattle.run_ledger.specs.declared.ledger.Ledger.{Ledger}
+use Rattle.run_ledger.specs.declared.mark.Mark.{Mark}
+
+-- the number of a place among all that moves use
+abbrev pub place_number : Site → ℕ
+place_number Lane = 0
+place_number Fetching = 1
+place_number Memory = 2
+place_number Code = 3
+place_number (Stage i) = 4 + i
+place_number (SidingCell k c) = 38 + 8 * k + c
+place_number _ = 102
+
+-- the mark of a place that no move has used
+abbrev pub no_mark : Mark
+no_mark = record { time = 0; number = 0; kinds = replicate 14 0 }
+
+-- the mark at a place
+abbrev pub mark_at : List Mark → ℕ → Mark
+mark_at marks place = unwrap_or (slice_get marks place) no_mark
+
+-- the second mark is of a move that is done later, or of one that is done at the same time and has a greater number
+abbrev pub is_later : Mark → Mark → Bool
+is_later a b = nat_lt a.time b.time || (nat_eq a.time b.time && nat_lt a.number b.number)
+
+-- the later of two marks
+abbrev pub later : Mark → Mark → Mark
+later a b = if is_later a b then b else a
+
+-- the latest of a mark and some more
+abbrev pub latest_of : Mark → List Mark → Mark
+latest_of mark [] = mark
+latest_of mark (next ∷ marks) = latest_of (later mark next) marks
+
+-- a sum, or the greatest number of 64 bits where that is less
+abbrev pub plus : ℕ → ℕ → ℕ
+plus a b = min (a + b) (2 ^ 64 - 1)
+
+-- a number, and this much more where it counts
+abbrev pub plus_if : Bool → ℕ → ℕ → ℕ
+plus_if counts number more = if counts then plus number more else number
+
+-- some numbers, of which those that count have this much more
+abbrev pub charged : (ℕ → Bool) → ℕ → List ℕ → List ℕ
+charged counts more numbers = map (λ i. plus_if (counts i) (number_at numbers i) more) (counted_from 0 (length numbers))
+
+-- one more move of its kind
+abbrev pub one_more : List ℕ → Move → List ℕ
+one_more numbers mv = slice_set numbers (kind_place mv) (plus (number_at numbers (kind_place mv)) 1)
+
+-- the mark is put at each of some places
+abbrev pub put_marks : Mark → List Mark → List ℕ → List Mark
+put_marks mark marks [] = marks
+put_marks mark marks (place ∷ places) = put_marks mark (slice_set marks place mark) places
+
+-- the ledger with other marks
+abbrev pub with_marks : Ledger → List Mark → Ledger
+with_marks l marks = record l { marks = marks }
+
+-- no move has been made yet
+unfoldable pub opened : Plan → List ℕ → Ledger
+opened plan delays = record {
+  layout = plan;
+  delays = delays;
+  count = 0;
+  marks = replicate 102 no_mark;
+  last = no_mark;
+  stages = replicate 33 0;
+  sidings = replicate 8 0;
+  kinds = replicate 14 0;
+}
+
+-- the places that a move uses, by their numbers
+abbrev pub place_numbers : Plan → Move → List ℕ
+place_numbers plan mv = map place_number (used plan mv)
+
+-- the mark that the move follows: the latest at the places that it uses
+unfoldable pub followed : Ledger → Move → Mark
+followed l mv = latest_of no_mark (map (mark_at l.marks) (place_numbers l.layout mv))
+
+-- the mark of a move that is made now
+unfoldable pub mark_of : Ledger → Move → Mark
+mark_of l mv = record {
+  time = plus (followed l mv).time (delay l.delays mv);
+  number = plus l.count 1;
+  kinds = one_more (followed l mv).kinds mv;
+}
+
+-- the ledger after a move
+unfoldable pub noted : Ledger → Move → Ledger
+noted l mv = record {
+  layout = l.layout;
+  delays = l.delays;
+  count = plus l.count 1;
+  marks = put_marks (mark_of l mv) l.marks (place_numbers l.layout mv);
+  last = later l.last (mark_of l mv);
+  stages = charged (λ i. uses_stage l.layout i mv) (delay l.delays mv) l.stages;
+  sidings = charged (λ k. uses_siding l.layout k mv) (delay l.delays mv) l.sidings;
+  kinds = one_more l.kinds mv;
+}
+
+-- and after some moves
+abbrev pub noted_all : Ledger → List Move → Ledger
+noted_all l [] = l
+noted_all l (mv ∷ moves) = noted_all (noted l mv) moves
+
+-- what it tells
+unfoldable pub told_by : Ledger → Breakdown
+told_by l = record { layout = l.layout; stages = l.stages; sidings = l.sidings; moves = l.kinds; chain = l.last.kinds }

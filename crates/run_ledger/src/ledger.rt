@@ -1,0 +1,139 @@
+//! A ledger of the moves of a run.
+
+ghost use Rattle.std.specs.Prelude.{◌≡◌, map, slice_set};
+ghost use Rattle.cf_timed.specs.Delays.{delay};
+ghost use Rattle.run_ledger.specs.Ledgers.{followed, latest_of, mark_at, mark_of, no_mark, noted, opened, place_numbers, put_marks, told_by, with_marks};
+
+use crate::breakdown::Breakdown;
+use crate::charging::{charge_sidings, charge_stages, one_more};
+use crate::mark::{Mark, later};
+use crate::places::places_of;
+use cf_bind::Move;
+use cf_layout::Layout;
+use cf_timed::Delays;
+
+/// For each place of a processor the last move that used it, with the moves by kind on the chain that ends with it; how long each
+/// stage and siding was in use; and the moves by kind. It takes no memory.
+#[derive(Clone, Copy)]
+pub struct Ledger {
+    pub(crate) layout: Layout,
+    pub(crate) delays: Delays,
+    /// How many moves were made.
+    pub(crate) count: u64,
+    /// Of each place, by its number.
+    pub(crate) marks: [Mark; 102],
+    /// Of the last move that is done last.
+    pub(crate) last: Mark,
+    pub(crate) stages: [u64; 33],
+    pub(crate) sidings: [u64; 8],
+    pub(crate) kinds: [u64; 14],
+}
+
+impl Ledger {
+    /// No move has been made yet.
+    #[tactic(auto, unfolding(crate::specs::Ledgers::opened))]
+    pub fn new(layout: &Layout, delays: Delays) -> Ledger
+        ensures { result ≡ opened layout.now delays }
+    {
+        Ledger {
+            layout: *layout,
+            delays,
+            count: 0,
+            marks: [Mark::none(); 102],
+            last: Mark::none(),
+            stages: [0; 33],
+            sidings: [0; 8],
+            kinds: [0; 14],
+        }
+    }
+
+    /// How many ticks the move takes.
+    #[inline(always)]
+    fn delay(&self, mv: Move) -> u64
+        ensures { result ≡ delay self.now.delays mv }
+    {
+        u64::from(self.delays.of(mv))
+    }
+
+    /// The mark at a place.
+    #[inline(always)]
+    fn mark(&self, place: usize) -> Mark
+        ensures { result ≡ mark_at self.now.marks place }
+    {
+        self.marks.get(place).copied().unwrap_or(Mark::none())
+    }
+
+    /// The latest mark at some places.
+    fn latest(&self, places: &[usize]) -> Mark
+        ensures { result ≡ latest_of no_mark (map (mark_at self.now.marks) places.now) }
+    {
+        let mut latest = Mark::none();
+        for place in places {
+            latest = later(latest, self.mark(*place));
+        }
+        latest
+    }
+
+    /// Puts the mark at a place.
+    #[inline(always)]
+    fn put_at(&mut self, mark: Mark, place: usize)
+        ensures { self.new ≡ with_marks self.old (slice_set self.old.marks place mark) }
+    {
+        if place < 102 {
+            self.marks[place] = mark;
+        }
+    }
+
+    /// Puts the mark at some places.
+    fn put(&mut self, mark: Mark, places: &[usize])
+        ensures { self.new ≡ with_marks self.old (put_marks mark self.old.marks places.now) }
+    {
+        for place in places {
+            self.put_at(mark, *place);
+        }
+    }
+
+    /// The mark of a move that is made now.
+    #[tactic(auto, unfolding(crate::specs::Ledgers::followed, crate::specs::Ledgers::mark_of))]
+    fn mark_of(&self, mv: Move, places: &[usize]) -> Mark
+        requires { places.now ≡ place_numbers self.now.layout mv }
+        ensures { result ≡ mark_of self.now mv }
+    {
+        let followed = self.latest(places);
+        Mark {
+            time: followed.time.saturating_add(self.delay(mv)),
+            number: self.count.saturating_add(1),
+            kinds: one_more(followed.kinds, mv),
+        }
+    }
+
+    /// Takes note of a move that is made now. Numbers stop at the greatest u64.
+    #[tactic(auto, unfolding(crate::specs::Ledgers::noted))]
+    pub fn note(&mut self, mv: Move)
+        ensures { self.new ≡ noted self.old mv }
+    {
+        let places = places_of(&self.layout, mv);
+        let mark = self.mark_of(mv, places.as_slice());
+        let ticks = self.delay(mv);
+        self.put(mark, places.as_slice());
+        self.last = later(self.last, mark);
+        self.count = self.count.saturating_add(1);
+        self.stages = charge_stages(&self.layout, mv, ticks, &self.stages);
+        self.sidings = charge_sidings(&self.layout, mv, ticks, &self.sidings);
+        self.kinds = one_more(self.kinds, mv);
+    }
+
+    /// What the time of the run is made of.
+    #[tactic(auto, unfolding(crate::specs::Ledgers::told_by))]
+    pub fn breakdown(&self) -> Breakdown
+        ensures { result ≡ told_by self.now }
+    {
+        Breakdown {
+            layout: self.layout,
+            stages: self.stages,
+            sidings: self.sidings,
+            moves: self.kinds,
+            chain: self.last.kinds,
+        }
+    }
+}

@@ -1,0 +1,43 @@
+//! What is kept of the last move that used a place.
+
+ghost use Rattle.std.specs.Prelude.{◌≡◌};
+ghost use Rattle.run_ledger.specs.Ledgers.{later as later_mark, no_mark};
+
+/// A move that was made, and the chain that ends with it.
+#[derive(Clone, Copy)]
+pub(crate) struct Mark {
+    /// When it is done, in ticks.
+    pub(crate) time: u64,
+
+    /// Its number in the run, from 1.
+    pub(crate) number: u64,
+
+    /// How many moves of each kind are on the chain.
+    pub(crate) kinds: [u64; 14],
+}
+
+impl Mark {
+    /// No move.
+    #[inline(always)]
+    pub(crate) fn none() -> Mark
+        ensures { result ≡ no_mark }
+    {
+        Mark {
+            time: 0,
+            number: 0,
+            kinds: [0; 14],
+        }
+    }
+}
+
+/// The mark of the move that is done later, or of the later move where both are done at the same time.
+#[inline(always)]
+pub(crate) fn later(a: Mark, b: Mark) -> Mark
+    ensures { result ≡ later_mark a b }
+{
+    if a.time < b.time || (a.time == b.time && a.number < b.number) {
+        b
+    } else {
+        a
+    }
+}

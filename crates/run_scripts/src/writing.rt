@@ -1,0 +1,47 @@
+//! The line of a move is written.
+#![tactic(auto, using(crate::proofs::Sizes::sizes))]
+
+ghost use Rattle.std.specs.Prelude.{◌≡◌, ◌<◌, ◌^◌};
+ghost use Rattle.cf_bind.specs.MoveTexts.{move_line};
+ghost use Rattle.run_scripts.specs.MoveLines.{NumbersBelow};
+
+use cf_bind::{Guess, Move, MoveLine, move_text};
+use rv_text::TextLine;
+
+/// Tells the prover that a number is a word.
+fn is_word(number: u32)
+    ensures { number < 2 ^ 32 }
+{
+    let _ = number;
+}
+
+/// Tells the prover that the numbers of a move are words, so that its line is short.
+fn has_words(mv: Move)
+    ensures { NumbersBelow (2 ^ 32) mv }
+{
+    match mv {
+        Move::Issue(Guess::To(target)) => is_word(target),
+        Move::Climb(stage) => is_word(stage),
+        Move::Fall(stage) => is_word(stage),
+        Move::Meet(stage) => is_word(stage),
+        Move::Execute(stage) => is_word(stage),
+        Move::Send(stage) => is_word(stage),
+        Move::Launch(stage) => is_word(stage),
+        Move::Slide(siding, cell) => {
+            is_word(siding);
+            is_word(cell);
+        }
+        Move::Recover(stage) => is_word(stage),
+        _ => {}
+    }
+}
+
+/// Makes the line hold the move's text and nothing else, without a line feed.
+pub fn write_move(mv: Move, line: &mut TextLine)
+    ensures { line.new ≡ move_line mv }
+{
+    has_words(mv);
+    let mut text = MoveLine::new();
+    move_text(mv, &mut text);
+    line.set(text.bytes());
+}

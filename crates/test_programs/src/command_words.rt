@@ -1,0 +1,223 @@
+//! Words of command lines, by the grammar: what they ask, and which of them is refused.
+use cli_arguments::{Command, LayoutWord, Schedule, read_words};
+use std::alloc::{AllocError, Global};
+use std::process::Abort;
+
+/// The words of a line, each of which ends at a blank or at the end of the line: a last word that is empty has a blank
+/// after it too.
+fn owned(alloc: Global, line: &str) -> Result<Vec<String>, AllocError> {
+    let mut owned = Vec::new(alloc);
+    for word in line.split_terminator(' ') {
+        owned.push(String::from_str(alloc, word)?)?;
+    }
+    Ok(owned)
+}
+
+fn words_of(rt: &(impl Abort + AllocGlobal), line: &str) -> Vec<String> {
+    owned(rt.alloc(), line).ok().expect(rt, "memory")
+}
+
+/// The program, the limit, whether retired instructions are shown, and whether it multiplies.
+type MachineAsked<'a> = (&'a str, u64, bool, bool);
+
+/// What the words ask of the sequential machine.
+fn machine_asked(words: &[String]) -> Option<MachineAsked<'_>> {
+    match read_words(words) {
+        Ok(Command::Machine { program, options }) => Some((
+            program,
+            options.limit,
+            options.show_retired,
+            options.mul,
+        )),
+        _ => None,
+    }
+}
+
+const MACHINE_ROWS: [(&str, MachineAsked<'static>); 4] = [
+    ("machine p", ("p", 10_000_000, false, false)),
+    ("machine plain --mul", ("plain", 10_000_000, false, true)),
+    (
+        "machine p --show retired --limit 0000000003",
+        ("p", 3, true, false),
+    ),
+    (
+        "machine p --mul --limit 1000000000 --show report",
+        ("p", 1_000_000_000, false, true),
+    ),
+];
+
+fn asks_machine(rt: &(impl Abort + AllocGlobal), line: &str, wanted: MachineAsked<'_>) -> bool {
+    let words = words_of(rt, line);
+    machine_asked(words.as_slice()) == Some(wanted)
+}
+
+#[test]
+fn machine_words(rt: HostRuntime) {
+    for (line, wanted) in &MACHINE_ROWS {
+        assert!(rt; asks_machine(&rt, line, *wanted), "{line}");
+    }
+}
+
+/// The file of the layout, or none for the built-in one.
+type Checked<'a> = Option<&'a str>;
+
+/// What the words ask to check.
+fn checked(words: &[String]) -> Option<Checked<'_>> {
+    match read_words(words) {
+        Ok(Command::Check { layout }) => Some(match layout {
+            LayoutWord::Plain => None,
+            LayoutWord::File(name) => Some(name),
+        }),
+        _ => None,
+    }
+}
+
+const CHECK_ROWS: [(&str, Checked<'static>); 2] = [
+    ("check plain", None),
+    ("check plain.toml", Some("plain.toml")),
+];
+
+fn asks_check(rt: &(impl Abort + AllocGlobal), line: &str, wanted: Checked<'_>) -> bool {
+    let words = words_of(rt, line);
+    checked(words.as_slice()) == Some(wanted)
+}
+
+#[test]
+fn check_words(rt: HostRuntime) {
+    for (line, wanted) in &CHECK_ROWS {
+        assert!(rt; asks_check(&rt, line, *wanted), "{line}");
+    }
+}
+
+/// The script, the seed and the limit.
+type RunAsked<'a> = (Option<&'a str>, Option<u32>, u64);
+
+/// How the words ask to run the processor.
+fn run_asked(words: &[String]) -> Option<RunAsked<'_>> {
+    let Ok(Command::Run { options, .. }) = read_words(words) else {
+        return None;
+    };
+    let (script, seed) = match options.schedule {
+        Schedule::Script(file) => (Some(file), None),
+        Schedule::Seed(seed) => (None, Some(seed)),
+        Schedule::Rule => (None, None),
+    };
+    Some((script, seed, options.limit))
+}
+
+const RUN_ROWS: [(&str, RunAsked<'static>); 4] = [
+    ("run plain p --script s", (Some("s"), None, 10_000_000)),
+    (
+        "run l p --show moves --limit 0 --script s",
+        (Some("s"), None, 0),
+    ),
+    ("run plain p", (None, None, 10_000_000)),
+    (
+        "run plain p --seed 4294967295",
+        (None, Some(4_294_967_295), 10_000_000),
+    ),
+];
+
+fn asks_run(rt: &(impl Abort + AllocGlobal), line: &str, wanted: RunAsked<'_>) -> bool {
+    let words = words_of(rt, line);
+    run_asked(words.as_slice()) == Some(wanted)
+}
+
+#[test]
+fn run_words(rt: HostRuntime) {
+    for (line, wanted) in &RUN_ROWS {
+        assert!(rt; asks_run(&rt, line, *wanted), "{line}");
+    }
+}
+
+/// The delays, the program, how many layouts, the limit, and whether the parts of each time are shown.
+type TimeAsked<'a> = (&'a str, &'a str, usize, u64, bool);
+
+/// What the words ask to compare.
+fn time_asked(words: &[String]) -> Option<TimeAsked<'_>> {
+    match read_words(words) {
+        Ok(
+            Command::Time {
+                delays,
+                program,
+                layouts,
+                options,
+            },
+        ) => Some((delays, program, layouts.len(), options.limit, options.sites)),
+        _ => None,
+    }
+}
+
+const TIME_ROWS: [(&str, TimeAsked<'static>); 4] = [
+    ("time d p plain", ("d", "p", 1, 10_000_000, false)),
+    (
+        "time d p l plain --show sites",
+        ("d", "p", 2, 10_000_000, true),
+    ),
+    ("time d p l --limit 5 --show sites", ("d", "p", 1, 5, true)),
+    ("time d p l --show sites --limit 5", ("d", "p", 1, 5, true)),
+];
+
+fn asks_time(rt: &(impl Abort + AllocGlobal), line: &str, wanted: TimeAsked<'_>) -> bool {
+    let words = words_of(rt, line);
+    time_asked(words.as_slice()) == Some(wanted)
+}
+
+#[test]
+fn time_words(rt: HostRuntime) {
+    for (line, wanted) in &TIME_ROWS {
+        assert!(rt; asks_time(&rt, line, *wanted), "{line}");
+    }
+}
+
+/// Lines, and the index of the first word of each that has no place.
+const REFUSALS: [(&str, u32); 33] = [
+    ("", 0),
+    ("machines", 0),
+    ("machine", 1),
+    ("machine  ", 1),
+    ("machine --mul p", 1),
+    ("machine p q", 2),
+    ("machine p --seed 1", 2),
+    ("machine p --limit", 3),
+    ("machine p --limit 1000000001", 3),
+    ("machine p --limit 00000000003", 3),
+    ("machine p --limit +3", 3),
+    ("machine p --limit  ", 3),
+    ("machine p --show moves", 3),
+    ("machine p --limit 3 --mul --limit 3", 5),
+    ("check", 1),
+    ("check --mul", 1),
+    ("check p q", 2),
+    ("check p --limit 3", 2),
+    ("run", 1),
+    ("run plain", 2),
+    ("run plain p --seed 4294967296", 4),
+    ("run plain p --mul", 3),
+    ("run plain p --script", 4),
+    ("run plain p --script s --seed 1", 5),
+    ("run plain p --seed 1 --script s", 5),
+    ("time d p --show sites", 3),
+    ("time d p l --show", 5),
+    ("time d p l --show retired", 5),
+    ("time d p l --show Sites", 5),
+    ("time d p l --show sites --show sites", 6),
+    ("time d p l --show sites m", 6),
+    ("run l p --show sites", 4),
+    ("machine p --show sites", 3),
+];
+
+fn refusal(rt: &(impl Abort + AllocGlobal), line: &str) -> Option<u32> {
+    let words = words_of(rt, line);
+    match read_words(words.as_slice()) {
+        Ok(_) => None,
+        Err(index) => Some(index),
+    }
+}
+
+#[test]
+fn words_without_a_place_are_refused(rt: HostRuntime) {
+    for (line, index) in &REFUSALS {
+        assert!(rt; refusal(&rt, line) == Some(*index), "{line}");
+    }
+}

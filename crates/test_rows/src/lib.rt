@@ -1,0 +1,13 @@
+//! Rows of worked calls, line by line: what the simulator is called with, and what the outcome is to be.
+#![tactic(auto)]
+
+mod call;
+mod content;
+mod line_err;
+mod matching;
+mod sheet;
+
+pub use call::{Call, Fails, Named, Outcome};
+pub use line_err::LineErr;
+pub use matching::Matching;
+pub use sheet::{Sheet, Wanted};

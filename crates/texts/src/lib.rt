@@ -1,0 +1,12 @@
+//! Texts: hexadecimal digits, names, and a page of lines with numbers, words, registers, traps and retired instructions.
+#![tactic(auto)]
+
+mod hexadecimal;
+mod name;
+mod page;
+mod retirement;
+
+pub use hexadecimal::{hex_digit, hex8};
+pub use name::Name;
+pub use page::Page;
+pub use retirement::retirement_line;
