@@ -3,16 +3,16 @@ use Rattle.std.proofs.Common.{◌≡◌, ℕ, ◌+◌, ◌≤◌, Bool, true, fa
 use Rattle.std.proofs.Math.Seq.{drop-append_seam, take-append_seam}
 use Rattle.std.specs.Prelude.{Ok}
 use Rattle.rv_asm.specs.declared.object.Object.{Object}
-use Rattle.rv_asm.specs.declared.place.Place.{Place}
-use Rattle.rv_asm.specs.Items.{Item, size_of}
-use Rattle.rv_asm.specs.Labels.{Named}
+use Rattle.rv_asm.specs.declared.place.SectionPlace.{SectionPlace}
+use Rattle.rv_asm.specs.Items.{SourceItem, size_of}
+use Rattle.rv_asm.specs.Labels.{LabelView}
 use Rattle.rv_asm.specs.Places.{address_of, length_at, place_after, item_at}
 use Rattle.rv_asm.specs.Pieces.{Piece, pieces_of}
 use Rattle.rv_asm.specs.Scanning.{said, statement_in}
 use Rattle.rv_asm.specs.Spelling.{Spells, Begins}
 use Rattle.rv_asm.specs.Sized.{piece_size, pieces_size}
 use Rattle.rv_asm.proofs.Sized.{size-append, spelt-length, item-sized, text-after, data-after}
-use Rattle.asm_laws.specs.Programs.{Placed, Stands, AllStand, section_at, IsThere, AreThere}
+use Rattle.asm_laws.specs.Programs.{Placed, LineStandsFor, AllStand, section_at, IsThere, AreThere}
 
 -- the pieces of those items that stand in the text, or in the data
 abbrev pub text_pieces : List Placed → List Piece
@@ -58,7 +58,7 @@ middle front ps after bytes at h e =
     subst (λ (l : List ℕ). Spells ps l) (sym taken) inner.first
 
 -- what stands in the sections above an item: its pieces, as many bytes of them as the place says
-pub record AreAbove (place : Place) (text_front data_front : List Piece) : Type 0 where
+pub record AreAbove (place : SectionPlace) (text_front data_front : List Piece) : Type 0 where
   pub text : pieces_size text_front ≡ place.text_len
   pub data_section : pieces_size data_front ≡ place.data_len
 
@@ -70,11 +70,11 @@ size-of-other : (b : Bool) (ps : List Piece) → pieces_size (cond b [] ps) ≡ 
 size-of-other true ps = refl
 size-of-other false ps = refl
 
-pub above-next : (labels : List Named) (line : List ℕ) (p : Placed) (text_front data_front : List Piece) (place : Place) → Stands labels place line p → AreAbove place text_front data_front
+pub above-next : (labels : List LabelView) (line : List ℕ) (p : Placed) (text_front data_front : List Piece) (place : SectionPlace) → LineStandsFor labels place line p → AreAbove place text_front data_front
     → AreAbove (place_after place p.item) (text_front ++ cond p.place.in_text p.pieces []) (data_front ++ cond p.place.in_text [] p.pieces)
 above-next labels line p text_front data_front place s a =
     let size : pieces_size p.pieces ≡ size_of p.item = item-sized labels (address_of place) p.item p.pieces s.pieces in
-    let same : p.place.in_text ≡ place.in_text = ap (λ (q : Place). q.in_text) s.place in
+    let same : p.place.in_text ≡ place.in_text = ap (λ (q : SectionPlace). q.in_text) s.place in
     let text : cond p.place.in_text (pieces_size p.pieces) 0 ≡ cond place.in_text (size_of p.item) 0 = rw (same, size) refl in
     let others : cond p.place.in_text 0 (pieces_size p.pieces) ≡ cond place.in_text 0 (size_of p.item) = rw (same, size) refl in
     record {
@@ -91,7 +91,7 @@ there-by true object p tf tb df db e t d a = rw e (middle tf p.pieces tb object.
 there-by false object p tf tb df db e t d a = rw e (middle df p.pieces db object.data_bytes p.place.data_len d a.data_section)
 
 -- so are all
-pub all-there : (object : Object) (labels : List Named) (place end : Place) (lines : List (List ℕ)) (items : List Placed) (text_front data_front : List Piece)
+pub all-there : (object : Object) (labels : List LabelView) (place end : SectionPlace) (lines : List (List ℕ)) (items : List Placed) (text_front data_front : List Piece)
     → AllStand labels place lines items end → AreAbove place text_front data_front
     → Spells (text_front ++ text_pieces items) object.text_bytes → Spells (data_front ++ data_pieces items) object.data_bytes
     → AreThere object items
@@ -99,7 +99,7 @@ all-there object labels place end lines [] tf df s a t d = tt
 all-there object labels place end [] (p ∷ ps) tf df s a t d = absurd s
 all-there object labels place end (line ∷ lines) (p ∷ ps) tf df s a t d =
     let b = p.place.in_text in
-    let here : AreAbove p.place tf df = subst (λ (q : Place). AreAbove q tf df) (sym s.0.place) a in
+    let here : AreAbove p.place tf df = subst (λ (q : SectionPlace). AreAbove q tf df) (sym s.0.place) a in
     let first = there-by b object p tf (text_pieces ps) df (data_pieces ps) refl t d here in
     let next = above-next labels line p tf df place s.0 a in
     let text = subst (λ (ps : List Piece). Spells ps object.text_bytes) (sym (append_assoc tf (cond b p.pieces []) (text_pieces ps))) t in

@@ -3,7 +3,7 @@ use Rattle.std.proofs.Common.{◌≡◌, ℕ, ◌+◌, ◌<◌, ◌≤◌, Bool,
 use Rattle.std.proofs.lemmas.List.{map-append}
 use Rattle.std.specs.Prelude.{Result, Ok, Err, is_some, nat_lt}
 use Rattle.rv_asm.specs.declared.object.Object.{Object}
-use Rattle.rv_asm.specs.declared.place.Place.{Place}
+use Rattle.rv_asm.specs.declared.place.SectionPlace.{SectionPlace}
 use Rattle.rv_asm.specs.declared.draft.Draft.{Draft}
 use Rattle.rv_asm.specs.declared.refusal.AsmKind.{AsmKind}
 use Rattle.rv_asm.specs.declared.refusal.AsmKind.TheVariants.{LabelTwice, TooLarge}
@@ -11,8 +11,8 @@ use Rattle.rv_asm.specs.declared.refusal.AsmErr.{AsmErr}
 use Rattle.rv_asm.specs.Answers.{and_then}
 use Rattle.rv_text.specs.Lines.{text_lines}
 use Rattle.rv_asm.specs.Scanning.{said, label_in, statement_in}
-use Rattle.rv_asm.specs.Items.{Item}
-use Rattle.rv_asm.specs.Labels.{Named, value_of}
+use Rattle.rv_asm.specs.Items.{SourceItem}
+use Rattle.rv_asm.specs.Labels.{LabelView, value_of}
 use Rattle.rv_asm.specs.Places.{start, address_of, length_at, place_after, item_at}
 use Rattle.rv_asm.specs.Pieces.{Piece, pieces_of}
 use Rattle.rv_asm.specs.Spelling.{Spells}
@@ -20,7 +20,7 @@ use Rattle.rv_asm.specs.Assembling.{Sections, at_line, with_label, drafted, draf
 use Rattle.rv_asm.specs.Objects.{IsObject, Objects}
 use Rattle.rv_asm.proofs.Passing.{Passes, passes, passes_line}
 use Rattle.rv_asm.proofs.Sized.{Looks, looks, spelt-length, sections-sized}
-use Rattle.asm_laws.specs.Programs.{Placed, Stands, AllStand, label_of, labels_of, unexported, AreThere, IsProgram}
+use Rattle.asm_laws.specs.Programs.{Placed, LineStandsFor, AllStand, label_of, labels_of, unexported, AreThere, IsProgram}
 use Rattle.asm_laws.proofs.Values.{SameValues, same-values, then-same, marked-same, pieces-same}
 use Rattle.asm_laws.proofs.Placing.{text_pieces, data_pieces, AreAbove, all-there}
 
@@ -55,7 +55,7 @@ items-of above s t (line ∷ lines) e =
     let text = said line in
     let r = passes (at_line (above + 1) (filled s text)) (λ (next : Sections). sections_from (above + 1) next lines) t e in
     let f = passes_line (above + 1) (filled s text) r.first r.is in
-    let i = passes (item_at s.place (statement_in text)) (λ (item : Item). and_then (pieces_of s.labels (address_of s.place) item) (λ ps. Ok (placed_at s item ps))) r.first f in
+    let i = passes (item_at s.place (statement_in text)) (λ (item : SourceItem). and_then (pieces_of s.labels (address_of s.place) item) (λ ps. Ok (placed_at s item ps))) r.first f in
     let p = passes (pieces_of s.labels (address_of s.place) i.first) (λ (ps : List Piece). Ok (placed_at s i.first ps)) r.first i.goes in
     let next : placed_at s i.first p.first ≡ r.first = cc p.goes in
     let rest = subst (λ (u : Sections). ItemsOf u t lines) (sym next) (items-of (above + 1) r.first t lines r.goes) in
@@ -69,21 +69,21 @@ items-of above s t (line ∷ lines) e =
     }
 
 -- the label of a line is put after the others
-labelled-by : (twice : Bool) (more next : List Named) (answer : Result (List Named) AsmKind)
+labelled-by : (twice : Bool) (more next : List LabelView) (answer : Result (List LabelView) AsmKind)
     → answer ≡ cond twice (Err LabelTwice) (Ok more) → answer ≡ Ok next → next ≡ more
 labelled-by true more next answer e h = absurd (cc)
 labelled-by false more next answer e h = cc
 
-labelled : (labels next : List Named) (place : Place) (label : Option (List ℕ)) → with_label labels place label ≡ Ok next → next ≡ labels ++ label_of label place
+labelled : (labels next : List LabelView) (place : SectionPlace) (label : Option (List ℕ)) → with_label labels place label ≡ Ok next → next ≡ labels ++ label_of label place
 labelled labels next place None e = let same : labels ≡ next = cc in sym same ∙ sym (append-nil labels)
 labelled labels next place (Some name) e =
     labelled-by (is_some (value_of labels name)) (labels ++ label_of (Some name) place) next (with_label labels place (Some name)) refl e
 
-same-item : (answer : Result Item AsmKind) (i j : Item) → answer ≡ Ok i → answer ≡ Ok j → i ≡ j
+same-item : (answer : Result SourceItem AsmKind) (i j : SourceItem) → answer ≡ Ok i → answer ≡ Ok j → i ≡ j
 same-item answer i j e h = cc
 
 -- the labels of the first look are those of the items
-labels-are : (above : ℕ) (labels marks : List Named) (place end : Place) (last : Draft) (lines : List (List ℕ)) (items : List Placed)
+labels-are : (above : ℕ) (labels marks : List LabelView) (place end : SectionPlace) (last : Draft) (lines : List (List ℕ)) (items : List Placed)
     → draft_from above (record { place = place; labels = labels }) lines ≡ Ok last → AllStand marks place lines items end
     → last.labels ≡ labels ++ labels_of lines items
 unfolding drafted
@@ -96,18 +96,18 @@ labels-are above labels marks place end last (line ∷ lines) (p ∷ ps) e s =
     let draft : Draft = record { place = place; labels = labels } in
     let r = passes (at_line (above + 1) (drafted draft text)) (λ (next : Draft). draft_from (above + 1) next lines) last e in
     let f = passes_line (above + 1) (drafted draft text) r.first r.is in
-    let l = passes (with_label labels place (label_in text)) (λ (more : List Named). and_then (item_at place (statement_in text)) (λ item. Ok (record { place = place_after place item; labels = more }))) r.first f in
-    let i = passes (item_at place (statement_in text)) (λ (item : Item). Ok (record { place = place_after place item; labels = l.first })) r.first l.goes in
+    let l = passes (with_label labels place (label_in text)) (λ (more : List LabelView). and_then (item_at place (statement_in text)) (λ item. Ok (record { place = place_after place item; labels = more }))) r.first f in
+    let i = passes (item_at place (statement_in text)) (λ (item : SourceItem). Ok (record { place = place_after place item; labels = l.first })) r.first l.goes in
     let item : i.first ≡ p.item = same-item (item_at place (statement_in text)) i.first p.item i.is s.0.item in
     let next : (record { place = place_after place i.first; labels = l.first }) ≡ r.first = cc i.goes in
-    let here : (record { place = place_after place p.item; labels = l.first }) ≡ r.first = ap (λ (x : Item). record { place = place_after place x; labels = l.first }) (sym item) ∙ next in
+    let here : (record { place = place_after place p.item; labels = l.first }) ≡ r.first = ap (λ (x : SourceItem). record { place = place_after place x; labels = l.first }) (sym item) ∙ next in
     let goes : draft_from (above + 1) (record { place = place_after place p.item; labels = l.first }) lines ≡ Ok last = subst (λ (d : Draft). draft_from (above + 1) d lines ≡ Ok last) (sym here) r.goes in
     let rest = labels-are (above + 1) l.first marks (place_after place p.item) end last lines ps goes s.1 in
-    let label : l.first ≡ labels ++ label_of (label_in text) p.place = labelled labels l.first place (label_in text) l.is ∙ ap (λ (q : Place). labels ++ label_of (label_in text) q) (sym s.0.place) in
-    rest ∙ ap (λ (ls : List Named). ls ++ labels_of lines ps) label ∙ append_assoc labels (label_of (label_in text) p.place) (labels_of lines ps)
+    let label : l.first ≡ labels ++ label_of (label_in text) p.place = labelled labels l.first place (label_in text) l.is ∙ ap (λ (q : SectionPlace). labels ++ label_of (label_in text) q) (sym s.0.place) in
+    rest ∙ ap (λ (ls : List LabelView). ls ++ labels_of lines ps) label ∙ append_assoc labels (label_of (label_in text) p.place) (labels_of lines ps)
 
 -- they are not exported yet
-bare-label : (label : Option (List ℕ)) (place : Place) → map unexported (label_of label place) ≡ label_of label place
+bare-label : (label : Option (List ℕ)) (place : SectionPlace) → map unexported (label_of label place) ≡ label_of label place
 bare-label None place = refl
 bare-label (Some name) place = refl
 
@@ -116,15 +116,15 @@ bare-labels [] items = refl
 bare-labels (line ∷ lines) [] = refl
 bare-labels (line ∷ lines) (p ∷ ps) =
     map-append unexported (label_of (label_in (said line)) p.place) (labels_of lines ps)
-    ∙ ap (λ (l : List Named). l ++ map unexported (labels_of lines ps)) (bare-label (label_in (said line)) p.place)
-    ∙ ap (λ (ls : List Named). label_of (label_in (said line)) p.place ++ ls) (bare-labels lines ps)
+    ∙ ap (λ (l : List LabelView). l ++ map unexported (labels_of lines ps)) (bare-label (label_in (said line)) p.place)
+    ∙ ap (λ (ls : List LabelView). label_of (label_in (said line)) p.place ++ ls) (bare-labels lines ps)
 
 program-of : (lines : List (List ℕ)) (sections : Sections) (object : Object) → sections_of lines ≡ Ok sections → IsObject sections object → IsProgram lines object
 program-of lines sections object e is =
     let l = looks lines sections e in
     let o = items-of 0 (empty l.labels) sections lines l.filled in
     let sized = sections-sized lines sections e in
-    let stand = subst (λ (labels : List Named). AllStand labels start lines o.items sections.place) (sym is.labels) o.stand in
+    let stand = subst (λ (labels : List LabelView). AllStand labels start lines o.items sections.place) (sym is.labels) o.stand in
     let text = subst (λ (ps : List Piece). Spells ps object.text_bytes) o.text is.text_bytes in
     let others = subst (λ (ps : List Piece). Spells ps object.data_bytes) o.data_section is.data_bytes in
     let labels = labels-are 0 [] sections.labels start sections.place (record { place = l.drafted.0; labels = l.labels }) lines o.items l.drafted.1 o.stand in
@@ -135,7 +135,7 @@ program-of lines sections object e is =
       there = all-there object object.labels start sections.place lines o.items [] [] stand (record { text = refl; data_section = refl }) text others;
       text = spelt-length sections.text object.text_bytes is.text_bytes ∙ sized.text;
       data_section = spelt-length sections.data_pieces object.data_bytes is.data_bytes ∙ sized.data_section;
-      labels = ap (λ (ls : List Named). map unexported ls) is.labels ∙ o.labels.bare ∙ ap (λ (ls : List Named). map unexported ls) labels ∙ bare-labels lines o.items;
+      labels = ap (λ (ls : List LabelView). map unexported ls) is.labels ∙ o.labels.bare ∙ ap (λ (ls : List LabelView). map unexported ls) labels ∙ bare-labels lines o.items;
     }
 
 program-by : (answer : Result Sections AsmErr) (lines : List (List ℕ)) (object : Object) → sections_of lines ≡ answer → Objects object answer → IsProgram lines object

@@ -6,48 +6,48 @@ use Rattle.std.specs.Int.{bytes_low_first}
 use Rattle.rv_inst.specs.declared.instruction.Instr.{Instr}
 use Rattle.rv_inst.specs.Words.{word_difference}
 use Rattle.rv_text.specs.declared.statement.Jump.{Jump}
-use Rattle.rv_text.specs.Reading.{aimed, distance_of}
+use Rattle.rv_text.specs.LineReading.{aimed, distance_of}
 use Rattle.rv_asm.specs.declared.refusal.AsmKind.{AsmKind}
 use Rattle.rv_asm.specs.declared.refusal.AsmKind.TheVariants.{NoLabel}
 use Rattle.rv_asm.specs.declared.operations.Width.{Width}
 use Rattle.rv_asm.specs.Answers.{and_then, needed, as_text}
 use Rattle.rv_asm.specs.Operands.{names_label, number_of_width, bytes_of_width}
-use Rattle.rv_asm.specs.Items.{Item, Nothing, Section, Export, Single, Double, Near, Distant, Numbers, Chars, Zeros}
+use Rattle.rv_asm.specs.Items.{SourceItem, Nothing, Section, Export, Single, Double, Near, Distant, Numbers, Chars, Zeros}
 use Rattle.rv_asm.specs.Pseudos.{word_modulo, reaching}
-use Rattle.rv_asm.specs.Labels.{Named, value_of, exported, exported_as}
+use Rattle.rv_asm.specs.Labels.{LabelView, value_of, exported, exported_as}
 use Rattle.rv_asm.specs.Pieces.{Piece, Word, Bytes, label_value, near_instr, operand_value, bytes_from, code_of, pieces_of}
 use Rattle.rv_asm.specs.Assembling.{marked}
 use Rattle.asm_laws.specs.Programs.{unexported}
 
 -- the labels give each name the same value
-pub record SameValues (one other : List Named) : Type 0 where
+pub record SameValues (one other : List LabelView) : Type 0 where
   pub values : (name : List ℕ) → value_of one name ≡ value_of other name
   pub bare : map unexported one ≡ map unexported other
 
-pub same-values : (labels : List Named) → SameValues labels labels
+pub same-values : (labels : List LabelView) → SameValues labels labels
 same-values labels = record { values = λ name. refl; bare = refl }
 
-pub then-same : (a b c : List Named) → SameValues a b → SameValues b c → SameValues a c
+pub then-same : (a b c : List LabelView) → SameValues a b → SameValues b c → SameValues a c
 then-same a b c h k = record { values = λ name. h.values name ∙ k.values name; bare = h.bare ∙ k.bare }
 
-name-kept : (b : Bool) (l : Named) → (cond b (record l { global = true }) l).name ≡ l.name
+name-kept : (b : Bool) (l : LabelView) → (cond b (record l { global = true }) l).name ≡ l.name
 name-kept true l = refl
 name-kept false l = refl
 
-value-kept : (b : Bool) (l : Named) → (cond b (record l { global = true }) l).value ≡ l.value
+value-kept : (b : Bool) (l : LabelView) → (cond b (record l { global = true }) l).value ≡ l.value
 value-kept true l = refl
 value-kept false l = refl
 
-bare-kept : (b : Bool) (l : Named) → unexported (cond b (record l { global = true }) l) ≡ unexported l
+bare-kept : (b : Bool) (l : LabelView) → unexported (cond b (record l { global = true }) l) ≡ unexported l
 bare-kept true l = refl
 bare-kept false l = refl
 
-found-by : (t : Bool) (l m : Named) (rest other : Option Named) → l.value ≡ m.value → option_map (λ label. label.value) rest ≡ option_map (λ label. label.value) other
+found-by : (t : Bool) (l m : LabelView) (rest other : Option LabelView) → l.value ≡ m.value → option_map (λ label. label.value) rest ≡ option_map (λ label. label.value) other
     → option_map (λ label. label.value) (cond t (Some l) rest) ≡ option_map (λ label. label.value) (cond t (Some m) other)
 found-by true l m rest other e h = ap Some e
 found-by false l m rest other e h = h
 
-found-same : (labels : List Named) (name wanted : List ℕ)
+found-same : (labels : List LabelView) (name wanted : List ℕ)
     → option_map (λ label. label.value) (find (λ label. bytes_eq label.name wanted) (map (exported_as name) labels))
     ≡ option_map (λ label. label.value) (find (λ label. bytes_eq label.name wanted) labels)
 found-same [] name wanted = refl
@@ -58,17 +58,17 @@ found-same (l ∷ ls) name wanted =
     ap (λ (n : List ℕ). option_map (λ label. label.value) (cond (bytes_eq n wanted) (Some new) rest)) (name-kept t l)
     ∙ found-by (bytes_eq l.name wanted) new l rest (find (λ label. bytes_eq label.name wanted) ls) (value-kept t l) (found-same ls name wanted)
 
-bare-same : (labels : List Named) (name : List ℕ) → map unexported (map (exported_as name) labels) ≡ map unexported labels
+bare-same : (labels : List LabelView) (name : List ℕ) → map unexported (map (exported_as name) labels) ≡ map unexported labels
 bare-same [] name = refl
 bare-same (l ∷ ls) name =
-    ap (λ (x : Named). x ∷ map unexported (map (exported_as name) ls)) (bare-kept (bytes_eq l.name name) l)
-    ∙ ap (λ (xs : List Named). unexported l ∷ xs) (bare-same ls name)
+    ap (λ (x : LabelView). x ∷ map unexported (map (exported_as name) ls)) (bare-kept (bytes_eq l.name name) l)
+    ∙ ap (λ (xs : List LabelView). unexported l ∷ xs) (bare-same ls name)
 
-exported-same : (labels : List Named) (name : List ℕ) → SameValues (exported labels name) labels
+exported-same : (labels : List LabelView) (name : List ℕ) → SameValues (exported labels name) labels
 unfolding exported value_of
 exported-same labels name = record { values = λ wanted. found-same labels name wanted; bare = bare-same labels name }
 
-pub marked-same : (labels : List Named) (item : Item) → SameValues (marked labels item) labels
+pub marked-same : (labels : List LabelView) (item : SourceItem) → SameValues (marked labels item) labels
 marked-same labels Nothing = same-values labels
 marked-same labels (Section b) = same-values labels
 marked-same labels (Export name) = exported-same labels name
@@ -80,10 +80,10 @@ marked-same labels (Numbers width operands) = same-values labels
 marked-same labels (Chars bytes zero) = same-values labels
 marked-same labels (Zeros count) = same-values labels
 
-value-same : (a b : List Named) (name : List ℕ) → SameValues a b → label_value a name ≡ label_value b name
+value-same : (a b : List LabelView) (name : List ℕ) → SameValues a b → label_value a name ≡ label_value b name
 value-same a b name h = ap (λ (v : Option ℕ). needed NoLabel v) (h.values name)
 
-operand-same : (a b : List Named) (width : Width) (operand : List ℕ) → SameValues a b → operand_value a width operand ≡ operand_value b width operand
+operand-same : (a b : List LabelView) (width : Width) (operand : List ℕ) → SameValues a b → operand_value a width operand ≡ operand_value b width operand
 unfolding operand_value
 operand-same a b width operand h = rw (value-same a b operand h) refl
 
@@ -91,7 +91,7 @@ then-step : {A B E : Type 0} (x : Result A E) (f g : A → Result B E) → ((a :
 then-step (Ok a) f g h = h a
 then-step (Err e) f g h = refl
 
-bytes-same : (a b : List Named) (width : Width) (bytes : List ℕ) (operands : List (List ℕ)) → SameValues a b → bytes_from a width bytes operands ≡ bytes_from b width bytes operands
+bytes-same : (a b : List LabelView) (width : Width) (bytes : List ℕ) (operands : List (List ℕ)) → SameValues a b → bytes_from a width bytes operands ≡ bytes_from b width bytes operands
 bytes-same a b width bytes [] h = refl
 bytes-same a b width bytes (o ∷ os) h =
     ap (λ (value : Result ℤ AsmKind). and_then value (λ z. bytes_from a width (bytes ++ bytes_low_first 0 (bytes_of_width width) (word_modulo z)) os)) (operand-same a b width o h)
@@ -99,12 +99,12 @@ bytes-same a b width bytes (o ∷ os) h =
     (λ z. bytes_from b width (bytes ++ bytes_low_first 0 (bytes_of_width width) (word_modulo z)) os)
     (λ z. bytes-same a b width (bytes ++ bytes_low_first 0 (bytes_of_width width) (word_modulo z)) os h)
 
-near-same : (a b : List Named) (pc : ℕ) (jump : Jump) (label : List ℕ) → SameValues a b → near_instr a pc jump label ≡ near_instr b pc jump label
+near-same : (a b : List LabelView) (pc : ℕ) (jump : Jump) (label : List ℕ) → SameValues a b → near_instr a pc jump label ≡ near_instr b pc jump label
 unfolding near_instr
 near-same a b pc jump label h = rw (value-same a b label h) refl
 
 -- so an item places the same
-pub pieces-same : (a b : List Named) (pc : ℕ) (item : Item) → SameValues a b → pieces_of a pc item ≡ pieces_of b pc item
+pub pieces-same : (a b : List LabelView) (pc : ℕ) (item : SourceItem) → SameValues a b → pieces_of a pc item ≡ pieces_of b pc item
 unfolding pieces_of
 pieces-same a b pc Nothing h = refl
 pieces-same a b pc (Section t) h = refl

@@ -1,37 +1,37 @@
 -- The program that lines of assembly stand for: a list of placed items (GNU as, "Sections and Relocation"; RISC-V Assembly Programmer's Manual).
 use Rattle.std.specs.Prelude.{◌≡◌, ℕ, Bool, false, List, [], ◌∷◌, ◌++◌, length, take, drop, map, Option, Some, None, Result, Ok, if◌then◌else◌}
 use Rattle.rv_asm.specs.declared.object.Object.{Object}
-use Rattle.rv_asm.specs.declared.place.Place.{Place}
+use Rattle.rv_asm.specs.declared.place.SectionPlace.{SectionPlace}
 use Rattle.rv_asm.specs.Scanning.{said, label_in, statement_in}
-use Rattle.rv_asm.specs.Items.{Item}
+use Rattle.rv_asm.specs.Items.{SourceItem}
 use Rattle.rv_asm.specs.Places.{start, address_of, length_at, place_after, item_at}
-use Rattle.rv_asm.specs.Labels.{Named}
+use Rattle.rv_asm.specs.Labels.{LabelView}
 use Rattle.rv_asm.specs.Pieces.{Piece, pieces_of}
 use Rattle.rv_asm.specs.Sized.{pieces_size}
 use Rattle.rv_asm.specs.Spelling.{Spells}
 
 -- a placed item: where it stands, what it is, and the instructions and bytes that it places
 pub record Placed : Type 0 where
-  pub place : Place
-  pub item : Item
+  pub place : SectionPlace
+  pub item : SourceItem
   pub pieces : List Piece
 
 -- given the labels' values, the line stands for this item at the place
-pub record Stands (labels : List Named) (here : Place) (line : List ℕ) (placed : Placed) : Type 0 where
+pub record LineStandsFor (labels : List LabelView) (here : SectionPlace) (line : List ℕ) (placed : Placed) : Type 0 where
   pub place : placed.place ≡ here
   pub item : item_at here (statement_in (said line)) ≡ Ok placed.item
   pub pieces : pieces_of labels (address_of here) placed.item ≡ Ok placed.pieces
 
 -- each line stands for its item, which is placed after the item before it; the last item ends at this place
-abbrev pub AllStand : List Named → Place → List (List ℕ) → List Placed → Place → Type 0
+abbrev pub AllStand : List LabelView → SectionPlace → List (List ℕ) → List Placed → SectionPlace → Type 0
 AllStand labels place [] [] end = place ≡ end
 AllStand labels place [] (p ∷ ps) end = ⊥
 AllStand labels place (line ∷ lines) [] end = ⊥
 AllStand labels place (line ∷ lines) (p ∷ ps) end =
-    Stands labels place line p × AllStand labels (place_after place p.item) lines ps end
+    LineStandsFor labels place line p × AllStand labels (place_after place p.item) lines ps end
 
 -- the section that a place is in
-abbrev pub section_at : Object → Place → List ℕ
+abbrev pub section_at : Object → SectionPlace → List ℕ
 section_at object place = if place.in_text then object.text_bytes else object.data_bytes
 
 -- the item's instructions and bytes stand in its section where it is placed: a word there decodes to its instruction, and bytes are as they were written
@@ -44,25 +44,25 @@ AreThere object [] = Unit {0}
 AreThere object (p ∷ ps) = IsThere object p × AreThere object ps
 
 -- the label of a line, which has the address of the line
-abbrev pub label_of : Option (List ℕ) → Place → List Named
+abbrev pub label_of : Option (List ℕ) → SectionPlace → List LabelView
 label_of None place = []
 label_of (Some name) place =
     record { name = name; value = address_of place; in_text = place.in_text; global = false } ∷ []
 
 -- the labels of lines, each at its line's item
-abbrev pub labels_of : List (List ℕ) → List Placed → List Named
+abbrev pub labels_of : List (List ℕ) → List Placed → List LabelView
 labels_of [] ps = []
 labels_of (line ∷ lines) [] = []
 labels_of (line ∷ lines) (p ∷ ps) = label_of (label_in (said line)) p.place ++ labels_of lines ps
 
 -- a label, whether or not it is exported
-abbrev pub unexported : Named → Named
+abbrev pub unexported : LabelView → LabelView
 unexported label = record label { global = false }
 
 -- the object is the program of the lines
 pub record IsProgram (lines : List (List ℕ)) (object : Object) : Type 0 where
   pub items : List Placed
-  pub end : Place
+  pub end : SectionPlace
   pub stand : AllStand object.labels start lines items end
   pub there : AreThere object items
   pub text : length object.text_bytes ≡ end.text_len

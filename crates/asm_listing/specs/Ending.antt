@@ -5,9 +5,9 @@ use Rattle.asm_listing.specs.declared.listing.ListingErr.{ListingErr}
 use Rattle.asm_listing.specs.declared.listing.ListingErr.TheVariants as err
 
 -- memory was refused before anything was put; or the output failed after a front of the text
-abbrev pub StopsAt : List ℕ → Option (List ℕ) → Option (List ℕ) → ListingErr → Type 0
-StopsAt text before after err.NoMemory = after ≡ before
-StopsAt text before after err.Failed = WritesFront before after text
+abbrev pub ListingStops : List ℕ → Option (List ℕ) → Option (List ℕ) → ListingErr → Type 0
+ListingStops text before after err.NoMemory = after ≡ before
+ListingStops text before after err.Failed = WritesFront before after text
 
 -- an error where the output failed
 abbrev pub output_put : Result (Unit {0}) ListingErr → Result (Unit {0}) (Unit {0})

@@ -7,7 +7,7 @@ ghost use Rattle.cf_io.specs.Causes.{HasCause};
 ghost use Rattle.cf_io.specs.Puts.{Writes, WritesFront};
 ghost use Rattle.elf_view.specs.Segments.{segments_of, shown_segment};
 ghost use Rattle.elf_view.specs.Symbols.{shown_lazy};
-ghost use Rattle.asm_listing.specs.Ending.{StopsAt, output_put};
+ghost use Rattle.asm_listing.specs.Ending.{ListingStops, output_put};
 ghost use Rattle.asm_listing.specs.Labels.{Ascend};
 ghost use Rattle.asm_listing.specs.Listing.{segment_lines, elf_listing, flat_listing};
 
@@ -70,7 +70,7 @@ fn put_segments<K: Sink>(symbols: &[LazySymbol], elf: &Elf, out: &mut K) -> Resu
 #[tactic(auto, using(crate::proofs::Walked::listings), unfolding(crate::specs::Listing::elf_listing))]
 pub fn put_elf_listing<K: Sink>(alloc: Global, elf: &Elf, out: &mut K) -> Result<(), ListingErr>
     ensures ok { OnOk result (Writes (K.written out.old) (K.written out.new) (elf_listing elf.now)) }
-    ensures err { IfErr result (λ e. StopsAt (elf_listing elf.now) (K.written out.old) (K.written out.new) e) }
+    ensures err { IfErr result (λ e. ListingStops (elf_listing elf.now) (K.written out.old) (K.written out.new) e) }
     ensures cause { HasCause (K.faults out.old) (K.faults out.new) (output_put result) }
 {
     let symbols = match ordered_symbols(alloc, elf) {

@@ -13,18 +13,18 @@ use Rattle.cf_report.specs.declared.tally.Tally.{Tally}
 use Rattle.cf_report.specs.Lines.{numbered_move}
 use Rattle.cf_run.specs.Going.{moment_of, Leads}
 use Rattle.cf_run.specs.Made.{Made, shown, all_shown, tally_of}
-use Rattle.cf_run.specs.Moving.{Place, place_of}
+use Rattle.cf_run.specs.Moving.{RunPlace, place_of}
 use Rattle.cf_run.specs.Reaching.{Reaches, no_tally}
 use Rattle.cf_run.proofs.Runs.{reached-none, none-trace, reached-more, reached-trace, made-within, counts-within}
 use Rattle.cf_audit.specs.Compared.{Comparison, alone, put_of, fresh, told_by}
-use Rattle.cf_audit.specs.Traces.{most_retired, AreReadBack, IsReadBack, IsTrace, StandsAt, AgreesSoFar}
-use Rattle.cf_audit.specs.Turns.{Stand, stand_of, left_of, NextIs, Advances, Tries, Tests}
+use Rattle.cf_audit.specs.Traces.{most_retired, AreReadBack, IsReadBack, IsTrace, ReachesMoment, AgreesSoFar}
+use Rattle.cf_audit.specs.Turns.{AuditRun, stand_of, left_of, NextIs, Advances, AuditTries, Tests}
 use Rattle.cf_audit.specs.Limits.{most_trace}
 use Rattle.cf_audit.proofs.Comparing.{told-more}
 use Rattle.cf_audit.proofs.Parting.{goes_on}
 
 -- an audit has reached this stand: the comparison tells the text and the groups of the run, which agree
-pub record Comes (text : List ℕ) (start : Place) (now : Stand) : Type 0 where
+pub record Comes (text : List ℕ) (start : RunPlace) (now : AuditRun) : Type 0 where
   pub reached : Reaches most_retired show.Moves start now.place
   pub read_back : AreReadBack reached.trace
   pub begins : start.report ≡ Some (told_by (fresh text))
@@ -38,7 +38,7 @@ pub record Comes (text : List ℕ) (start : Place) (now : Stand) : Type 0 where
 first_comes : (text : List ℕ) (core : Processor) (streams : Streams) → core.state.retired ≡ 0
     → Comes text (place_of core streams (Some (told_by (fresh text))) no_tally) (stand_of (place_of core streams (Some (told_by (fresh text))) no_tally) (fresh text))
 first_comes text core streams none =
-    let start : Place = place_of core streams (Some (told_by (fresh text))) no_tally in
+    let start : RunPlace = place_of core streams (Some (told_by (fresh text))) no_tally in
     record {
       reached = reached-none most_retired show.Moves start refl;
       read_back = subst AreReadBack (sym (none-trace most_retired show.Moves start refl)) tt;
@@ -56,14 +56,14 @@ comes-first text core streams seen is none =
     subst (λ (c : Comparison). Comes text (place_of core streams (Some (told_by (fresh text))) no_tally) (stand_of (place_of core streams (Some (told_by c)) no_tally) c)) (sym is) (first_comes text core streams none)
 
 -- the text, and the run's groups as far as they agree
-pub record SoFar (text : List ℕ) (start : Place) (now : Stand) (trace : List Made) : Type 0 where
+pub record SoFar (text : List ℕ) (start : RunPlace) (now : AuditRun) (trace : List Made) : Type 0 where
   pub text_is : now.seen.text ≡ text
   pub groups : take now.seen.agreed text ≡ all_shown show.Moves start.core.plan 1 trace
 
 put_all_agreed : (seen : Comparison) → seen.other ≡ None → put_of seen ≡ take seen.agreed seen.text
 put_all_agreed seen none = ap (λ (o : Option ℕ). take seen.agreed seen.text ++ alone o) none ∙ append-nil (take seen.agreed seen.text)
 
-pub so-far : (text : List ℕ) (start : Place) (now : Stand) (h : Comes text start now) → SoFar text start now h.reached.trace
+pub so-far : (text : List ℕ) (start : RunPlace) (now : AuditRun) (h : Comes text start now) → SoFar text start now h.reached.trace
 so-far text start now h =
     let groups : List ℕ = all_shown show.Moves start.core.plan 1 h.reached.trace in
     let P : Option (List ℕ) → Type 0 = λ o. Writes o now.place.report groups in
@@ -92,14 +92,14 @@ put-after now new piece none told =
     (both.0, both.1 ∙ ap (λ (put : List ℕ). put ++ piece) (put_all_agreed now none))
 
 -- one more instruction can retire
-pub retires-below : (text : List ℕ) (start : Place) (now : Stand) → Comes text start now → length text ≤ most_trace → now.place.core.state.retired < most_retired
+pub retires-below : (text : List ℕ) (start : RunPlace) (now : AuditRun) → Comes text start now → length text ≤ most_trace → now.place.core.state.retired < most_retired
 retires-below text start now h small =
     let s = so-far text start now h in
     let size : length now.seen.text ≡ length text = ap length s.text_is in
     omega (arith, h.retired, h.few, h.within, size)
 
 -- the next group agrees
-pub comes-more : (text : List ℕ) (start : Place) (now new : Stand) (mv : Move) → length text ≤ most_trace → new.place.report ≡ Some (told_by new.seen) → Comes text start now → NextIs now mv → Advances mv now new
+pub comes-more : (text : List ℕ) (start : RunPlace) (now new : AuditRun) (mv : Move) → length text ≤ most_trace → new.place.report ≡ Some (told_by new.seen) → Comes text start now → NextIs now mv → Advances mv now new
     → Comes text start new × (now.seen.agreed < new.seen.agreed)
 comes-more text start now new mv small tells h next a =
     let made : Made = record { move = mv; event = a.event; state = new.place.core.state } in
@@ -131,18 +131,18 @@ comes-more text start now new mv small tells h next a =
       rises,
     )
 
-pub comes-on : (text : List ℕ) (start : Place) (now new : Stand) → length text ≤ most_trace → new.place.report ≡ Some (told_by new.seen) → Comes text start now → Tests text now new None → Comes text start new × (now.seen.agreed < new.seen.agreed)
-unfolding Tests Tries
+pub comes-on : (text : List ℕ) (start : RunPlace) (now new : AuditRun) → length text ≤ most_trace → new.place.report ≡ Some (told_by new.seen) → Comes text start now → Tests text now new None → Comes text start new × (now.seen.agreed < new.seen.agreed)
+unfolding Tests AuditTries
 comes-on text start now new small tells h (mv, next, a) = comes-more text start now new mv small tells h next a
 
 -- so less of the text is left
-pub comes-falls : (text : List ℕ) (start : Place) (new : Stand) (agreed : ℕ) → Comes text start new → agreed < new.seen.agreed → length text - new.seen.agreed < length text - agreed
+pub comes-falls : (text : List ℕ) (start : RunPlace) (new : AuditRun) (agreed : ℕ) → Comes text start new → agreed < new.seen.agreed → length text - new.seen.agreed < length text - agreed
 comes-falls text start new agreed h rises =
     let size : length new.seen.text ≡ length text = ap length (so-far text start new h).text_is in
     omega (arith, rises, h.within, size)
 
 -- no count is near the greatest
-pub counts-small : (text : List ℕ) (start : Place) (now : Stand) → Comes text start now → length text ≤ most_trace
+pub counts-small : (text : List ℕ) (start : RunPlace) (now : AuditRun) → Comes text start now → length text ≤ most_trace
     → (now.place.tally.moves ≤ most_trace) × (now.place.tally.meets ≤ most_trace) × (now.place.tally.kills ≤ most_trace) × (now.place.tally.dead ≤ most_trace)
 counts-small text start now h small =
     let size : length now.seen.text ≡ length text = ap length (so-far text start now h).text_is in
@@ -155,7 +155,7 @@ unfolding tally_of
 moves_counted trace tally is = sym (ap (λ (t : Tally). t.moves) is)
 
 -- the groups so far are the trace of the run, which leads to any moment to which its moves do
-pub trace-so-far : (text : List ℕ) (start : Place) (now : Stand) (h : Comes text start now) (last : Moment) → Leads start.core.plan most_retired start.streams.input (moment_of start.core h.reached.rest) h.reached.trace last
+pub trace-so-far : (text : List ℕ) (start : RunPlace) (now : AuditRun) (h : Comes text start now) (last : Moment) → Leads start.core.plan most_retired start.streams.input (moment_of start.core h.reached.rest) h.reached.trace last
     → IsTrace start.core start.streams.input (take now.seen.agreed text) now.place.tally.moves last
 trace-so-far text start now h last leads = record {
   trace = h.reached.trace;
@@ -168,7 +168,7 @@ trace-so-far text start now h last leads = record {
 }
 
 -- the rest of the text
-pub agrees-so-far : (text : List ℕ) (start : Place) (now : Stand) (h : Comes text start now) (last : Moment) → Leads start.core.plan most_retired start.streams.input (moment_of start.core h.reached.rest) h.reached.trace last → 0 < length (left_of now.seen)
+pub agrees-so-far : (text : List ℕ) (start : RunPlace) (now : AuditRun) (h : Comes text start now) (last : Moment) → Leads start.core.plan most_retired start.streams.input (moment_of start.core h.reached.rest) h.reached.trace last → 0 < length (left_of now.seen)
     → AgreesSoFar start.core start.streams.input text (take now.seen.agreed text) (left_of now.seen) now.place.tally.moves last
 agrees-so-far text start now h last leads some = record {
   parts = sym (take-append-drop now.seen.agreed text) ∙ ap (λ (t : List ℕ). take now.seen.agreed text ++ drop now.seen.agreed t) (sym (so-far text start now h).text_is);
@@ -177,10 +177,10 @@ agrees-so-far text start now h last leads some = record {
 }
 
 -- how long the part that agrees is
-pub agreed-length : (text : List ℕ) (start : Place) (now : Stand) → Comes text start now → length (take now.seen.agreed text) ≡ now.seen.agreed
+pub agreed-length : (text : List ℕ) (start : RunPlace) (now : AuditRun) → Comes text start now → length (take now.seen.agreed text) ≡ now.seen.agreed
 agreed-length text start now h =
     length-take-le now.seen.agreed text (subst (λ (t : List ℕ). now.seen.agreed ≤ length t) (so-far text start now h).text_is h.within)
 
 -- the processor and the input stand where the run leads
-pub stands-here : (text : List ℕ) (start : Place) (now : Stand) (h : Comes text start now) → StandsAt start.core now.place.core start.streams.input now.place.streams.input h.reached.last
+pub stands-here : (text : List ℕ) (start : RunPlace) (now : AuditRun) (h : Comes text start now) → ReachesMoment start.core now.place.core start.streams.input now.place.streams.input h.reached.last
 stands-here text start now h = record { processor = h.reached.core; input = h.reached.streams.input }

@@ -3,7 +3,7 @@ use Rattle.std.proofs.Common.{◌≡◌, ℕ, zero, suc, ◌+◌, ◌<◌, ◌�
 use Rattle.std.specs.Prelude.{slice_get, is_some, IfSome, IsSome}
 use Rattle.std.proofs.Math.Seq.{take-add}
 use Rattle.cf_io.specs.Puts.{Puts}
-use Rattle.cf_audit.specs.Compared.{Comparison, IsComparison, HasOther, IsOther, AreApart, alone, put_of, told_by}
+use Rattle.cf_audit.specs.Compared.{Comparison, IsComparison, HasOther, IsOther, DifferAt, alone, put_of, told_by}
 
 -- the bytes up to a place and the one there
 one_more : (bytes : List ℕ) (same : ℕ) → same ≤ length bytes → take (min (length bytes) (same + 1)) bytes ≡ take same bytes ++ alone (slice_get bytes same)
@@ -76,11 +76,11 @@ other_is text agreed same (Some byte) apart = λ here. apart byte refl (get-afte
 -- a comparison after a put of bytes
 pub compared-more : (text rest bytes : List ℕ) (agreed same faults : ℕ) (other next : Option ℕ) (old : Comparison)
     → record { text = text; agreed = agreed; other = other; faults = faults } ≡ old → IsComparison (record { text = text; agreed = agreed; other = other; faults = faults }) → is_some other ≡ false
-    → rest ≡ drop old.agreed old.text → same ≤ length rest → AreApart rest bytes same → next ≡ slice_get bytes same
+    → rest ≡ drop old.agreed old.text → same ≤ length rest → DifferAt rest bytes same → next ≡ slice_get bytes same
     → IsComparison (record { text = text; agreed = agreed + same; other = next; faults = faults })
 compared-more text rest bytes agreed same faults other next old is was none after within apart next_is =
     let place : rest ≡ drop agreed text = after ∙ ap (λ (c : Comparison). drop c.agreed c.text) (sym is) in
-    let front : AreApart (drop agreed text) bytes same = subst (λ (r : List ℕ). AreApart r bytes same) place apart in
+    let front : DifferAt (drop agreed text) bytes same = subst (λ (r : List ℕ). DifferAt r bytes same) place apart in
     let low : same ≤ length (drop agreed text) = subst (λ (r : List ℕ). same ≤ length r) place within in
     record {
       within = omega (arith, length-drop {A = ℕ}, was.within, low);

@@ -15,8 +15,8 @@ use Rattle.texts.specs.Hexadecimal.{hex8}
 use Rattle.cf_bind.specs.MoveTexts.{move_line}
 use Rattle.cf_report.specs.Lines.{numbered_move}
 use Rattle.run_scripts.specs.MoveLines.{move_in}
-use Rattle.cf_audit.specs.Lines.{move_front, IsFirstLine, Tells}
-use Rattle.cf_audit.specs.Traces.{BeginsWith, IsReadBack, has_line}
+use Rattle.cf_audit.specs.Lines.{move_front, IsFirstLine, IsMoveLine}
+use Rattle.cf_audit.specs.Traces.{BeginsWithMove, IsReadBack, has_line}
 
 or_false : (a b : Bool) → a ≡ false → b ≡ false → (a || b) ≡ false
 or_false true b e f = absurd (cc)
@@ -110,23 +110,23 @@ unfolding numbered_move
 front_of n mv after = append_assoc (move_front n) (move_line mv ++ 10 ∷ []) after ∙ ap (λ (t : List ℕ). move_front n ++ t) (append_assoc (move_line mv) (10 ∷ []) after)
 
 -- what comes after the number of a move's line
-line_after : (text rest : List ℕ) (n : ℕ) (mv : Move) → text ≡ move_front n ++ rest → (b : BeginsWith text n mv) → rest ≡ move_line mv ++ 10 ∷ b.after
+line_after : (text rest : List ℕ) (n : ℕ) (mv : Move) → text ≡ move_front n ++ rest → (b : BeginsWithMove text n mv) → rest ≡ move_line mv ++ 10 ∷ b.after
 line_after text rest n mv is b = append_cancel_left (move_front n) rest (move_line mv ++ 10 ∷ b.after) (sym is ∙ b.is ∙ front_of n mv b.after)
 
 -- no move's line stands first where its front does not, where there is no line after that, or where the line names no move
-pub no_front : (text : List ℕ) (n : ℕ) → ((rest : List ℕ) → text ≡ move_front n ++ rest → ⊥) → (mv : Move) → BeginsWith text n mv → ⊥
+pub no_front : (text : List ℕ) (n : ℕ) → ((rest : List ℕ) → text ≡ move_front n ++ rest → ⊥) → (mv : Move) → BeginsWithMove text n mv → ⊥
 no_front text n none mv b = none (move_line mv ++ 10 ∷ b.after) (b.is ∙ front_of n mv b.after)
 
-pub no_line : (text rest : List ℕ) (n : ℕ) → text ≡ move_front n ++ rest → ((line : List ℕ) → IsFirstLine rest line → ⊥) → (mv : Move) → BeginsWith text n mv → ⊥
+pub no_line : (text rest : List ℕ) (n : ℕ) → text ≡ move_front n ++ rest → ((line : List ℕ) → IsFirstLine rest line → ⊥) → (mv : Move) → BeginsWithMove text n mv → ⊥
 no_line text rest n is none mv b = none (move_line mv) (record { whole = move_line_no mv; after = b.after; is = line_after text rest n mv is b })
 
-pub no_move : (text rest line : List ℕ) (n : ℕ) → text ≡ move_front n ++ rest → IsFirstLine rest line → ((mv : Move) → Tells line mv → ⊥) → (mv : Move) → BeginsWith text n mv → ⊥
+pub no_move : (text rest line : List ℕ) (n : ℕ) → text ≡ move_front n ++ rest → IsFirstLine rest line → ((mv : Move) → IsMoveLine line mv → ⊥) → (mv : Move) → BeginsWithMove text n mv → ⊥
 no_move text rest line n is first none mv b =
     let same = one_first line (move_line mv) first.after b.after first.whole (move_line_no mv) (sym first.is ∙ line_after text rest n mv is b) in
     none mv (record { written = same.0; told = b.told })
 
 -- a move's line does where the line there names it
-pub one_move : (text rest line : List ℕ) (n : ℕ) (mv : Move) → text ≡ move_front n ++ rest → IsFirstLine rest line → Tells line mv → BeginsWith text n mv
+pub one_move : (text rest line : List ℕ) (n : ℕ) (mv : Move) → text ≡ move_front n ++ rest → IsFirstLine rest line → IsMoveLine line mv → BeginsWithMove text n mv
 one_move text rest line n mv is first tells = record {
   told = tells.told;
   after = first.after;
@@ -137,8 +137,8 @@ one_move text rest line n mv is first tells = record {
 pub one_told : (n : ℕ) (a b : Move) (x y : List ℕ) → IsReadBack a → IsReadBack b → numbered_move n a ++ x ≡ numbered_move n b ++ y → (a ≡ b) × (x ≡ y)
 one_told n a b x y reads tells same =
     let text : List ℕ = numbered_move n b ++ y in
-    let here : BeginsWith text n a = record { told = reads; after = x; is = sym same } in
-    let there : BeginsWith text n b = record { told = tells; after = y; is = refl } in
+    let here : BeginsWithMove text n a = record { told = reads; after = x; is = sym same } in
+    let there : BeginsWithMove text n b = record { told = tells; after = y; is = refl } in
     let left : text ≡ move_front n ++ (move_line b ++ 10 ∷ y) = front_of n b y in
     let both = one_first (move_line a) (move_line b) x y (move_line_no a) (move_line_no b) (sym (line_after text (move_line b ++ 10 ∷ y) n a left here)) in
     let moves : Ok a ≡ Ok b = sym reads ∙ ap move_in both.0 ∙ tells in
@@ -185,7 +185,7 @@ pub first_not : (text : List ℕ) (end : ℕ) → end ≡ position_or_len is_lin
 first_not text end is high line f = no_first text line (rw is at high) f
 
 -- a move's line stands first exactly where the line there names the move
-pub told_first : (text rest line : List ℕ) (n : ℕ) (told : Option Move) → text ≡ move_front n ++ rest → IsFirstLine rest line → MatchOption told ((mv : Move) → Tells line mv → ⊥) (λ mv. Tells line mv)
-    → MatchOption told ((mv : Move) → BeginsWith text n mv → ⊥) (λ mv. BeginsWith text n mv)
+pub told_first : (text rest line : List ℕ) (n : ℕ) (told : Option Move) → text ≡ move_front n ++ rest → IsFirstLine rest line → MatchOption told ((mv : Move) → IsMoveLine line mv → ⊥) (λ mv. IsMoveLine line mv)
+    → MatchOption told ((mv : Move) → BeginsWithMove text n mv → ⊥) (λ mv. BeginsWithMove text n mv)
 told_first text rest line n None is first none = no_move text rest line n is first none
 told_first text rest line n (Some mv) is first tells = one_move text rest line n mv is first tells

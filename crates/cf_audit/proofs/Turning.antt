@@ -17,7 +17,7 @@ use Rattle.cf_report.specs.declared.tally.Tally.{Tally}
 use Rattle.cf_report.specs.Lines.{numbered_move}
 use Rattle.cf_run.specs.Going.{moment_of, Finds, IsMade, Leads}
 use Rattle.cf_run.specs.Made.{Made, shown}
-use Rattle.cf_run.specs.Moving.{Place, MakesAndShows, Does, shown_of}
+use Rattle.cf_run.specs.Moving.{RunPlace, MakesAndShows, MoveDoes, shown_of}
 use Rattle.cf_run.specs.Reaching.{Reaches}
 use Rattle.cf_run.proofs.Runs.{reached-more, reached-trace, reached-rest}
 use Rattle.cf_run.proofs.Stopping.{filled, shown_too}
@@ -27,8 +27,8 @@ use Rattle.run_scripts.specs.declared.trace_refusal.TraceKind.{TraceKind}
 use Rattle.run_scripts.specs.declared.trace_refusal.TraceKind.TheVariants.{NotAMove, Barred, Differs, Cut}
 use Rattle.cf_audit.specs.Audits.{Audits}
 use Rattle.cf_audit.specs.Compared.{alone, told_by}
-use Rattle.cf_audit.specs.Traces.{most_retired, line_of, has_line, BeginsWith, IsTrace, StandsAt, PartsAt, Fails, GoesWrong}
-use Rattle.cf_audit.specs.Turns.{Stand, left_of, NextIs, Parts, PutsSome, Tries, Tests}
+use Rattle.cf_audit.specs.Traces.{most_retired, line_of, has_line, BeginsWithMove, IsTrace, ReachesMoment, PartsAt, TraceFails, GoesWrong}
+use Rattle.cf_audit.specs.Turns.{AuditRun, left_of, NextIs, ShownDiffers, PutsSome, AuditTries, Tests}
 use Rattle.cf_audit.specs.Limits.{most_trace}
 use Rattle.cf_audit.proofs.Coming.{Comes, so-far, put-after, retires-below, trace-so-far, agrees-so-far, agreed-length, stands-here}
 use Rattle.cf_audit.proofs.Parting.{parted, byte_after}
@@ -50,20 +50,20 @@ last_made plan limit told m (first ∷ trace) made last (rest, finds, is, h) =
     record { at = l.at; leads = (rest, finds, is, l.leads); rest = l.rest; finds = l.finds; is = l.is; last_is = l.last_is }
 
 -- where the group of the next move and the text part
-record PartsThere (text : List ℕ) (start : Place) (now new : Stand) (reached : Reaches most_retired show.Moves start now.place) : Type 0 where
+record PartsThere (text : List ℕ) (start : RunPlace) (now new : AuditRun) (reached : Reaches most_retired show.Moves start now.place) : Type 0 where
   last : Moment
   leads : Leads start.core.plan most_retired start.streams.input (moment_of start.core reached.rest) reached.trace last
   stop : Moment
   parts : PartsAt start.core.plan start.streams.input last (now.place.tally.moves + 1) (left_of now.seen) (new.seen.agreed - now.seen.agreed) stop
-  stands : StandsAt start.core new.place.core start.streams.input new.place.streams.input stop
+  stands : ReachesMoment start.core new.place.core start.streams.input new.place.streams.input stop
   low : now.seen.agreed ≤ new.seen.agreed
   text_is : new.seen.text ≡ text
   within : new.seen.agreed ≤ length text
 
-parts_there : (text : List ℕ) (start : Place) (now new : Stand) (mv : Move) → length text ≤ most_trace → new.place.report ≡ Some (told_by new.seen) → (h : Comes text start now) → NextIs now mv → Parts mv now new → PartsThere text start now new h.reached
+parts_there : (text : List ℕ) (start : RunPlace) (now new : AuditRun) (mv : Move) → length text ≤ most_trace → new.place.report ≡ Some (told_by new.seen) → (h : Comes text start now) → NextIs now mv → ShownDiffers mv now new → PartsThere text start now new h.reached
 parts_there text start now new mv small tells h next p =
     let group : List ℕ = shown_of show.Moves mv p.event now.place new.place in
-    let full : Place = record new.place { report = filled now.place.report group } in
+    let full : RunPlace = record new.place { report = filled now.place.report group } in
     let made : Made = record { move = mv; event = p.event; state = new.place.core.state } in
     let low : now.place.core.state.retired < most_retired = retires-below text start now h small in
     let makes : MakesAndShows show.Moves mv p.event now.place full = shown_too show.Moves mv p.event now.place new.place p.makes in
@@ -116,13 +116,13 @@ parts_there text start now new mv small tells h next p =
     }
 
 -- the processor and the input stand where the run leads, and no more moves were made
-still_there : (text : List ℕ) (start : Place) (now new : Stand) (h : Comes text start now) → new ≡ now → StandsAt start.core new.place.core start.streams.input new.place.streams.input h.reached.last
+still_there : (text : List ℕ) (start : RunPlace) (now new : AuditRun) (h : Comes text start now) → new ≡ now → ReachesMoment start.core new.place.core start.streams.input new.place.streams.input h.reached.last
 still_there text start now new h same =
-    subst (λ (s : Stand). StandsAt start.core s.place.core start.streams.input s.place.streams.input h.reached.last) (sym same) (stands-here text start now h)
+    subst (λ (s : AuditRun). ReachesMoment start.core s.place.core start.streams.input s.place.streams.input h.reached.last) (sym same) (stands-here text start now h)
 
 -- the trace goes wrong at a place after the groups so far
-wrong_at : (text : List ℕ) (start : Place) (now : Stand) (h : Comes text start now) (last stop : Moment) (line place : ℕ) (kind : TraceKind) → Leads start.core.plan most_retired start.streams.input (moment_of start.core h.reached.rest) h.reached.trace last → 0 < length (left_of now.seen)
-    → Fails start.core.plan start.streams.input last (now.place.tally.moves + 1) (left_of now.seen) place kind stop → line ≡ line_of text (now.seen.agreed + place) → GoesWrong start.core start.streams.input text line kind stop
+wrong_at : (text : List ℕ) (start : RunPlace) (now : AuditRun) (h : Comes text start now) (last stop : Moment) (line place : ℕ) (kind : TraceKind) → Leads start.core.plan most_retired start.streams.input (moment_of start.core h.reached.rest) h.reached.trace last → 0 < length (left_of now.seen)
+    → TraceFails start.core.plan start.streams.input last (now.place.tally.moves + 1) (left_of now.seen) place kind stop → line ≡ line_of text (now.seen.agreed + place) → GoesWrong start.core start.streams.input text line kind stop
 wrong_at text start now h last stop line place kind leads some fails line_is = record {
   front = take now.seen.agreed text;
   left = left_of now.seen;
@@ -135,8 +135,8 @@ wrong_at text start now h last stop line place kind leads some fails line_is = r
 }
 
 -- at the first line of the next group, where no more moves are made
-wrong_first : (text : List ℕ) (start : Place) (now new : Stand) (h : Comes text start now) (line : ℕ) (kind : TraceKind) → 0 < length (left_of now.seen)
-    → Fails start.core.plan start.streams.input h.reached.last (now.place.tally.moves + 1) (left_of now.seen) 0 kind h.reached.last → line ≡ line_of text now.seen.agreed → new ≡ now
+wrong_first : (text : List ℕ) (start : RunPlace) (now new : AuditRun) (h : Comes text start now) (line : ℕ) (kind : TraceKind) → 0 < length (left_of now.seen)
+    → TraceFails start.core.plan start.streams.input h.reached.last (now.place.tally.moves + 1) (left_of now.seen) 0 kind h.reached.last → line ≡ line_of text now.seen.agreed → new ≡ now
     → Audits start.core new.place.core start.streams.input new.place.streams.input text (Wrong line kind)
 unfolding Audits
 wrong_first text start now new h line kind some fails line_is same =
@@ -151,18 +151,18 @@ line_some : (text : List ℕ) → has_line text ≡ true → 0 < length text
 line_some [] h = absurd (cc)
 line_some (x ∷ text) h = omega arith
 
-begins_some : (text : List ℕ) (n : ℕ) (mv : Move) → BeginsWith text n mv → 0 < length text
+begins_some : (text : List ℕ) (n : ℕ) (mv : Move) → BeginsWithMove text n mv → 0 < length text
 unfolding numbered_move
 begins_some text n mv b = omega (arith, ap length b.is)
 
 -- what is left of the text, by its length
-left_length : (text : List ℕ) (start : Place) (now : Stand) → Comes text start now → length (left_of now.seen) + now.seen.agreed ≡ length text
+left_length : (text : List ℕ) (start : RunPlace) (now : AuditRun) → Comes text start now → length (left_of now.seen) + now.seen.agreed ≡ length text
 left_length text start now h =
     let size : length now.seen.text ≡ length text = ap length (so-far text start now h).text_is in
     omega (arith, size, h.within, length-drop now.seen.agreed now.seen.text)
 
 -- all of the trace agrees
-agrees_all : (text : List ℕ) (start : Place) (now new : Stand) (n : ℕ) → Comes text start now → length (left_of now.seen) ≡ 0 → n ≡ now.place.tally.moves → new ≡ now → Audits start.core new.place.core start.streams.input new.place.streams.input text (Agrees n)
+agrees_all : (text : List ℕ) (start : RunPlace) (now new : AuditRun) (n : ℕ) → Comes text start now → length (left_of now.seen) ≡ 0 → n ≡ now.place.tally.moves → new ≡ now → Audits start.core new.place.core start.streams.input new.place.streams.input text (Agrees n)
 unfolding Audits
 agrees_all text start now new n h none count same =
     let all : take now.seen.agreed text ≡ text = take_all now.seen.agreed text (omega (arith, none, left_length text start now h)) in
@@ -174,18 +174,18 @@ agrees_all text start now new n h none count same =
     )
 
 -- the place where the group of a move and the text part, among all bytes
-parted_place : (text : List ℕ) (start : Place) (now new : Stand) (h : Comes text start now) (line : ℕ) → PartsThere text start now new h.reached → line ≡ line_of text new.seen.agreed → line ≡ line_of text (now.seen.agreed + (new.seen.agreed - now.seen.agreed))
+parted_place : (text : List ℕ) (start : RunPlace) (now new : AuditRun) (h : Comes text start now) (line : ℕ) → PartsThere text start now new h.reached → line ≡ line_of text new.seen.agreed → line ≡ line_of text (now.seen.agreed + (new.seen.agreed - now.seen.agreed))
 parted_place text start now new h line p line_is =
     let place : new.seen.agreed ≡ now.seen.agreed + (new.seen.agreed - now.seen.agreed) = omega (arith, p.low) in
     line_is ∙ ap (line_of text) place
 
 -- an audit's output tells nothing
-abbrev IsQuiet : (now new : Stand) → Type 0
+abbrev IsQuiet : (now new : AuditRun) → Type 0
 IsQuiet now new =
     (now.place.streams ≡ streams_of now.place.streams.input None) × (new.place.streams ≡ streams_of new.place.streams.input None)
 
 -- the call that failed was made where the run leads
-fails_there : (text : List ℕ) (start : Place) (now new : Stand) (h : Comes text start now) → IsQuiet now new → FailsToRead now.place.core new.place.core now.place.streams new.place.streams
+fails_there : (text : List ℕ) (start : RunPlace) (now new : AuditRun) (h : Comes text start now) → IsQuiet now new → FailsToRead now.place.core new.place.core now.place.streams new.place.streams
     → FailsToRead (in_state start.core h.reached.last.state) new.place.core (streams_of now.place.streams.input None) (streams_of new.place.streams.input None)
 fails_there text start now new h quiet fails =
     let there : FailsToRead (in_state start.core h.reached.last.state) new.place.core now.place.streams new.place.streams =
@@ -194,9 +194,9 @@ fails_there text start now new h quiet fails =
     (subst (λ (s : Streams). FailsToRead (in_state start.core h.reached.last.state) new.place.core s new.place.streams) quiet.0 there)
 
 -- what the move of the next line leads to, where the audit ends with it
-tried : (text : List ℕ) (start : Place) (now new : Stand) (mv : Move) (answer : Audit) → length text ≤ most_trace → new.place.report ≡ Some (told_by new.seen) → IsQuiet now new → Comes text start now → NextIs now mv → Tries text mv now new (Some answer)
+tried : (text : List ℕ) (start : RunPlace) (now new : AuditRun) (mv : Move) (answer : Audit) → length text ≤ most_trace → new.place.report ≡ Some (told_by new.seen) → IsQuiet now new → Comes text start now → NextIs now mv → AuditTries text mv now new (Some answer)
     → Audits start.core new.place.core start.streams.input new.place.streams.input text answer
-unfolding Audits Tries Fails Does
+unfolding Audits AuditTries TraceFails MoveDoes
 tried text start now new mv (Agrees n) small tells quiet h next t = absurd t
 tried text start now new mv (Wrong line NotAMove) small tells quiet h next t = absurd t
 tried text start now new mv (Wrong line (Barred b)) small tells quiet h next t =
@@ -226,7 +226,7 @@ tried text start now new mv ReadFault small tells quiet h next t =
       n = now.place.tally.moves;
       last = h.reached.last;
       agrees = agrees-so-far text start now h h.reached.last h.reached.leads (begins_some (left_of now.seen) (now.place.tally.moves + 1) mv next);
-      begins = subst (λ (m : Move). BeginsWith (left_of now.seen) (now.place.tally.moves + 1) m) serves next;
+      begins = subst (λ (m : Move). BeginsWithMove (left_of now.seen) (now.place.tally.moves + 1) m) serves next;
       allowed = subst (λ (c : Processor). bar c.plan c.state Serve ≡ None) h.reached.core (subst (λ (m : Move). bar now.place.core.plan now.place.core.state m ≡ None) serves t.0.allowed);
       asked = now.place.streams.input;
       input = h.reached.streams.input;
@@ -234,18 +234,18 @@ tried text start now new mv ReadFault small tells quiet h next t =
     }
 
 -- the first line of what is left names no move
-pub tests-none : (text left : List ℕ) (now new : Stand) (place : ℕ) (answer : Audit) → answer ≡ Wrong (line_of text place) NotAMove → place ≡ now.seen.agreed → left ≡ left_of now.seen → has_line left ≡ true → ((mv : Move) → BeginsWith left (now.place.tally.moves + 1) mv → ⊥)
+pub tests-none : (text left : List ℕ) (now new : AuditRun) (place : ℕ) (answer : Audit) → answer ≡ Wrong (line_of text place) NotAMove → place ≡ now.seen.agreed → left ≡ left_of now.seen → has_line left ≡ true → ((mv : Move) → BeginsWithMove left (now.place.tally.moves + 1) mv → ⊥)
     → new ≡ now → Tests text now new (Some answer)
 unfolding Tests
 tests-none text left now new place answer is at after has none same =
-    rw is (ap has_line (sym after) ∙ has, λ mv begins. none mv (subst (λ (t : List ℕ). BeginsWith t (now.place.tally.moves + 1) mv) (sym after) begins), ap (line_of text) at, same)
+    rw is (ap has_line (sym after) ∙ has, λ mv begins. none mv (subst (λ (t : List ℕ). BeginsWithMove t (now.place.tally.moves + 1) mv) (sym after) begins), ap (line_of text) at, same)
 
 -- it names a move, which is tried
-pub tests-tried : (text left : List ℕ) (now new : Stand) (mv : Move) (answer : Option Audit) → left ≡ left_of now.seen → BeginsWith left (now.place.tally.moves + 1) mv → Tries text mv now new answer → Tests text now new answer
-unfolding Tests Tries
-tests-tried text left now new mv answer after begins tries = of answer (subst (λ (t : List ℕ). BeginsWith t (now.place.tally.moves + 1) mv) after begins) tries
+pub tests-tried : (text left : List ℕ) (now new : AuditRun) (mv : Move) (answer : Option Audit) → left ≡ left_of now.seen → BeginsWithMove left (now.place.tally.moves + 1) mv → AuditTries text mv now new answer → Tests text now new answer
+unfolding Tests AuditTries
+tests-tried text left now new mv answer after begins tries = of answer (subst (λ (t : List ℕ). BeginsWithMove t (now.place.tally.moves + 1) mv) after begins) tries
   where
-    of : (answer : Option Audit) → NextIs now mv → Tries text mv now new answer → Tests text now new answer
+    of : (answer : Option Audit) → NextIs now mv → AuditTries text mv now new answer → Tests text now new answer
     of None next t = (mv, next, t)
     of (Some (Agrees n)) next t = absurd t
     of (Some (Wrong line NotAMove)) next t = absurd t
@@ -255,9 +255,9 @@ tests-tried text left now new mv answer after begins tries = of answer (subst (�
     of (Some ReadFault) next t = (mv, next, t)
 
 -- how the audit ends with a turn
-pub audited : (text : List ℕ) (start : Place) (now new : Stand) (answer : Audit) → length text ≤ most_trace → new.place.report ≡ Some (told_by new.seen) → IsQuiet now new → Comes text start now → Tests text now new (Some answer)
+pub audited : (text : List ℕ) (start : RunPlace) (now new : AuditRun) (answer : Audit) → length text ≤ most_trace → new.place.report ≡ Some (told_by new.seen) → IsQuiet now new → Comes text start now → Tests text now new (Some answer)
     → Audits start.core new.place.core start.streams.input new.place.streams.input text answer
-unfolding Tests Audits Fails
+unfolding Tests Audits TraceFails
 audited text start now new (Agrees n) small tells quiet h t = agrees_all text start now new n h t.0 t.1 t.2
 audited text start now new (Wrong line NotAMove) small tells quiet h t =
     wrong_first text start now new h line NotAMove (line_some (left_of now.seen) t.0) (t.0, t.1, refl, refl) t.2 t.3

@@ -22,7 +22,7 @@ use Rattle.cf_audit.specs.declared.answer.Audit.TheVariants.{Agrees, Wrong, Read
 use Rattle.run_scripts.specs.declared.trace_refusal.TraceKind.{TraceKind}
 use Rattle.run_scripts.specs.declared.trace_refusal.TraceKind.TheVariants.{NotAMove, Barred, Differs, Cut}
 use Rattle.cf_audit.specs.Audits.{Audits, AgreesWithAll}
-use Rattle.cf_audit.specs.Traces.{most_retired, AreReadBack, IsReadBack, IsTrace, PartsAt, Fails, GoesWrong, has_line}
+use Rattle.cf_audit.specs.Traces.{most_retired, AreReadBack, IsReadBack, IsTrace, PartsAt, TraceFails, GoesWrong, has_line}
 use Rattle.cf_audit.proofs.Coming.{shown-some}
 use Rattle.cf_audit.proofs.FirstLines.{one_told}
 
@@ -134,8 +134,8 @@ not_parted plan told m n made left more place stop is reads same p =
     let group : p.group ≡ shown show.Moves plan n made = g.is ∙ groups.1 in
     p.differs (ap (λ (t : List ℕ). slice_get t place) (same ∙ ap (λ (t : List ℕ). t ++ more) (sym group)) ∙ get_front p.group more place p.other p.goes_on)
 
-not_failing : (plan : Plan) (told : List ℕ) (m : Moment) (n : ℕ) (made : Made) (left more : List ℕ) (place : ℕ) (kind : TraceKind) (stop : Moment) → IsMade plan most_retired m made → IsReadBack made.move → left ≡ shown show.Moves plan n made ++ more → Fails plan (Some told) m n left place kind stop → ⊥
-unfolding Fails
+not_failing : (plan : Plan) (told : List ℕ) (m : Moment) (n : ℕ) (made : Made) (left more : List ℕ) (place : ℕ) (kind : TraceKind) (stop : Moment) → IsMade plan most_retired m made → IsReadBack made.move → left ≡ shown show.Moves plan n made ++ more → TraceFails plan (Some told) m n left place kind stop → ⊥
+unfolding TraceFails
 not_failing plan told m n made left more place NotAMove stop is reads same (has, none, at, still) =
     none made.move (record { told = reads; after = rest_of_group plan made ++ more; is = same ∙ group_parts plan n made more })
 not_failing plan told m n made left more place (Barred b) stop is reads same (mv, begins, barred, at, still) =
@@ -150,13 +150,13 @@ not_failing plan told m n made left more place Cut stop is reads same (inr (p, a
 
 -- a text that fails after the groups of some moves is not the trace of a run
 no_trace : (plan : Plan) (told : List ℕ) (m : Moment) (n k : ℕ) (a b : List Made) (last end : Moment) (left : List ℕ) (place : ℕ) (kind : TraceKind) (stop : Moment) → k ≡ n + length a → Leads plan most_retired (Some told) m a last → Leads plan most_retired (Some told) m b end → AreReadBack a → AreReadBack b
-    → 0 < length left → Fails plan (Some told) last k left place kind stop → all_shown show.Moves plan n a ++ left ≡ all_shown show.Moves plan n b → ⊥
+    → 0 < length left → TraceFails plan (Some told) last k left place kind stop → all_shown show.Moves plan n a ++ left ≡ all_shown show.Moves plan n b → ⊥
 unfolding Leads all_shown
 no_trace plan told m n k [] [] last end left place kind stop count h l reads tells some fails same = absurd (omega (arith, ap length same))
 no_trace plan told m n k [] (made ∷ b) last end left place kind stop count h (s, g, j, l) reads (tell, tells) some fails same =
     let there : IsMade plan most_retired m made = at_rest plan told m s made g j in
     let number : k ≡ n = omega (arith, count) in
-    let here : Fails plan (Some told) m n left place kind stop = subst (λ (i : ℕ). Fails plan (Some told) m i left place kind stop) number (subst (λ (q : Moment). Fails plan (Some told) q k left place kind stop) h fails) in
+    let here : TraceFails plan (Some told) m n left place kind stop = subst (λ (i : ℕ). TraceFails plan (Some told) m i left place kind stop) number (subst (λ (q : Moment). TraceFails plan (Some told) q k left place kind stop) h fails) in
     not_failing plan told m n made left (all_shown show.Moves plan (n + 1) b) place kind stop there tell same here
 no_trace plan told m n k (made ∷ a) [] last end left place kind stop count h l reads tells some fails same =
     no_group plan n made (all_shown show.Moves plan (n + 1) a ++ left) (sym same ∙ append_assoc (shown show.Moves plan n made) (all_shown show.Moves plan (n + 1) a) left)

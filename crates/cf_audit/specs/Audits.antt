@@ -10,14 +10,14 @@ use Rattle.cf_run.specs.Headline.{machine_on, AreTexts}
 use Rattle.cf_run.specs.Made.{all_shown}
 use Rattle.cf_audit.specs.declared.answer.Audit.{Audit}
 use Rattle.cf_audit.specs.declared.answer.Audit.TheVariants.{Agrees, Wrong, ReadFault}
-use Rattle.cf_audit.specs.Traces.{IsTrace, StandsAt, GoesWrong, StopsAtCall}
+use Rattle.cf_audit.specs.Traces.{IsTrace, ReachesMoment, GoesWrong, StopsAtCall}
 
 -- the trace is that of a run of this many moves, at whose end the processor and the input stand; or it goes wrong in this line, for this reason, and they stand where the moves that were made lead; or the input failed a call
 unfoldable pub Audits : (core new : Processor) → (told now : Option (List ℕ)) → List ℕ → Audit → Type 0
 Audits core new told now text (Agrees n) =
-    (last : Moment) × IsTrace core told text n last × StandsAt core new told now last
+    (last : Moment) × IsTrace core told text n last × ReachesMoment core new told now last
 Audits core new told now text (Wrong line kind) =
-    (stop : Moment) × GoesWrong core told text line kind stop × StandsAt core new told now stop
+    (stop : Moment) × GoesWrong core told text line kind stop × ReachesMoment core new told now stop
 Audits core new told now text ReadFault = StopsAtCall core new told now text
 
 -- the answer for the trace of a run of this many moves, unless the input fails

@@ -17,8 +17,8 @@ abbrev pub IsOther : List ℕ → ℕ → ℕ → Type 0
 IsOther text place byte = slice_get text place ≡ Some byte → ⊥
 
 -- two texts have no byte in common at this place
-abbrev pub AreApart : (one other : List ℕ) → ℕ → Type 0
-AreApart one other place = (byte : ℕ) → slice_get other place ≡ Some byte → IsOther one place byte
+abbrev pub DifferAt : (one other : List ℕ) → ℕ → Type 0
+DifferAt one other place = (byte : ℕ) → slice_get other place ≡ Some byte → IsOther one place byte
 
 -- the bytes that agree are the text's, the other byte is not the text's, and the sink fails only after that byte
 pub record IsComparison (c : Comparison) : Type 0 where
@@ -34,7 +34,7 @@ pub record HasOther (seen : Comparison) : Type 0 where
   pub within : seen.agreed ≤ length seen.text
 
 -- all that was put agrees, and the comparison has not failed
-pub record IsSame (seen : Comparison) : Type 0 where
+pub record AllAgrees (seen : Comparison) : Type 0 where
   pub none : seen.other ≡ None
   pub works : seen.faults ≡ 0
   pub within : seen.agreed ≤ length seen.text

@@ -15,6 +15,6 @@ pub record IsFirstLine (text line : List ℕ) : Type 0 where
   pub is : text ≡ line ++ 10 ∷ after
 
 -- the line is the one that is written for the move, and is read as that move
-pub record Tells (line : List ℕ) (mv : Move) : Type 0 where
+pub record IsMoveLine (line : List ℕ) (mv : Move) : Type 0 where
   pub written : line ≡ move_line mv
   pub told : IsReadBack mv

@@ -44,12 +44,12 @@ pub record IsTrace (core : Processor) (told : Option (List ℕ)) (text : List �
   pub is : text ≡ all_shown show.Moves core.plan 1 trace
 
 -- the processor and the input are what the moves that lead to the moment leave
-pub record StandsAt (core new : Processor) (told now : Option (List ℕ)) (last : Moment) : Type 0 where
+pub record ReachesMoment (core new : Processor) (told now : Option (List ℕ)) (last : Moment) : Type 0 where
   pub processor : new ≡ in_state core last.state
   pub input : Becomes told now last.rest
 
 -- the text begins with the line of this move under this number
-pub record BeginsWith (text : List ℕ) (n : ℕ) (mv : Move) : Type 0 where
+pub record BeginsWithMove (text : List ℕ) (n : ℕ) (mv : Move) : Type 0 where
   pub told : IsReadBack mv
   pub after : List ℕ
   pub is : text ≡ numbered_move n mv ++ after
@@ -80,7 +80,7 @@ pub record IsGroup (plan : Plan) (told : Option (List ℕ)) (last : Moment) (n :
 -- what is left begins with the line of a move that can be made, which leads to the moment `stop`, and it is the move's group up to this place, at which the group has another byte or the text has ended
 pub record PartsAt (plan : Plan) (told : Option (List ℕ)) (last : Moment) (n : ℕ) (left : List ℕ) (place : ℕ) (stop : Moment) : Type 0 where
   pub move : Move
-  pub begins : BeginsWith left n move
+  pub begins : BeginsWithMove left n move
   pub group : List ℕ
   pub is_group : IsGroup plan told last n move group
   pub leads : stop ≡ next plan (record last { rest = is_group.rest }) move
@@ -90,15 +90,15 @@ pub record PartsAt (plan : Plan) (told : Option (List ℕ)) (last : Moment) (n :
   pub differs : slice_get left place ≡ Some other → ⊥
 
 -- why what is left, which is not empty, is not the trace of further moves from the moment, the next of which has this number; the place is that of the byte that shows it. The tests stand in the order in which they are made: no line feed is left; the first line is that of no move; the move is barred; what follows is not its group. Only for the last is a move made: all stops at the moment to which it leads, and else at this one
-unfoldable pub Fails : Plan → Option (List ℕ) → Moment → ℕ → List ℕ → ℕ → TraceKind → (stop : Moment) → Type 0
-Fails plan told last n left place Cut stop =
+unfoldable pub TraceFails : Plan → Option (List ℕ) → Moment → ℕ → List ℕ → ℕ → TraceKind → (stop : Moment) → Type 0
+TraceFails plan told last n left place Cut stop =
     ((has_line left ≡ false) × (place ≡ 0) × (stop ≡ last))
     ⊎ (PartsAt plan told last n left place stop × (place ≡ length left))
-Fails plan told last n left place NotAMove stop =
-    (has_line left ≡ true) × ((mv : Move) → BeginsWith left n mv → ⊥) × (place ≡ 0) × (stop ≡ last)
-Fails plan told last n left place (Barred b) stop =
-    (mv : Move) × BeginsWith left n mv × (first_bar plan last.state mv ≡ Some b) × (place ≡ 0) × (stop ≡ last)
-Fails plan told last n left place Differs stop =
+TraceFails plan told last n left place NotAMove stop =
+    (has_line left ≡ true) × ((mv : Move) → BeginsWithMove left n mv → ⊥) × (place ≡ 0) × (stop ≡ last)
+TraceFails plan told last n left place (Barred b) stop =
+    (mv : Move) × BeginsWithMove left n mv × (first_bar plan last.state mv ≡ Some b) × (place ≡ 0) × (stop ≡ last)
+TraceFails plan told last n left place Differs stop =
     PartsAt plan told last n left place stop × (place < length left)
 
 -- The text is not the trace of a run: after the groups of a run a test fails, in this line. The moves that are made lead to the moment `stop`.
@@ -109,7 +109,7 @@ pub record GoesWrong (core : Processor) (told : Option (List ℕ)) (text : List 
   pub last : Moment
   pub agrees : AgreesSoFar core told text front left n last
   pub place : ℕ
-  pub fails : Fails core.plan told last (n + 1) left place kind stop
+  pub fails : TraceFails core.plan told last (n + 1) left place kind stop
   pub line_is : line ≡ line_of text (length front + place)
 
 -- After the groups of a run comes the line of Serve, which nothing bars: this call is the one that failed, and the processor and the input are what it leaves.
@@ -119,7 +119,7 @@ pub record StopsAtCall (core new : Processor) (told now : Option (List ℕ)) (te
   pub n : ℕ
   pub last : Moment
   pub agrees : AgreesSoFar core told text front left n last
-  pub begins : BeginsWith left (n + 1) Serve
+  pub begins : BeginsWithMove left (n + 1) Serve
   pub allowed : first_bar core.plan last.state Serve ≡ None
   pub asked : Option (List ℕ)
   pub input : Becomes told asked last.rest

@@ -9,24 +9,24 @@ use Rattle.cf_semantics.specs.moves.Bars.{bar as first_bar}
 use Rattle.cf_core.specs.Processors.{Processor}
 use Rattle.cf_report.specs.declared.tally.Tally.{Tally}
 use Rattle.cf_run.specs.declared.answer.Ran.TheVariants as ran
-use Rattle.cf_run.specs.Moving.{Place, place_of, MakesOne, MakesAndShows, Does, shown_of}
+use Rattle.cf_run.specs.Moving.{RunPlace, place_of, MakesMove, MakesAndShows, MoveDoes, shown_of}
 use Rattle.cf_audit.specs.declared.answer.Audit.{Audit}
 use Rattle.cf_audit.specs.declared.answer.Audit.TheVariants.{Agrees, Wrong, ReadFault}
 use Rattle.run_scripts.specs.declared.trace_refusal.TraceKind.TheVariants.{NotAMove, Barred, Differs, Cut}
-use Rattle.cf_audit.specs.Compared.{Comparison, told_by, HasOther, IsSame}
-use Rattle.cf_audit.specs.Traces.{BeginsWith, has_line, line_of}
+use Rattle.cf_audit.specs.Compared.{Comparison, told_by, HasOther, AllAgrees}
+use Rattle.cf_audit.specs.Traces.{BeginsWithMove, has_line, line_of}
 
 -- where an audit has arrived: the place of its run, and the comparison that is its report
-pub record Stand : Type 0 where
-  pub place : Place
+pub record AuditRun : Type 0 where
+  pub place : RunPlace
   pub seen : Comparison
 
 -- the stand with these
-abbrev pub stand_of : Place → Comparison → Stand
+abbrev pub stand_of : RunPlace → Comparison → AuditRun
 stand_of place seen = record { place = place; seen = seen }
 
 -- the stand with these, given what a source tells; what the program writes goes nowhere
-abbrev pub stand_by : {S : Type 0} → (S → Option (List ℕ)) → Processor → S → Comparison → Tally → Stand
+abbrev pub stand_by : {S : Type 0} → (S → Option (List ℕ)) → Processor → S → Comparison → Tally → AuditRun
 stand_by unread core input seen tally = stand_of (place_of core (streams_of (unread input) None) (Some (told_by seen)) tally) seen
 
 -- the text that is left
@@ -34,50 +34,50 @@ abbrev pub left_of : Comparison → List ℕ
 left_of seen = drop seen.agreed seen.text
 
 -- what is left begins with the line of this move, the next one
-abbrev pub NextIs : Stand → Move → Type 0
-NextIs now mv = BeginsWith (left_of now.seen) (now.place.tally.moves + 1) mv
+abbrev pub NextIs : AuditRun → Move → Type 0
+NextIs now mv = BeginsWithMove (left_of now.seen) (now.place.tally.moves + 1) mv
 
 -- the answer that a comparison gives, if a byte does not agree
-unfoldable pub Compares : List ℕ → Comparison → Option Audit → Type 0
-Compares text seen None = IsSame seen
-Compares text seen (Some (Wrong line Differs)) =
+unfoldable pub ComparisonAnswers : List ℕ → Comparison → Option Audit → Type 0
+ComparisonAnswers text seen None = AllAgrees seen
+ComparisonAnswers text seen (Some (Wrong line Differs)) =
     HasOther seen × (seen.agreed < length seen.text) × (line ≡ line_of text seen.agreed)
-Compares text seen (Some (Wrong line Cut)) =
+ComparisonAnswers text seen (Some (Wrong line Cut)) =
     HasOther seen × (seen.agreed ≡ length seen.text) × (line ≡ line_of text seen.agreed)
-Compares text seen (Some answer) = ⊥
+ComparisonAnswers text seen (Some answer) = ⊥
 
 -- the move was made, and all that is shown of it stands next in the text
-pub record Advances (mv : Move) (now new : Stand) : Type 0 where
+pub record Advances (mv : Move) (now new : AuditRun) : Type 0 where
   pub event : Event
   pub makes : MakesAndShows show.Moves mv event now.place new.place
-  pub same : IsSame new.seen
+  pub same : AllAgrees new.seen
 
 -- a front of these bytes was put, or all of them
 abbrev pub PutsSome : Option (List ℕ) → Option (List ℕ) → List ℕ → Type 0
 PutsSome before after bytes = (n : ℕ) × (n ≤ length bytes) × Writes before after (take n bytes)
 
 -- the move was made, and a byte of what is shown of it does not stand in the text where it should
-pub record Parts (mv : Move) (now new : Stand) : Type 0 where
+pub record ShownDiffers (mv : Move) (now new : AuditRun) : Type 0 where
   pub event : Event
-  pub makes : MakesOne mv event now.place new.place
+  pub makes : MakesMove mv event now.place new.place
   pub report : PutsSome now.place.report new.place.report (shown_of show.Moves mv event now.place new.place)
   pub differs : HasOther new.seen
 
 -- what the move of the next line leads to
-unfoldable pub Tries : List ℕ → Move → (now new : Stand) → Option Audit → Type 0
-Tries text mv now new None = Advances mv now new
-Tries text mv now new (Some (Agrees n)) = ⊥
-Tries text mv now new (Some (Wrong line NotAMove)) = ⊥
-Tries text mv now new (Some (Wrong line (Barred b))) =
+unfoldable pub AuditTries : List ℕ → Move → (now new : AuditRun) → Option Audit → Type 0
+AuditTries text mv now new None = Advances mv now new
+AuditTries text mv now new (Some (Agrees n)) = ⊥
+AuditTries text mv now new (Some (Wrong line NotAMove)) = ⊥
+AuditTries text mv now new (Some (Wrong line (Barred b))) =
     (first_bar now.place.core.plan now.place.core.state mv ≡ Some b) × (line ≡ line_of text now.seen.agreed) × (new ≡ now)
-Tries text mv now new (Some (Wrong line Differs)) =
-    Parts mv now new × (new.seen.agreed < length new.seen.text) × (line ≡ line_of text new.seen.agreed)
-Tries text mv now new (Some (Wrong line Cut)) =
-    Parts mv now new × (new.seen.agreed ≡ length new.seen.text) × (line ≡ line_of text new.seen.agreed)
-Tries text mv now new (Some ReadFault) = Does show.Moves mv now.place new.place (Err ran.ReadFault)
+AuditTries text mv now new (Some (Wrong line Differs)) =
+    ShownDiffers mv now new × (new.seen.agreed < length new.seen.text) × (line ≡ line_of text new.seen.agreed)
+AuditTries text mv now new (Some (Wrong line Cut)) =
+    ShownDiffers mv now new × (new.seen.agreed ≡ length new.seen.text) × (line ≡ line_of text new.seen.agreed)
+AuditTries text mv now new (Some ReadFault) = MoveDoes show.Moves mv now.place new.place (Err ran.ReadFault)
 
 -- the next group is tested: its first line names a move, which is tried, or names none
-unfoldable pub Tests : List ℕ → (now new : Stand) → Option Audit → Type 0
+unfoldable pub Tests : List ℕ → (now new : AuditRun) → Option Audit → Type 0
 Tests text now new (Some (Agrees n)) =
     (length (left_of now.seen) ≡ 0) × (n ≡ now.place.tally.moves) × (new ≡ now)
 Tests text now new (Some (Wrong line NotAMove)) =
@@ -86,8 +86,8 @@ Tests text now new (Some (Wrong line NotAMove)) =
 Tests text now new (Some (Wrong line Cut)) =
     ((0 < length (left_of now.seen)) × (has_line (left_of now.seen) ≡ false) × (line ≡ line_of text now.seen.agreed)
     × (new ≡ now))
-    ⊎ ((mv : Move) × NextIs now mv × Tries text mv now new (Some (Wrong line Cut)))
-Tests text now new answer = (mv : Move) × NextIs now mv × Tries text mv now new answer
+    ⊎ ((mv : Move) × NextIs now mv × AuditTries text mv now new (Some (Wrong line Cut)))
+Tests text now new answer = (mv : Move) × NextIs now mv × AuditTries text mv now new answer
 
 -- an error where the input failed the audit
 abbrev pub input_tested : Option Audit → Result (Unit {0}) (Unit {0})

@@ -1,5 +1,5 @@
 //! A recorded trace is audited.
-#![tactic(auto, unfolding(crate::specs::Turns::Tries, crate::specs::Turns::Tests))]
+#![tactic(auto, unfolding(crate::specs::Turns::AuditTries, crate::specs::Turns::Tests))]
 
 ghost use Rattle.std.specs.Prelude.{◌≡◌, ◌+◌, ◌<◌, ◌≤◌, ◌^◌, None, Some, count_by, length};
 ghost use Rattle.rv_text.specs.Lines.{is_line_feed};
@@ -8,7 +8,7 @@ ghost use Rattle.cf_run.specs.Made.{CanCount};
 ghost use Rattle.cf_run.specs.Policies.{IsOpened};
 ghost use Rattle.cf_audit.specs.Limits.{most_trace};
 ghost use Rattle.cf_audit.specs.Traces.{has_line, line_of};
-ghost use Rattle.cf_audit.specs.Turns.{stand_by, Compares, Tests, input_tested};
+ghost use Rattle.cf_audit.specs.Turns.{stand_by, ComparisonAnswers, Tests, input_tested};
 ghost use Rattle.cf_audit.specs.Audits.{Audits, AgreesWithAll, RetiresSequentially};
 
 use crate::answer::Audit;
@@ -65,10 +65,10 @@ fn wrong(trace: &[u8], place: usize, kind: TraceKind) -> Audit
 }
 
 /// The answer where a byte that was put does not agree with the trace.
-#[tactic(auto, unfolding(crate::specs::Turns::Compares))]
+#[tactic(auto, unfolding(crate::specs::Turns::ComparisonAnswers))]
 fn compared(trace: &[u8], report: &Compared<'_>) -> Option<Audit>
     requires { length trace.now ≤ most_trace }
-    ensures { Compares trace.now report.now result }
+    ensures { ComparisonAnswers trace.now report.now result }
 {
     if !report.differs() {
         None

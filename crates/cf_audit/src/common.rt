@@ -1,14 +1,14 @@
 //! How far two texts are the same.
 
 ghost use Rattle.std.specs.Prelude.{◌≡◌, ◌≤◌, length, slice_get, take};
-ghost use Rattle.cf_audit.specs.Compared.{AreApart};
+ghost use Rattle.cf_audit.specs.Compared.{DifferAt};
 
 /// How many bytes the two have in common from their front on.
 pub(crate) fn common(one: &[u8], other: &[u8]) -> usize
     ensures within_one { result ≤ length one.now }
     ensures within_other { result ≤ length other.now }
     ensures same { take result one.now ≡ take result other.now }
-    ensures apart { AreApart one.now other.now result }
+    ensures apart { DifferAt one.now other.now result }
 {
     let mut same = 0;
     while same < one.len() && same < other.len() && one[same] == other[same] {

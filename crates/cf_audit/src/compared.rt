@@ -3,7 +3,7 @@
 ghost use Rattle.std.specs.Prelude.{◌≡◌, ◌≤◌, ◌↔◌, IsTrue, None, Some, drop, false, true, length};
 ghost use Rattle.cf_io.specs.Causes.{HasCause};
 ghost use Rattle.cf_io.specs.Puts.{Puts};
-ghost use Rattle.cf_audit.specs.Compared.{fresh, told_by, HasOther, IsSame};
+ghost use Rattle.cf_audit.specs.Compared.{fresh, told_by, HasOther, AllAgrees};
 
 use crate::common::{byte_at, common};
 use cf_io::{Failed, Sink};
@@ -67,7 +67,7 @@ impl<'a> Compared<'a> {
     /// Whether a byte was put that does not agree.
     pub(crate) fn differs(&self) -> bool
         ensures yes { result ≡ true → HasOther self.now }
-        ensures no { result ≡ false → IsSame self.now }
+        ensures no { result ≡ false → AllAgrees self.now }
     {
         self.other.is_some()
     }

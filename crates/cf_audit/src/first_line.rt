@@ -3,8 +3,8 @@
 ghost use Rattle.std.specs.Prelude.{◌≡◌, ◌++◌, ◌↔◌, IsTrue, MatchOption, List, ℕ};
 ghost use Rattle.cf_bind.specs.declared.moves.Move.{Move as AnyMove};
 ghost use Rattle.cf_bind.specs.MoveTexts.{move_line};
-ghost use Rattle.cf_audit.specs.Lines.{move_front, IsFirstLine, Tells};
-ghost use Rattle.cf_audit.specs.Traces.{BeginsWith};
+ghost use Rattle.cf_audit.specs.Lines.{move_front, IsFirstLine, IsMoveLine};
+ghost use Rattle.cf_audit.specs.Traces.{BeginsWithMove};
 
 use cf_bind::{Move, MoveLine, move_text};
 use cf_report::move_number;
@@ -51,7 +51,7 @@ fn is_line_of(line: &[u8], mv: Move) -> bool
 
 /// The move that is read in a line, where the line is the one that is written for it.
 fn move_of(line: &[u8]) -> Option<Move>
-    ensures { MatchOption result ((mv : AnyMove) → Tells line.now mv → ⊥) (λ mv. Tells line.now mv) }
+    ensures { MatchOption result ((mv : AnyMove) → IsMoveLine line.now mv → ⊥) (λ mv. IsMoveLine line.now mv) }
 {
     let mv = read_move(line).ok()?;
     if is_line_of(line, mv) { Some(mv) } else { None }
@@ -59,7 +59,7 @@ fn move_of(line: &[u8]) -> Option<Move>
 
 /// The move with whose line, the `n`th, the text begins.
 pub(crate) fn recorded_move(text: &[u8], n: u64) -> Option<Move>
-    ensures { MatchOption result ((mv : AnyMove) → BeginsWith text.now n mv → ⊥) (λ mv. BeginsWith text.now n mv) }
+    ensures { MatchOption result ((mv : AnyMove) → BeginsWithMove text.now n mv → ⊥) (λ mv. BeginsWithMove text.now n mv) }
 {
     move_of(first_line(after_number(text, n)?)?)
 }

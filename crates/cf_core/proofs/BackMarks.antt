@@ -8,7 +8,7 @@ use Rattle.cf_semantics.specs.moves.Moves.{moved}
 use Rattle.cf_semantics.specs.state.State.{State}
 use Rattle.cf_core.specs.Marks.{Within, marks_of, remarked, touched}
 use Rattle.cf_core.specs.Processors.{Processor, IsProcessor, in_state}
-use Rattle.cf_core.specs.Undo.{IsAfter}
+use Rattle.cf_core.specs.Undo.{HasJustMade}
 use Rattle.cf_core.specs.declared.marks.Marks.{Marks}
 use Rattle.cf_core.specs.declared.touching.Touched.{Touched}
 use Rattle.cf_core.proofs.Bits.{marks-two}
@@ -18,13 +18,13 @@ use Rattle.cf_core.proofs.Sites.{touched-within}
 use Rattle.cf_core.proofs.Touched.{moved-but}
 
 -- what holds of the processor after it, in which the move can be made
-pub back-facts : (p : Processor) (k : Kept) → IsAfter p k → IsProcessor p.plan (restored p.state k)
+pub back-facts : (p : Processor) (k : Kept) → HasJustMade p k → IsProcessor p.plan (restored p.state k)
 back-facts p k h = subst (IsProcessor p.plan) (sym (earlier-restored p k h)) h.stood.facts
 
-pub back-free : (p : Processor) (k : Kept) → IsAfter p k → row_bar p.plan (restored p.state k) k.move ≡ None
+pub back-free : (p : Processor) (k : Kept) → HasJustMade p k → row_bar p.plan (restored p.state k) k.move ≡ None
 back-free p k h = subst (λ (s : State). row_bar p.plan s k.move ≡ None) (sym (earlier-restored p k h)) (unbarred p.plan h.earlier k.move h.allowed)
 
-pub back-within : (p : Processor) (k : Kept) (t : Touched) → IsAfter p k → t ≡ touched p.plan (restored p.state k) k.move → Within p.plan t
+pub back-within : (p : Processor) (k : Kept) (t : Touched) → HasJustMade p k → t ≡ touched p.plan (restored p.state k) k.move → Within p.plan t
 back-within p k t h e = subst (Within p.plan) (sym e) (touched-within p.plan (restored p.state k) k.move (back-facts p k h) (back-free p k h))
 
 -- the stages that the move touched are those for which what holds can have changed
@@ -35,7 +35,7 @@ marks_back plan s mv h free =
     let at = touched plan s mv in
     sym (marks-two plan (moved plan s mv) s at.low at.high h.accepted.stages.1 w.low w.low_in w.high w.high_in (λ j off far. sym (moved-but plan s mv free j off far)))
 
-pub back-marks : (p : Processor) (k : Kept) (marks : Marks) (t : Touched) → IsAfter p k → marks ≡ marks_of p.plan p.state → t ≡ touched p.plan (restored p.state k) k.move →
+pub back-marks : (p : Processor) (k : Kept) (marks : Marks) (t : Touched) → HasJustMade p k → marks ≡ marks_of p.plan p.state → t ≡ touched p.plan (restored p.state k) k.move →
     remarked p.plan (restored p.state k) marks t ≡ marks_of p.plan (restored p.state k)
 back-marks p k marks t h is touches =
     let back = earlier-restored p k h in

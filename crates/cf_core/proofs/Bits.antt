@@ -9,7 +9,7 @@ use Rattle.cf_layout.specs.Layout.{Plan}
 use Rattle.cf_semantics.specs.state.State.{State}
 use Rattle.cf_stages.specs.Words.{with_bit, word_of}
 use Rattle.cf_stages.proofs.Bits.{word-with-bit}
-use Rattle.cf_core.specs.declared.marks.Mark.{Mark}
+use Rattle.cf_core.specs.declared.marks.StageMark.{StageMark}
 use Rattle.cf_core.specs.Marks.{mark_at, marked, marks_of, remarked}
 use Rattle.cf_core.specs.declared.marks.Marks.{Marks}
 use Rattle.cf_core.specs.declared.touching.Touched.{Touched}
@@ -58,7 +58,7 @@ pub marks-two : (plan : Plan) (s t : State) (i j : ℕ) → plan.stages ≤ 32 �
     marks_of plan t ≡ marked (marked (marks_of plan s) i (mark_at plan t i)) j (mark_at plan t j)
 unfolding marks_of
 marks-two plan s t i j few low within low2 within2 same =
-    let two = λ (field : Mark → Bool). word-two (λ k. field (mark_at plan s k)) (λ k. field (mark_at plan t k)) plan.stages i j few low within low2 within2 (λ k a b. ap field (same k a b)) in
+    let two = λ (field : StageMark → Bool). word-two (λ k. field (mark_at plan s k)) (λ k. field (mark_at plan t k)) plan.stages i j few low within low2 within2 (λ k a b. ap field (same k a b)) in
     let owes = two (λ m. m.owes) in
     let stops = two (λ m. m.stops) in
     let execute = two (λ m. m.execute) in

@@ -3,13 +3,13 @@ use Rattle.std.proofs.Common.{◌≡◌, ℕ, List, Option, Some, None, Bool, tr
 use Rattle.std.specs.Prelude.{if◌then◌else◌, ◌==◌, not}
 use Rattle.mem_regions.specs.Memory.{Memory}
 use Rattle.mem_regions.specs.Ranges.{range_of, can_write}
-use Rattle.rv_machine.specs.Call.{Called, Value, Exit, Answer, call, read, write, brk, exit, answered, write_from, is_exit, is_output, number_in, first_argument, second_argument, third_argument, no_such_call}
+use Rattle.rv_machine.specs.Call.{Called, Value, Exit, CallAnswer, call, read, write, brk, exit, answered, write_from, is_exit, is_output, number_in, first_argument, second_argument, third_argument, no_such_call}
 
 -- it is not an exit
 abbrev IsAnswer : Called → Type 0
 IsAnswer c = (status : ℕ) → c ≡ Exit status → ⊥
 
-value_answers : (a : Answer) → IsAnswer (Value a)
+value_answers : (a : CallAnswer) → IsAnswer (Value a)
 value_answers a status e = absurd (cc)
 
 either : (b : Bool) (c d : Called) → IsAnswer c → IsAnswer d → IsAnswer (if b then c else d)

@@ -25,7 +25,7 @@ use Rattle.cf_semantics.specs.state.State.{State, cell_at, with_cell}
 use Rattle.cf_passengers.specs.Facts.{IsBinding, IsFetched, IsPassenger, IsWritable}
 use Rattle.cf_passengers.proofs.Decoded.{decoded-instruction}
 use Rattle.cf_passengers.proofs.Kept.{fresh-passenger}
-use Rattle.cf_core.specs.Processors.{IsProcessor, IsStage}
+use Rattle.cf_core.specs.Processors.{IsProcessor, IsCellOfSet}
 use Rattle.cf_core.proofs.KeptParts.{cell-kept, ends-kept, kept-or, kept-where, stage-at}
 use Rattle.cf_core.proofs.KeptStages.{change-kept, packet-gone, packet-new, passenger-gone, passenger-new}
 
@@ -72,7 +72,7 @@ requests-writable isa p h = both-writable (missing p.src1) (missing p.src2) (mis
 
 -- The moves --
 
-issued-kept : (plan : Plan) (s : State) (g : Guess) (c : Cell) (pc : ℕ) → IsProcessor plan s → IsStage (isa_of plan) c → IsProcessor plan (issued plan s g c pc)
+issued-kept : (plan : Plan) (s : State) (g : Guess) (c : Cell) (pc : ℕ) → IsProcessor plan s → IsCellOfSet (isa_of plan) c → IsProcessor plan (issued plan s g c pc)
 issued-kept plan s g c pc h stage =
     let isa = isa_of plan in
     let p = fresh s.cache (fetched isa s.mem pc) pc g in
@@ -87,7 +87,7 @@ issue-kept plan s g h =
     kept-where plan s (cell_at s.cells 1) _ h (λ c e. kept-where plan s (running s.fetch) (issued plan s g c) h (λ pc f.
     issued-kept plan s g c pc h (stage-at plan s 1 c h e)))
 
-emitted-kept : (plan : Plan) (s : State) (n : ℕ) (lane : List ℕ) (c : Cell) → IsProcessor plan s → All IsWritable lane → IsStage (isa_of plan) c → IsProcessor plan (emitted s n lane c)
+emitted-kept : (plan : Plan) (s : State) (n : ℕ) (lane : List ℕ) (c : Cell) → IsProcessor plan s → All IsWritable lane → IsCellOfSet (isa_of plan) c → IsProcessor plan (emitted s n lane c)
 emitted-kept plan s n [] c h all stage = h
 emitted-kept plan s n (r ∷ lane) c h all stage =
     let value = record c { packet = Some (Value r (slice_index s.regs r)); met = false } in

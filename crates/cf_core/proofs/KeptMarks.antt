@@ -21,7 +21,7 @@ use Rattle.cf_core.specs.Processors.{Processor, IsProcessor}
 use Rattle.cf_core.specs.Stepping.{MakesOrFails}
 use Rattle.cf_core.specs.declared.fault.Fault.{Fault}
 use Rattle.cf_core.specs.declared.fault.Fault.TheVariants as fault
-use Rattle.cf_core.specs.declared.marks.Mark.{Mark}
+use Rattle.cf_core.specs.declared.marks.StageMark.{StageMark}
 use Rattle.cf_core.specs.declared.marks.Marks.{Marks}
 use Rattle.cf_core.specs.declared.touching.Touched.{Touched}
 use Rattle.cf_core.proofs.Bits.{SameBut, marks-two}
@@ -29,7 +29,7 @@ use Rattle.cf_core.proofs.StillMarks.{Same, moved-same}
 use Rattle.cf_core.proofs.KeptServe.{unbarred}
 use Rattle.cf_core.proofs.SameMarks.{cell-but, rest-but, rest-same}
 use Rattle.cf_core.proofs.Sites.{touched-within}
-use Rattle.cf_core.proofs.Steps.{next_moved}
+use Rattle.cf_core.proofs.StepsOrBarred.{next_moved}
 use Rattle.cf_core.proofs.Touched.{moved-but}
 
 -- what the environment answers changes only the highest stage
@@ -101,7 +101,7 @@ made_same old new mv before after (Err fault.Write) free h keeps = rest-same old
 marks_same : (plan : Plan) (s t : State) → Same plan s t → marks_of plan s ≡ marks_of plan t
 unfolding marks_of
 marks_same plan s t same =
-    let word = λ (field : Mark → Bool). word-agrees (λ k. field (mark_at plan s k)) (λ k. field (mark_at plan t k)) plan.stages (λ k low high. sym (ap field (same k))) in
+    let word = λ (field : StageMark → Bool). word-agrees (λ k. field (mark_at plan s k)) (λ k. field (mark_at plan t k)) plan.stages (λ k low high. sym (ap field (same k))) in
     let owes = word (λ m. m.owes) in
     let stops = word (λ m. m.stops) in
     let execute = word (λ m. m.execute) in

@@ -13,7 +13,7 @@ use Rattle.cf_semantics.specs.state.Options.{on}
 use Rattle.cf_semantics.specs.state.State.{State, cell_at, put_cell, siding_at, with_cell, with_siding}
 use Rattle.cf_passengers.specs.Facts.{IsWritable}
 use Rattle.cf_sidings.specs.Sidings.{cells_in}
-use Rattle.cf_core.specs.Processors.{AreOps, IsProcessor, IsStage}
+use Rattle.cf_core.specs.Processors.{AreOps, IsProcessor, IsCellOfSet}
 
 -- it is kept where a part is there or not, and is kept in each case
 pub kept-or : {A : Type 0} (plan : Plan) (o : Option A) (d : State) (f : A → State) → (o ≡ None → IsProcessor plan d) → ((a : A) → o ≡ Some a → IsProcessor plan (f a)) → IsProcessor plan (on o d f)
@@ -28,11 +28,11 @@ pub all-at : {A : Type 0} (P : A → Type 0) (xs : List A) (i : ℕ) (x : A) →
 all-at P xs i x h e = subst P (get_or_from_slice_get xs i x x e) (h i x (slice_get_within xs i x e))
 
 -- what holds of the content of a stage
-stage_in : (plan : Plan) (cells : List Cell) (i : ℕ) (c : Cell) → All (IsStage (isa_of plan)) cells → cell_at cells i ≡ Some c → IsStage (isa_of plan) c
+stage_in : (plan : Plan) (cells : List Cell) (i : ℕ) (c : Cell) → All (IsCellOfSet (isa_of plan)) cells → cell_at cells i ≡ Some c → IsCellOfSet (isa_of plan) c
 stage_in plan cells zero c h e = absurd (cc)
-stage_in plan cells (suc i) c h e = all-at (IsStage (isa_of plan)) cells i c h e
+stage_in plan cells (suc i) c h e = all-at (IsCellOfSet (isa_of plan)) cells i c h e
 
-pub stage-at : (plan : Plan) (s : State) (i : ℕ) (c : Cell) → IsProcessor plan s → cell_at s.cells i ≡ Some c → IsStage (isa_of plan) c
+pub stage-at : (plan : Plan) (s : State) (i : ℕ) (c : Cell) → IsProcessor plan s → cell_at s.cells i ≡ Some c → IsCellOfSet (isa_of plan) c
 stage-at plan s i c h e = stage_in plan s.cells i c h.cells e
 
 -- a stage gets other contents
@@ -40,11 +40,11 @@ length_put : (cells : List Cell) (i : ℕ) (c : Cell) → length (put_cell cells
 length_put cells zero c = refl
 length_put cells (suc i) c = length-set cells i c
 
-stages_put : (plan : Plan) (cells : List Cell) (i : ℕ) (c : Cell) → IsStage (isa_of plan) c → All (IsStage (isa_of plan)) cells → All (IsStage (isa_of plan)) (put_cell cells i c)
+stages_put : (plan : Plan) (cells : List Cell) (i : ℕ) (c : Cell) → IsCellOfSet (isa_of plan) c → All (IsCellOfSet (isa_of plan)) cells → All (IsCellOfSet (isa_of plan)) (put_cell cells i c)
 stages_put plan cells zero c p h = h
-stages_put plan cells (suc i) c p h = All-set (IsStage (isa_of plan)) cells i c p h
+stages_put plan cells (suc i) c p h = All-set (IsCellOfSet (isa_of plan)) cells i c p h
 
-pub cell-kept : (plan : Plan) (s : State) (i : ℕ) (c : Cell) → IsProcessor plan s → IsStage (isa_of plan) c → IsProcessor plan (with_cell s i c)
+pub cell-kept : (plan : Plan) (s : State) (i : ℕ) (c : Cell) → IsProcessor plan s → IsCellOfSet (isa_of plan) c → IsProcessor plan (with_cell s i c)
 cell-kept plan s i c h p = record {
   accepted = h.accepted;
   stages = length_put s.cells i c ∙ h.stages;
@@ -83,7 +83,7 @@ ends-kept plan s t h same beside kept lane = record {
   accepted = h.accepted;
   stages = ap length same ∙ h.stages;
   sidings = ap (map length) beside ∙ h.sidings;
-  cells = All-same (IsStage (isa_of plan)) t.cells s.cells same h.cells;
+  cells = All-same (IsCellOfSet (isa_of plan)) t.cells s.cells same h.cells;
   ops = rw (beside, kept) h.ops;
   lane = lane;
 }

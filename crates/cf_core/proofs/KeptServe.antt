@@ -25,7 +25,7 @@ use Rattle.cf_semantics.specs.state.Passengers.{instruction}
 use Rattle.cf_semantics.specs.state.State.{State, Moment, cell_at, with_cell}
 use Rattle.cf_passengers.specs.Facts.{IsPassenger}
 use Rattle.cf_passengers.proofs.Kept.{answered-passenger, quitting-passenger}
-use Rattle.cf_core.specs.Processors.{Processor, IsProcessor, IsStage}
+use Rattle.cf_core.specs.Processors.{Processor, IsProcessor, IsCellOfSet}
 use Rattle.cf_core.specs.Stepping.{Makes, FailsToRead, FailsToWrite, MakesOrFails}
 use Rattle.cf_core.specs.declared.fault.Fault.{Fault}
 use Rattle.cf_core.specs.declared.fault.Fault.TheVariants as fault
@@ -33,7 +33,7 @@ use Rattle.cf_semantics.specs.declared.event.Event.{Event}
 use Rattle.cf_core.proofs.KeptMoves.{kept_moved}
 use Rattle.cf_core.proofs.KeptParts.{cell-kept, kept_bounds, stage-at}
 use Rattle.cf_core.proofs.KeptStages.{passenger-changed, passenger-in}
-use Rattle.cf_core.proofs.Steps.{next_moved}
+use Rattle.cf_core.proofs.StepsOrBarred.{next_moved}
 
 -- an answer leaves the regions' bounds and flags as they were
 abbrev Keeps : Memory → Called → Type 0
@@ -82,7 +82,7 @@ failed_kept : (plan : Plan) (s : State) → IsProcessor plan s → IsProcessor p
 failed_kept plan s h = record { accepted = h.accepted; stages = h.stages; sidings = h.sidings; cells = h.cells; ops = h.ops; lane = h.lane }
 
 -- the passenger of the highest stage has its answer, or it will end the program
-served_kept : (plan : Plan) (m : Moment) (n : ℕ) (c : Cell) (p : Passenger) (o : Called) → IsProcessor plan m.state → IsStage (isa_of plan) c → IsPassenger (isa_of plan) p → Keeps m.state.mem o → IsProcessor plan (served m n c p o).state
+served_kept : (plan : Plan) (m : Moment) (n : ℕ) (c : Cell) (p : Passenger) (o : Called) → IsProcessor plan m.state → IsCellOfSet (isa_of plan) c → IsPassenger (isa_of plan) p → Keeps m.state.mem o → IsProcessor plan (served m n c p o).state
 served_kept plan m n c p (Value a) h stage rider keeps =
     kept_bounds plan (with_cell m.state n (with_passenger c (moves.answered p a.value))) a.mem
     (cell-kept plan m.state n (with_passenger c (moves.answered p a.value)) h (passenger-changed (isa_of plan) c (moves.answered p a.value) stage (answered-passenger (isa_of plan) p a.value rider))) keeps

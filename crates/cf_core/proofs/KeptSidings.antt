@@ -25,7 +25,7 @@ use Rattle.cf_passengers.proofs.Classes.{kind-class}
 use Rattle.cf_passengers.proofs.Kept.{back_in-passenger, launched-passenger, operation-of_set, trapped-passenger}
 use Rattle.cf_passengers.proofs.Permitted.{operation-permitted}
 use Rattle.cf_sidings.proofs.Last.{length-set_last}
-use Rattle.cf_core.specs.Processors.{IsOp, IsProcessor, IsStage}
+use Rattle.cf_core.specs.Processors.{IsOp, IsProcessor, IsCellOfSet}
 use Rattle.cf_core.proofs.KeptParts.{all-at, cell-kept, kept-or, kept-where, kept_bounds, siding-kept}
 use Rattle.cf_core.proofs.KeptStages.{change-kept, passenger-changed}
 use Rattle.cf_core.proofs.Ported.{last-all}
@@ -69,7 +69,7 @@ bounds-after i a b mem = access-bounds (access_made i a b) mem
 
 -- The moves --
 
-entered-kept : (plan : Plan) (s : State) (i : ℕ) (c : Cell) (p : Passenger) (k : ℕ) → IsProcessor plan s → IsStage (isa_of plan) c → IsPassenger (isa_of plan) p → launch_trap s p ≡ None → siding_of plan (kind p) ≡ Some k → IsProcessor plan (with_siding (with_cell s i (with_passenger c (record p { launched = true }))) k (slice_set (siding_at s k) 0 (Some (operation p))))
+entered-kept : (plan : Plan) (s : State) (i : ℕ) (c : Cell) (p : Passenger) (k : ℕ) → IsProcessor plan s → IsCellOfSet (isa_of plan) c → IsPassenger (isa_of plan) p → launch_trap s p ≡ None → siding_of plan (kind p) ≡ Some k → IsProcessor plan (with_siding (with_cell s i (with_passenger c (record p { launched = true }))) k (slice_set (siding_at s k) 0 (Some (operation p))))
 entered-kept plan s i c p k h stage rider free home =
     let q = record p { launched = true } in
     siding-kept plan (with_cell s i (with_passenger c q)) k (slice_set (siding_at s k) 0 (Some (operation p)))
@@ -112,7 +112,7 @@ access-kept plan s h =
     let last = last-all (IsOp plan (bounds_of s.mem) (port plan)) (siding_at s (port plan)) (h.ops (port plan)) in
     accessed-kept plan s op h (rw e at last))
 
-returned-kept : (plan : Plan) (s : State) (i : ℕ) (c : Cell) (p : Passenger) (k : ℕ) (answer : Option ℕ) → IsProcessor plan s → IsStage (isa_of plan) c → IsPassenger (isa_of plan) p → IsProcessor plan (with_siding (with_cell s i (with_passenger c (back_in p answer))) k (set_last (siding_at s k) None))
+returned-kept : (plan : Plan) (s : State) (i : ℕ) (c : Cell) (p : Passenger) (k : ℕ) (answer : Option ℕ) → IsProcessor plan s → IsCellOfSet (isa_of plan) c → IsPassenger (isa_of plan) p → IsProcessor plan (with_siding (with_cell s i (with_passenger c (back_in p answer))) k (set_last (siding_at s k) None))
 returned-kept plan s i c p k answer h stage rider =
     let q = back_in p answer in
     siding-kept plan (with_cell s i (with_passenger c q)) k (set_last (siding_at s k) None)

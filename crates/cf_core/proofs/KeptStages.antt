@@ -15,44 +15,44 @@ use Rattle.cf_semantics.specs.state.Passengers.{finish}
 use Rattle.cf_semantics.specs.state.State.{State, cell_at, with_cell}
 use Rattle.cf_passengers.specs.Facts.{IsPacket, IsPassenger}
 use Rattle.cf_passengers.proofs.Kept.{finish-passenger, meeting-packet, meeting-passenger, sent-passenger}
-use Rattle.cf_core.specs.Processors.{IsProcessor, IsStage}
+use Rattle.cf_core.specs.Processors.{IsProcessor, IsCellOfSet}
 use Rattle.cf_core.proofs.KeptParts.{cell-kept, kept-where, stage-at}
 
 -- What a stage holds --
 
 -- the passenger of a stage, and its packet
-pub passenger-in : (isa : Isa) (c : Cell) (p : Passenger) → IsStage isa c → c.passenger ≡ Some p → IsPassenger isa p
+pub passenger-in : (isa : Isa) (c : Cell) (p : Passenger) → IsCellOfSet isa c → c.passenger ≡ Some p → IsPassenger isa p
 passenger-in isa c p h e = let f = h.passenger in rw e at f
 
-pub packet-in : (isa : Isa) (c : Cell) (k : Packet) → IsStage isa c → c.packet ≡ Some k → IsPacket k
+pub packet-in : (isa : Isa) (c : Cell) (k : Packet) → IsCellOfSet isa c → c.packet ≡ Some k → IsPacket k
 packet-in isa c k h e = let f = h.packet in rw e at f
 
 -- it has lost the one or the other, or got one that has met nothing
-pub passenger-gone : (isa : Isa) (c : Cell) → IsStage isa c → IsStage isa (without_passenger c)
+pub passenger-gone : (isa : Isa) (c : Cell) → IsCellOfSet isa c → IsCellOfSet isa (without_passenger c)
 passenger-gone isa c h = record { passenger = tt; packet = h.packet; met = λ f. absurd (cc) }
 
-pub packet-gone : (isa : Isa) (c : Cell) → IsStage isa c → IsStage isa (without_packet c)
+pub packet-gone : (isa : Isa) (c : Cell) → IsCellOfSet isa c → IsCellOfSet isa (without_packet c)
 packet-gone isa c h = record { passenger = h.passenger; packet = tt; met = λ f. absurd (cc) }
 
-pub passenger-new : (isa : Isa) (c : Cell) (o : Option Passenger) → IsStage isa c → IfSome o (IsPassenger isa) → IsStage isa (record c { passenger = o; met = false })
+pub passenger-new : (isa : Isa) (c : Cell) (o : Option Passenger) → IsCellOfSet isa c → IfSome o (IsPassenger isa) → IsCellOfSet isa (record c { passenger = o; met = false })
 passenger-new isa c o h p = record { passenger = p; packet = h.packet; met = λ f. absurd (cc) }
 
-pub packet-new : (isa : Isa) (c : Cell) (o : Option Packet) → IsStage isa c → IfSome o IsPacket → IsStage isa (record c { packet = o; met = false })
+pub packet-new : (isa : Isa) (c : Cell) (o : Option Packet) → IsCellOfSet isa c → IfSome o IsPacket → IsCellOfSet isa (record c { packet = o; met = false })
 packet-new isa c o h k = record { passenger = h.passenger; packet = k; met = λ f. absurd (cc) }
 
 -- another passenger stands in the same place
-pub passenger-changed : (isa : Isa) (c : Cell) (p : Passenger) → IsStage isa c → IsPassenger isa p → IsStage isa (with_passenger c p)
+pub passenger-changed : (isa : Isa) (c : Cell) (p : Passenger) → IsCellOfSet isa c → IsPassenger isa p → IsCellOfSet isa (with_passenger c p)
 passenger-changed isa c p h q = record { passenger = q; packet = h.packet; met = λ f. packet_there c (h.met f) }
   where
     packet_there : (c : Cell) → IsTrue (is_some c.passenger && is_some c.packet) → IsTrue (is_some c.packet)
     packet_there c f = grind arith
 
 -- the two have met
-pub both-met : (isa : Isa) (c : Cell) (p : Passenger) (k : Packet) → IsPassenger isa p → IsPacket k → IsStage isa (cell_met c p k)
+pub both-met : (isa : Isa) (c : Cell) (p : Passenger) (k : Packet) → IsPassenger isa p → IsPacket k → IsCellOfSet isa (cell_met c p k)
 both-met isa c p k h g = record { passenger = meeting-passenger isa p k h; packet = meeting-packet p k g; met = λ f. f }
 
 -- what the passenger owed stands beside it
-pub packet-sent : (isa : Isa) (p : Passenger) → IsPassenger isa p → IsTrue (is_some p.owes) → IsStage isa (sent p)
+pub packet-sent : (isa : Isa) (p : Passenger) → IsPassenger isa p → IsTrue (is_some p.owes) → IsCellOfSet isa (sent p)
 packet-sent isa p h e = record { passenger = sent-passenger isa p h; packet = h.owes; met = λ f. e }
 
 -- The moves --
@@ -78,7 +78,7 @@ fall-kept plan s i h =
     (packet-new (isa_of plan) d c.packet low high.packet)))
 
 -- a change of only the passenger of a stage
-pub change-kept : (plan : Plan) (s : State) (i : ℕ) (f : Cell → Passenger → State) → IsProcessor plan s → ((c : Cell) (p : Passenger) → IsStage (isa_of plan) c → c.passenger ≡ Some p → IsPassenger (isa_of plan) p → IsProcessor plan (f c p)) → IsProcessor plan (on (cell_at s.cells i) s (λ c. on c.passenger s (f c)))
+pub change-kept : (plan : Plan) (s : State) (i : ℕ) (f : Cell → Passenger → State) → IsProcessor plan s → ((c : Cell) (p : Passenger) → IsCellOfSet (isa_of plan) c → c.passenger ≡ Some p → IsPassenger (isa_of plan) p → IsProcessor plan (f c p)) → IsProcessor plan (on (cell_at s.cells i) s (λ c. on c.passenger s (f c)))
 change-kept plan s i f h g =
     kept-where plan s (cell_at s.cells i) _ h (λ c e. kept-where plan s c.passenger (f c) h (λ p there.
     let stage = stage-at plan s i c h e in

@@ -19,13 +19,13 @@ use Rattle.cf_stages.specs.Words.{word_of}
 use Rattle.cf_stages.proofs.Bits.{word-agrees}
 use Rattle.cf_stages.proofs.Empty.{word-none}
 use Rattle.cf_core.specs.Marks.{mark_at, marks_of}
-use Rattle.cf_core.specs.declared.marks.Mark.{Mark}
+use Rattle.cf_core.specs.declared.marks.StageMark.{StageMark}
 use Rattle.cf_passengers.specs.Facts.{IsWritable}
 use Rattle.cf_sidings.specs.Sidings.{empty_sidings}
-use Rattle.cf_core.specs.Processors.{AreOps, IsOp, IsProcessor, IsStage}
+use Rattle.cf_core.specs.Processors.{AreOps, IsOp, IsProcessor, IsCellOfSet}
 
 -- nothing holds
-abbrev no_mark : Mark
+abbrev no_mark : StageMark
 no_mark = record { owes = false; stops = false; execute = false; launch = false; recover = false }
 
 -- a cell in which no operation stands
@@ -53,7 +53,7 @@ opened-processor plan fetch cache regs mem retired ending failed acc = record {
   accepted = acc;
   stages = length-replicate plan.stages empty_cell;
   sidings = cells_laid plan.sidings;
-  cells = All-replicate (IsStage (isa_of plan)) plan.stages empty_cell (record { passenger = tt; packet = tt; met = λ h. absurd (cc) });
+  cells = All-replicate (IsCellOfSet (isa_of plan)) plan.stages empty_cell (record { passenger = tt; packet = tt; met = λ h. absurd (cc) });
   ops = λ k. none_holds plan (bounds_of mem) k plan.sidings k;
   lane = All-nil IsWritable;
 }
@@ -78,7 +78,7 @@ nothing_at plan s n i (Some c) e here =
     only_empty (suc n) (suc zero) c g = cc
     only_empty (suc n) (suc (suc k)) c g = only_empty n (suc k) c g
 
-nowhere : (plan : Plan) (s : State) (field : Mark → Bool) → field no_mark ≡ false → s.cells ≡ replicate plan.stages empty_cell → 0 ≡ word_of (λ i. field (mark_at plan s i)) plan.stages
+nowhere : (plan : Plan) (s : State) (field : StageMark → Bool) → field no_mark ≡ false → s.cells ≡ replicate plan.stages empty_cell → 0 ≡ word_of (λ i. field (mark_at plan s i)) plan.stages
 nowhere plan s field off e =
     sym (word-agrees (λ i. field (mark_at plan s i)) (λ i. false) plan.stages (λ i low high. ap field (nothing_at plan s plan.stages i (cell_at s.cells i) e refl) ∙ off) ∙ word-none plan.stages)
 

@@ -20,8 +20,8 @@ use Rattle.cf_semantics.specs.state.State.{State, cell_at, siding_at}
 use Rattle.cf_stages.proofs.Parts.{stage-high, stage-low}
 use Rattle.theory_confluence.proofs.back.TakenBack.{state_back}
 use Rattle.cf_core.specs.Places.{CanReturn, Each, FitsLane, IsOldCell, IsOldOp}
-use Rattle.cf_core.specs.Processors.{Processor, IsProcessor, IsStage}
-use Rattle.cf_core.specs.Undo.{CanStand, IsAfter, cell_kept, kept_by, lane_kept, listed, op_kept, register_kept}
+use Rattle.cf_core.specs.Processors.{Processor, IsProcessor, IsCellOfSet}
+use Rattle.cf_core.specs.Undo.{CanStand, HasJustMade, cell_kept, kept_by, lane_kept, listed, op_kept, register_kept}
 use Rattle.cf_core.specs.declared.undo.Few.{Few}
 use Rattle.cf_core.specs.declared.undo.Few.TheVariants.{Nothing, One, Two}
 use Rattle.cf_core.specs.declared.undo.OldCell.{OldCell}
@@ -34,7 +34,7 @@ use Rattle.cf_core.proofs.Cells.{cell-stage}
 
 -- The move is taken back --
 
-pub earlier-restored : (p : Processor) (k : Kept) → (h : IsAfter p k) → restored p.state k ≡ h.earlier
+pub earlier-restored : (p : Processor) (k : Kept) → (h : HasJustMade p k) → restored p.state k ≡ h.earlier
 earlier-restored p k h =
     ap (λ (s : State). restored s k) h.made
     ∙ ap (restored (moved p.plan h.earlier k.move)) h.is
@@ -173,7 +173,7 @@ if_on : {A B : Type 0} (P : B → Type 0) (o : Option A) (f : A → Option B) �
 if_on P None f h = tt
 if_on P (Some a) f h = h a refl
 
-rider : (isa : Isa) (c : Cell) (p : Passenger) → IsStage isa c → c.passenger ≡ Some p → IsPassenger isa p
+rider : (isa : Isa) (c : Cell) (p : Passenger) → IsCellOfSet isa c → c.passenger ≡ Some p → IsPassenger isa p
 rider isa c p h e = subst (λ (o : Option Passenger). IfSome o (IsPassenger isa)) e h.passenger
 
 left_register : (plan : Plan) (s : State) → IsProcessor plan s → IfSome (kept_register plan s Leave) (λ k. IsWritable k.reg)
@@ -195,7 +195,7 @@ old_writable (Some r) h = h
 same_sizes : (plan : Plan) (s t : State) → IsProcessor plan s → IsProcessor plan t → map length s.sidings ≡ map length t.sidings
 same_sizes plan s t h k = h.sidings ∙ sym k.sidings
 
-pub can-return : (p : Processor) (u : Undo) → IsProcessor p.plan p.state → IsAfter p (kept_by u) → CanReturn p u
+pub can-return : (p : Processor) (u : Undo) → IsProcessor p.plan p.state → HasJustMade p (kept_by u) → CanReturn p u
 unfolding kept_by kept restored
 can-return p u now h =
     let s = h.earlier in

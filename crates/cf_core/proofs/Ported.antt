@@ -17,7 +17,7 @@ use Rattle.cf_semantics.specs.state.Layouts.{port}
 use Rattle.cf_semantics.specs.moves.Bars.{last_op, access_bar, row_bar}
 use Rattle.cf_semantics.specs.state.Options.{on}
 use Rattle.cf_semantics.specs.state.State.{State, siding_at}
-use Rattle.cf_sidings.specs.Sidings.{CanAccess, IsReady, last_in}
+use Rattle.cf_sidings.specs.Sidings.{CanAccess, IsReadyOperation, last_in}
 use Rattle.cf_core.specs.Processors.{IsProcessor, IsOp}
 use Rattle.cf_core.proofs.Berths.{length-siding}
 
@@ -43,7 +43,7 @@ last-all P (o ∷ p ∷ ops) h = last-all P (p ∷ ops) (All-tail (λ o. IfSome 
 memory-op : (plan : Plan) → IsAccepted plan → (c : Class) → siding_of plan c ≡ Some (port plan) → c ≡ MemoryClass
 memory-op plan a c e = memory_alone plan a (port plan) c (memory-port plan a) e
 
-ready : (plan : Plan) (mem : Memory) (op : Op) → IsAccepted plan → IsOp plan (bounds_of mem) (port plan) op → op.answer ≡ None → IsReady op mem
+ready : (plan : Plan) (mem : Memory) (op : Op) → IsAccepted plan → IsOp plan (bounds_of mem) (port plan) op → op.answer ≡ None → IsReadyOperation op mem
 unfolding kind_of
 ready plan mem op a h e =
     let m : class_of op.instr ≡ MemoryClass = memory-op plan a (class_of op.instr) h.siding in

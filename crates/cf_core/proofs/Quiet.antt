@@ -1,7 +1,7 @@
 -- A move that asks nothing of the outside is made whatever the input has left.
 use Rattle.std.proofs.Common.{◌≡◌, List, [], ℕ}
 use Rattle.rv_machine.specs.Streams.{Streams}
-use Rattle.rv_machine.proofs.Told.{some_rest, rest-told, rest-spent, stays}
+use Rattle.rv_machine.proofs.InputKnown.{some_rest, rest-told, rest-spent, stays}
 use Rattle.cf_bind.specs.declared.moves.Move.{Move}
 use Rattle.cf_semantics.specs.state.State.{Moment}
 use Rattle.cf_semantics.specs.moves.Moves.{next}

@@ -17,11 +17,11 @@ use Rattle.cf_semantics.specs.state.Passengers.{kind}
 use Rattle.cf_semantics.specs.state.State.{State, cell_at, put_cell, siding_at, with_cell, with_siding}
 use Rattle.cf_stages.proofs.Parts.{cell-put-other}
 use Rattle.cf_core.specs.Marks.{mark_at}
-use Rattle.cf_core.specs.declared.marks.Mark.{Mark}
+use Rattle.cf_core.specs.declared.marks.StageMark.{StageMark}
 use Rattle.cf_core.proofs.Bits.{SameBut}
 
 -- what holds of a stage in which this stands
-unfoldable pub mark_by : Plan → State → ℕ → Option Cell → Mark
+unfoldable pub mark_by : Plan → State → ℕ → Option Cell → StageMark
 mark_by plan s i o = record {
   owes = on o false (λ c. on c.passenger false (λ p. is_some p.owes));
   stops = on o false (λ c. on c.passenger false (λ p. stops_at plan p i));

@@ -29,7 +29,7 @@ use Rattle.cf_core.proofs.Exits.{exit-any_rest}
 use Rattle.cf_core.proofs.Quiet.{with_rest, still-makes}
 use Rattle.cf_core.specs.declared.fault.Fault.{Fault}
 use Rattle.cf_core.specs.Places.{with_memory}
-use Rattle.cf_core.specs.Stepping.{Makes, CallsHere, ServesOrFails, taken, told_of, synchronized}
+use Rattle.cf_core.specs.Stepping.{Makes, CallsAtTop, ServesOrFails, taken, told_of, synchronized}
 
 -- the instruction in a stage has its place
 record Place (s : State) (i : ℕ) (p : Passenger) : Type 0 where
@@ -44,7 +44,7 @@ place_in s i p (Some c) e f = record { cell = c; here = e; rides = f }
 place : (s : State) (i : ℕ) (p : Passenger) → passenger_at s.cells i ≡ Some p → Place s i p
 place s i p f = place_in s i p (cell_at s.cells i) refl f
 
-pub calls_here : (old : Processor) (p : Passenger) → passenger_at old.state.cells old.plan.stages ≡ Some p → instruction p ≡ Ecall → CallsHere old
+pub calls_here : (old : Processor) (p : Passenger) → passenger_at old.state.cells old.plan.stages ≡ Some p → instruction p ≡ Ecall → CallsAtTop old
 calls_here old p e f = subst (λ o. Where o ⊥ (λ q. instruction q ≡ Ecall)) (sym e) f
 
 -- the passenger that is asked

@@ -6,16 +6,16 @@ use Rattle.cf_bind.specs.declared.moves.Move.{Move}
 use Rattle.cf_bind.specs.declared.moves.Move.TheVariants.{Serve}
 use Rattle.cf_semantics.specs.moves.Bars.{bar}
 use Rattle.cf_core.specs.Processors.{Processor}
-use Rattle.cf_core.specs.Stepping.{CallsHere}
+use Rattle.cf_core.specs.Stepping.{CallsAtTop}
 
 -- the instruction in the highest stage is ECALL, and its call asks the input
 pub record CallsInput (p : Processor) : Type 0 where
-  pub calls : CallsHere p
+  pub calls : CallsAtTop p
   pub asks : IsTrue (asks_input p.state.regs p.state.mem)
 
 -- the same of the output
 pub record CallsOutput (p : Processor) : Type 0 where
-  pub calls : CallsHere p
+  pub calls : CallsAtTop p
   pub asks : IsTrue (asks_output p.state.regs p.state.mem)
 
 -- the move asks the input: it is Serve, nothing bars it, and the call asks the input

@@ -12,7 +12,7 @@ use Rattle.cf_stages.specs.Changes.{packet_at, passenger_at}
 use Rattle.cf_stages.specs.Words.{with_bit, word_of}
 use Rattle.cf_core.specs.Masks.{owes_at, rides, stops_there}
 use Rattle.cf_core.specs.Riders.{is_passed_by, is_spent}
-use Rattle.cf_core.specs.declared.marks.Mark.{Mark}
+use Rattle.cf_core.specs.declared.marks.StageMark.{StageMark}
 use Rattle.cf_core.specs.declared.marks.Marks.{Marks}
 use Rattle.cf_core.specs.declared.touching.Touched.{Touched}
 
@@ -21,7 +21,7 @@ abbrev pub is_free : Plan → State → Move → Bool
 is_free plan s mv = not (is_some (row_bar plan s mv))
 
 -- what holds of a stage
-unfoldable pub mark_at : Plan → State → ℕ → Mark
+unfoldable pub mark_at : Plan → State → ℕ → StageMark
 mark_at plan s i = record {
   owes = owes_at s i;
   stops = stops_there plan s i;
@@ -31,7 +31,7 @@ mark_at plan s i = record {
 }
 
 -- what holds of a stage without an instruction
-abbrev pub no_mark : Mark
+abbrev pub no_mark : StageMark
 no_mark = record { owes = false; stops = false; execute = false; launch = false; recover = false }
 
 -- what holds of all of them, as words
@@ -45,7 +45,7 @@ marks_of plan s = record {
 }
 
 -- the words with the bits of a stage
-abbrev pub marked : Marks → ℕ → Mark → Marks
+abbrev pub marked : Marks → ℕ → StageMark → Marks
 marked marks i mark = record {
   owes = with_bit marks.owes (i - 1) mark.owes;
   stops = with_bit marks.stops (i - 1) mark.stops;

@@ -31,7 +31,7 @@ abbrev pub after_move : Processor → Move → Processor
 after_move p mv = in_state p (moved p.plan p.state mv)
 
 -- what holds of a stage: its instruction is one of the set, its result is of a register other than x0, and the two have met only where both are there
-pub record IsStage (isa : Isa) (c : Cell) : Type 0 where
+pub record IsCellOfSet (isa : Isa) (c : Cell) : Type 0 where
   pub passenger : IfSome c.passenger (IsPassenger isa)
   pub packet : IfSome c.packet IsPacket
   pub met : IsCell c
@@ -53,7 +53,7 @@ pub record IsProcessor (plan : Plan) (s : State) : Type 0 where
   pub stages : length s.cells ≡ plan.stages
   pub sidings : map length s.sidings ≡ map (λ siding. siding.cells) plan.sidings
   -- and this holds of each stage, of each operation, and of each request
-  pub cells : All (IsStage (isa_of plan)) s.cells
+  pub cells : All (IsCellOfSet (isa_of plan)) s.cells
   pub ops : (k : ℕ) → AreOps plan (bounds_of s.mem) k (siding_at s k)
   pub lane : All IsWritable s.lane
 

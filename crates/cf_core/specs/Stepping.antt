@@ -37,18 +37,18 @@ pub record Makes (old new : Processor) (mv : Move) (before after : Streams) : Ty
   pub spent : IsSpent before.input later
 
 -- the instruction in the highest stage is ECALL
-abbrev pub CallsHere : Processor → Type 0
-CallsHere p = Where (passenger_at p.state.cells p.plan.stages) ⊥ (λ q. instruction q ≡ Ecall)
+abbrev pub CallsAtTop : Processor → Type 0
+CallsAtTop p = Where (passenger_at p.state.cells p.plan.stages) ⊥ (λ q. instruction q ≡ Ecall)
 
 -- the input failed the call after some bytes: the buffer holds them, and the processor has failed
 pub record FailsToRead (old new : Processor) (before after : Streams) : Type 0 where
-  pub calls : CallsHere old
+  pub calls : CallsAtTop old
   pub fails : FailsReading old.state.regs old.state.mem new.state.mem before after
   pub processor : new ≡ in_state old (record old.state { mem = new.state.mem; failed = true })
 
 -- the output failed the call after a front of the buffer's bytes, and the processor has failed
 pub record FailsToWrite (old new : Processor) (before after : Streams) : Type 0 where
-  pub calls : CallsHere old
+  pub calls : CallsAtTop old
   pub fails : FailsWriting old.state.regs old.state.mem before after
   pub processor : new ≡ in_state old (record old.state { failed = true })
 
@@ -83,11 +83,11 @@ MakesOrFails old new mv before after (Err fault.Read) = (mv ≡ Serve) × FailsT
 MakesOrFails old new mv before after (Err fault.Write) = (mv ≡ Serve) × FailsToWrite old new before after
 
 -- the move was made, with its event; or it was barred by the first bar of its row, and nothing changed; or the input or the output failed it, which only Serve asks
-unfoldable pub Steps : Processor → Processor → Move → Streams → Streams → Step → Type 0
-Steps old new mv before after (Moved e) = (bar old.plan old.state mv ≡ None) × Makes old new mv before after × IsEvent old.plan old.state mv e
-Steps old new mv before after (Barred b) = (bar old.plan old.state mv ≡ Some b) × (new ≡ old) × (after ≡ before)
-Steps old new mv before after ReadFault = (bar old.plan old.state mv ≡ None) × (mv ≡ Serve) × FailsToRead old new before after
-Steps old new mv before after WriteFault = (bar old.plan old.state mv ≡ None) × (mv ≡ Serve) × FailsToWrite old new before after
+unfoldable pub StepsOrBarred : Processor → Processor → Move → Streams → Streams → Step → Type 0
+StepsOrBarred old new mv before after (Moved e) = (bar old.plan old.state mv ≡ None) × Makes old new mv before after × IsEvent old.plan old.state mv e
+StepsOrBarred old new mv before after (Barred b) = (bar old.plan old.state mv ≡ Some b) × (new ≡ old) × (after ≡ before)
+StepsOrBarred old new mv before after ReadFault = (bar old.plan old.state mv ≡ None) × (mv ≡ Serve) × FailsToRead old new before after
+StepsOrBarred old new mv before after WriteFault = (bar old.plan old.state mv ≡ None) × (mv ≡ Serve) × FailsToWrite old new before after
 
 -- an error where the input failed the step
 abbrev pub input_stepped : Step → Result (Unit {0}) (Unit {0})

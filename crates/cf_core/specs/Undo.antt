@@ -70,7 +70,7 @@ pub record CanStand (plan : Plan) (s : State) : Type 0 where
   pub zero : slice_get s.cache 0 ≡ Some None
 
 -- the processor has just made the move, from a state of which this was kept
-pub record IsAfter (p : Processor) (k : Kept) : Type 0 where
+pub record HasJustMade (p : Processor) (k : Kept) : Type 0 where
   pub earlier : State
   pub stood : CanStand p.plan earlier
   pub allowed : bar p.plan earlier k.move ≡ None

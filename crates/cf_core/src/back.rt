@@ -5,7 +5,7 @@ ghost use Rattle.cf_passengers.specs.Facts.{IsWritable};
 ghost use Rattle.cf_semantics.specs.moves.Kept.{bytes_back, cells_back, lane_back, ops_back, register_back, restored};
 ghost use Rattle.cf_core.specs.Processors.{in_state};
 ghost use Rattle.cf_core.specs.Places.{Each, FitsLane, IsOldCell, IsOldOp, CanReturn, with_cells, with_lane, with_memory, with_registers, with_sidings};
-ghost use Rattle.cf_core.specs.Undo.{IsAfter, cell_kept, kept_by, lane_kept, listed, number_kept, op_kept, register_kept};
+ghost use Rattle.cf_core.specs.Undo.{HasJustMade, cell_kept, kept_by, lane_kept, listed, number_kept, op_kept, register_kept};
 
 use crate::counterflow::Core;
 use crate::old_number::OldNumber;
@@ -115,7 +115,7 @@ impl Processor {
 impl Core {
     /// Takes back the move that was made last, of which [`Core::before`] kept this.
     pub fn back(&mut self, undo: Undo)
-        requires { IsAfter self.old (kept_by undo) }
+        requires { HasJustMade self.old (kept_by undo) }
         ensures { self.new ≡ in_state self.old (restored self.old.state (kept_by undo)) }
     {
         self.processor.put_back(&undo);

@@ -14,7 +14,7 @@ ghost use Rattle.cf_core.specs.Processors.{after_move, in_state, IsProcessor};
 use crate::processor::Processor;
 use crate::rows::first_of;
 use cf_bind::{Bar, Binding, Cell, Fetch, Guess, Packet, Passenger};
-use cf_passengers::{Asked, fetched, fresh, goto, isa_of, may_guess, requests};
+use cf_passengers::{RequestedSources, fetched, fresh, goto, isa_of, may_guess, requests};
 
 /// Fetch runs at the address, or waits where none is given.
 #[inline(always)]
@@ -79,7 +79,7 @@ impl Processor {
 
     /// Requests the registers, in order.
     #[inline(always)]
-    fn request(&mut self, asked: Asked)
+    fn request(&mut self, asked: RequestedSources)
         requires first { IfSome asked.first IsWritable }
         requires second { IfSome asked.second IsWritable }
         requires room { length self.old.state.lane + length (listed asked) ≤ self.old.plan.lane }

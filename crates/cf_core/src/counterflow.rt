@@ -10,8 +10,8 @@ ghost use Rattle.cf_semantics.specs.state.State.{cell_at, siding_at};
 ghost use Rattle.cf_semantics.specs.state.Layouts.{isa_of};
 ghost use Rattle.cf_semantics.specs.state.Passengers.{cached as kept_value};
 ghost use Rattle.cf_core.specs.Asking.{AsksInput, AsksOutput};
-ghost use Rattle.cf_core.specs.Processors.{opened, IsOp, IsProcessor, IsStage};
-ghost use Rattle.cf_core.specs.Stepping.{MakesOrFails, Steps, input_made, input_stepped, output_made, output_stepped};
+ghost use Rattle.cf_core.specs.Processors.{opened, IsOp, IsProcessor, IsCellOfSet};
+ghost use Rattle.cf_core.specs.Stepping.{MakesOrFails, StepsOrBarred, input_made, input_stepped, output_made, output_stepped};
 
 use crate::fault::Fault;
 use crate::marks::Marks;
@@ -96,7 +96,7 @@ impl Core {
         requires above { 0 < i }
         requires within { i ≤ self.now.plan.stages }
         ensures cell { Some result ≡ cell_at self.now.state.cells i }
-        ensures facts { IsStage (isa_of self.now.plan) result }
+        ensures facts { IsCellOfSet (isa_of self.now.plan) result }
     {
         self.processor.stages.cell(i)
     }
@@ -256,10 +256,10 @@ impl Core {
     /// The input is asked only by Serve, where nothing bars it and the instruction in the highest stage is an ECALL whose call
     /// asks the input; the output likewise. Every other move leaves both as they are, whatever they tell of themselves.
     #[inline(always)]
-    #[tactic(auto, unfolding(crate::specs::Stepping::Steps, crate::specs::Stepping::MakesOrFails))]
+    #[tactic(auto, unfolding(crate::specs::Stepping::StepsOrBarred, crate::specs::Stepping::MakesOrFails))]
     pub fn step<S: Source, K: Sink>(&mut self, m: Move, input: &mut S, output: &mut K) -> Step
         requires { self.old.state.retired + 1 < 2 ^ 64 }
-        ensures steps { Steps self.old self.new m
+        ensures steps { StepsOrBarred self.old self.new m
             (streams_of (S.left input.old) (K.written output.old))
             (streams_of (S.left input.new) (K.written output.new)) result }
         ensures input { HasCause (S.faults input.old) (S.faults input.new) (input_stepped result) }

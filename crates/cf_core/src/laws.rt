@@ -15,7 +15,7 @@ ghost use Rattle.cf_semantics.specs.moves.Bars.{bar};
 ghost use Rattle.cf_semantics.specs.claims.Determined.{Drains, EndsAs, EndAlike, KeepsRegisters, Rests};
 ghost use Rattle.cf_semantics.specs.state.Drained.{is_drained, IsStuck};
 ghost use Rattle.cf_semantics.specs.moves.Events.{Shows};
-ghost use Rattle.cf_semantics.specs.claims.Heeds.{Heeds};
+ghost use Rattle.cf_semantics.specs.claims.KeepsOrActsOnPath.{KeepsOrActsOnPath};
 ghost use Rattle.cf_semantics.specs.moves.Kept.{kept, taken_back};
 ghost use Rattle.cf_semantics.specs.claims.Laws.{ComputesAsFinished, AccessesAsLaunched, ServesAndPasses, ReadsAsIssued};
 ghost use Rattle.cf_semantics.specs.runs.Lines.{line_read, lines};
@@ -71,7 +71,7 @@ pub fn t4_2()
 pub fn t4_3()
     ensures { (plan : Plan) (x : Sequential) (moves : List Move) (mv : Move) → IsAccepted plan → length x.hart.regs ≡ 32 →
         IsRun plan (start plan x) moves → bar plan (run plan (start plan x) moves).state mv ≡ None →
-        Heeds plan x (run plan (start plan x) moves) mv }
+        KeepsOrActsOnPath plan x (run plan (start plan x) moves) mv }
 {}
 
 /// The retirement lines of two runs of one program, under any two layouts and orders of moves: one list is a prefix

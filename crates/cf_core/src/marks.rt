@@ -14,7 +14,7 @@ use cf_stages::with_bit;
 
 /// What holds of one stage.
 #[derive(Clone, Copy)]
-pub(crate) struct Mark {
+pub(crate) struct StageMark {
     /// The instruction there owes a result.
     pub(crate) owes: bool,
 
@@ -31,13 +31,13 @@ pub(crate) struct Mark {
     pub(crate) recover: bool,
 }
 
-impl Mark {
+impl StageMark {
     /// What holds of a stage without an instruction.
     #[inline(always)]
-    fn of_none() -> Mark
+    fn of_none() -> StageMark
         ensures { result ≡ no_mark }
     {
-        Mark {
+        StageMark {
             owes: false,
             stops: false,
             execute: false,
@@ -73,7 +73,7 @@ impl Marks {
 
     /// The words with the bits of one stage.
     #[inline(always)]
-    pub(crate) fn with(self, i: u32, mark: Mark) -> Marks
+    pub(crate) fn with(self, i: u32, mark: StageMark) -> Marks
         requires above { 0 < i }
         requires within { i ≤ 32 }
         ensures { result ≡ marked self i mark }
@@ -92,12 +92,12 @@ impl Processor {
     /// What holds of a stage whose instruction needs no unit and has nothing in a siding.
     #[inline(always)]
     #[tactic(auto, using(crate::proofs::Rides::idle, crate::proofs::Rides::owed))]
-    fn mark_idle(&self, passenger: &Passenger, i: u32) -> Mark
+    fn mark_idle(&self, passenger: &Passenger, i: u32) -> StageMark
         requires here { passenger_at self.now.state.cells i ≡ Some passenger.now }
         requires idle { is_idle passenger.now ≡ true }
         ensures { result ≡ mark_at self.now.plan self.now.state i }
     {
-        Mark {
+        StageMark {
             owes: passenger.owes.is_some(),
             ..Mark::of_none()
         }
@@ -116,7 +116,7 @@ impl Processor {
         match self.stages.passenger(i) {
             Some(passenger) if is_idle(passenger) => marks.with(i, self.mark_idle(passenger, i)),
             Some(passenger) => marks.with(i, self.mark_of(passenger, i)),
-            None => marks.with(i, Mark::of_none()),
+            None => marks.with(i, StageMark::of_none()),
         }
     }
 

@@ -14,7 +14,7 @@ ghost use Rattle.cf_core.specs.Processors.{IsProcessor};
 ghost use Rattle.cf_core.specs.Riders.{StandsBeside, awaits as waits_for, has_sources as knows_sources, is_idle as idles, is_out as is_beside, is_passed_by as passed_by, is_spent as has_done_all, is_undone as is_not_done};
 
 use crate::beside::is_memory;
-use crate::marks::Mark;
+use crate::marks::StageMark;
 use crate::processor::Processor;
 use cf_bind::{Binding, Packet, Passenger};
 use cf_passengers::{first_missing, kind};
@@ -192,13 +192,13 @@ impl Processor {
     /// What holds of the stage, whose instruction is of a class without a siding.
     #[inline(always)]
     #[tactic(auto, using(crate::proofs::Rides::units), unfolding(crate::specs::Marks::mark_at))]
-    fn mark_at_units(&self, passenger: &Passenger, class: Class, i: u32) -> Mark
+    fn mark_at_units(&self, passenger: &Passenger, class: Class, i: u32) -> StageMark
         requires here { passenger_at self.now.state.cells i ≡ Some passenger.now }
         requires class { class ≡ kind_of_passenger passenger.now }
         requires units { siding_of self.now.plan class ≡ None }
         ensures { result ≡ mark_at self.now.plan self.now.state i }
     {
-        Mark {
+        StageMark {
             owes: passenger.owes.is_some(),
             stops: self.stops_at_units(passenger, class, i),
             execute: self.executes(passenger, class, i),
@@ -210,12 +210,12 @@ impl Processor {
     /// What holds of the stage, whose instruction is of a class with a siding.
     #[inline(always)]
     #[tactic(auto, using(crate::proofs::Rides::owed), unfolding(crate::specs::Marks::mark_at))]
-    fn mark_at_siding(&self, passenger: &Passenger, class: Class, k: u32, i: u32) -> Mark
+    fn mark_at_siding(&self, passenger: &Passenger, class: Class, k: u32, i: u32) -> StageMark
         requires facts { IsProcessor self.now.plan self.now.state }
         requires stands { StandsBeside self.now.plan self.now.state passenger.now class k i }
         ensures { result ≡ mark_at self.now.plan self.now.state i }
     {
-        Mark {
+        StageMark {
             owes: passenger.owes.is_some(),
             stops: self.stops_at_siding(passenger, k, i),
             execute: self.executes(passenger, class, i),
@@ -226,7 +226,7 @@ impl Processor {
 
     /// What holds of the stage, in which this instruction stands.
     #[inline(never)]
-    pub(crate) fn mark_of(&self, passenger: &Passenger, i: u32) -> Mark
+    pub(crate) fn mark_of(&self, passenger: &Passenger, i: u32) -> StageMark
         requires above { 0 < i }
         requires within { i ≤ self.now.plan.stages }
         requires facts { IsProcessor self.now.plan self.now.state }

@@ -6,7 +6,7 @@ use Rattle.std.proofs.lemmas.Bool.Decides.{nat_tests}
 use Rattle.std.proofs.lemmas.List.{length-append, length-drop, length-take, length-take-le, map-append, take_all, take-append-drop, take-append-le}
 use Rattle.std.proofs.lemmas.List.Elements.{All-append}
 use Rattle.cf_io.specs.Takes.{GivesFront, IsAtEnd, Takes}
-use Rattle.rv_machine.specs.Streams.{Gives}
+use Rattle.rv_machine.specs.Streams.{GivesInput}
 use Rattle.rv_text.specs.Lines.{without_return}
 use Rattle.cf_debug.specs.declared.command.Refusal.TheVariants.{TooLong}
 use Rattle.cf_debug.specs.Commands.{command_in}
@@ -126,15 +126,15 @@ held-some line some = omega (arith, some, length-take 258 line)
 
 -- What is taken --
 
-pub gives-none : (told : Option (List ℕ)) → Gives told told []
+pub gives-none : (told : Option (List ℕ)) → GivesInput told told []
 gives-none None = tt
 gives-none (Some told) = (told, refl, refl)
 
-pub gives-again : (a b c : Option (List ℕ)) (x y : List ℕ) → Gives a b x → Gives b c y → Gives a c (x ++ y)
+pub gives-again : (a b c : Option (List ℕ)) (x y : List ℕ) → GivesInput a b x → GivesInput b c y → GivesInput a c (x ++ y)
 gives-again None b c x y h k = tt
 gives-again (Some told) b c x y (rest, is, left) k =
-    let P : Option (List ℕ) → Type 0 = λ o. Gives o c y in
-    let more : Gives (Some rest) c y = subst P left k in
+    let P : Option (List ℕ) → Type 0 = λ o. GivesInput o c y in
+    let more : GivesInput (Some rest) c y = subst P left k in
     (more.0, is ∙ ap (λ (r : List ℕ). x ++ r) more.1 ∙ sym (append_assoc x y more.0), more.2)
 
 -- What is left of a piece --
@@ -166,21 +166,21 @@ unfolding Feeds
 feeds-used told now new byte is left few = ([], gives-none told, append-nil now.rest ∙ is, omega (arith, left), omega (arith, few, ap length is))
 
 -- the first byte of those that were taken just now
-pub feeds-taken : (before after : Option (List ℕ)) (now filled new : Feeding) (byte : ℕ) → now.rest ≡ [] → Gives before after filled.rest → filled.left + length filled.rest ≡ now.left → length filled.rest ≤ most_taken → filled.rest ≡ byte ∷ new.rest → new.left ≡ filled.left → Feeds before after now new (Byte byte)
+pub feeds-taken : (before after : Option (List ℕ)) (now filled new : Feeding) (byte : ℕ) → now.rest ≡ [] → GivesInput before after filled.rest → filled.left + length filled.rest ≡ now.left → length filled.rest ≤ most_taken → filled.rest ≡ byte ∷ new.rest → new.left ≡ filled.left → Feeds before after now new (Byte byte)
 unfolding Feeds
 feeds-taken before after now filled new byte none gives left few is still =
     (filled.rest, gives, ap (λ (r : List ℕ). r ++ filled.rest) none ∙ is, omega (arith, left, still), omega (arith, few, ap length is))
 
 -- nothing was taken, for the commands are at their end
-pub feeds-end : (before after : Option (List ℕ)) (now filled : Feeding) → now.rest ≡ [] → IsAtEnd before → Gives before after filled.rest → length filled.rest ≡ 0 → filled.left + length filled.rest ≡ now.left → Feeds before after now filled AtEnd
+pub feeds-end : (before after : Option (List ℕ)) (now filled : Feeding) → now.rest ≡ [] → IsAtEnd before → GivesInput before after filled.rest → length filled.rest ≡ 0 → filled.left + length filled.rest ≡ now.left → Feeds before after now filled AtEnd
 unfolding Feeds
 feeds-end before after now filled none end gives empty_rest left =
     let nothing : filled.rest ≡ [] = empty filled.rest empty_rest in
     let still : filled.left ≡ now.left = omega (arith, left, empty_rest) in
-    (none, end, subst (Gives before after) nothing gives, ap (λ (r : List ℕ). record { rest = r; left = filled.left }) (nothing ∙ sym none) ∙ ap (λ (n : ℕ). record { rest = now.rest; left = n }) still)
+    (none, end, subst (GivesInput before after) nothing gives, ap (λ (r : List ℕ). record { rest = r; left = filled.left }) (nothing ∙ sym none) ∙ ap (λ (n : ℕ). record { rest = now.rest; left = n }) still)
 
 -- or the take failed
-pub feeds-fault : (before after : Option (List ℕ)) (now filled : Feeding) → now.rest ≡ [] → filled ≡ now → Gives before after [] → Feeds before after now filled Fault
+pub feeds-fault : (before after : Option (List ℕ)) (now filled : Feeding) → now.rest ≡ [] → filled ≡ now → GivesInput before after [] → Feeds before after now filled Fault
 unfolding Feeds
 feeds-fault before after now filled none same gives = (none, gives, same)
 
@@ -195,11 +195,11 @@ one-more before after into new n feed one one_new takes some none spent =
     some_is zero some = absurd (some refl)
     some_is (suc n) some = omega arith
 
-    of : (new : List ℕ) → length new ≡ 1 → GivesFront before after new 1 → (byte : ℕ) × Gives before after (byte ∷ [])
+    of : (new : List ℕ) → length new ≡ 1 → GivesFront before after new 1 → (byte : ℕ) × GivesInput before after (byte ∷ [])
     of [] size gives = absurd (omega (arith, size))
     of (byte ∷ rest) size gives = (byte, front before after byte rest gives)
       where
-        front : (before after : Option (List ℕ)) (byte : ℕ) (rest : List ℕ) → GivesFront before after (byte ∷ rest) 1 → Gives before after (byte ∷ [])
+        front : (before after : Option (List ℕ)) (byte : ℕ) (rest : List ℕ) → GivesFront before after (byte ∷ rest) 1 → GivesInput before after (byte ∷ [])
         front None after byte rest gives = tt
         front (Some left) after byte rest (within, same, left_is) =
             (drop 1 left, sym (take-append-drop 1 left) ∙ ap (λ (t : List ℕ). t ++ drop 1 left) (sym same), left_is)
@@ -209,13 +209,13 @@ unfolding Feeds
 one-none before after into new n feed one takes zero_taken none =
     (none, takes.end zero_taken (omega (arith, one)), nothing before after new (subst (λ (k : ℕ). GivesFront before after new k) zero_taken takes.told), refl)
   where
-    nothing : (before after : Option (List ℕ)) (new : List ℕ) → GivesFront before after new 0 → Gives before after []
+    nothing : (before after : Option (List ℕ)) (new : List ℕ) → GivesFront before after new 0 → GivesInput before after []
     nothing None after new gives = tt
     nothing (Some left) after new (within, same, left_is) = (left, refl, left_is)
 
 pub one-failed : {E : Type 0} (before after : Option (List ℕ)) (into new : List ℕ) (e : E) (feed : Feeding) → Takes before after into new (Err e) → feed.rest ≡ [] → Feeds before after feed feed Fault
 unfolding Feeds
-one-failed before after into new e feed takes none = (none, subst (λ (o : Option (List ℕ)). Gives before o []) (sym takes.unchanged.1) (gives-none before), refl)
+one-failed before after into new e feed takes none = (none, subst (λ (o : Option (List ℕ)). GivesInput before o []) (sym takes.unchanged.1) (gives-none before), refl)
 
 -- One more byte, where a line has room for n --
 

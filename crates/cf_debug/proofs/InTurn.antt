@@ -14,7 +14,7 @@ use Rattle.cf_semantics.specs.state.Drained.{is_drained}
 use Rattle.cf_semantics.specs.moves.Holding.{offered, paced}
 use Rattle.theory_unknown_input.proofs.Offered.{offered_allowed}
 use Rattle.cf_semantics.specs.state.State.{State}
-use Rattle.cf_sched.specs.Paces.{Count, offers as offers_by, saw, stopped}
+use Rattle.cf_sched.specs.Paces.{PaceCount, offers as offers_by, saw, stopped}
 use Rattle.cf_sched.specs.Policies.{round_pick, round_on}
 use Rattle.cf_report.specs.Putting.{PutsText}
 use Rattle.cf_run.specs.Made.{Made, retirement}
@@ -23,66 +23,66 @@ use Rattle.cf_run.specs.Reaching.{GoesOn}
 use Rattle.cf_run.proofs.Stopped.{offered-stopped, offers-offered, paced-stopped}
 use Rattle.cf_debug.specs.declared.answer.Broken.{Broken}
 use Rattle.cf_debug.specs.declared.answer.Broken.TheVariants as broken
-use Rattle.cf_debug.specs.Driving.{Turn, Takes, Passes, Pauses, Drives, DrivesOn, DrivesAground, breaks, first_turn, next_turn, pick, retirements}
+use Rattle.cf_debug.specs.Driving.{Turn, DriveTakes, Passes, Pauses, Drives, DrivesOn, DrivesAground, breaks, first_turn, next_turn, pick, retirements}
 use Rattle.cf_debug.specs.Limits.{most_retired}
-use Rattle.cf_debug.specs.Making.{Bench, MakesOne, MakesOrFails, FailsOne}
+use Rattle.cf_debug.specs.Making.{ProcessorState, MakesAndKeeps, MakesKeptOrFails, FailsOne}
 use Rattle.cf_debug.specs.Outcomes.{DrivesOut, IsNextTurn, Steers}
-use Rattle.cf_debug.specs.Standing.{Stands, StandsSomewhere}
+use Rattle.cf_debug.specs.Standing.{StandsAfterMoves, StandsSomewhere}
 use Rattle.cf_debug.proofs.KeptMoves.{makes-stands}
 
 -- One move --
 
 -- the move that was made
-abbrev made_of : Move → Event → Bench → Made
+abbrev made_of : Move → Event → ProcessorState → Made
 made_of mv e new = record { move = mv; event = e; state = new.core.state }
 
 -- the move that is picked was made, and its line put
-pub steers-on : (stop : Option ℕ) (at later : Turn) (now new : Bench) (mv : Move) (e : Event) (last : Bool) (written after : Option (List ℕ)) (i j : ℕ) (answer : Unit {0})
-    → GoesOn most_retired now.core.state → pick at now ≡ Some mv → MakesOrFails mv now new (Ok e) → last ≡ breaks stop now.core.state mv → IsNextTurn at later now (made_of mv e new) → PutsText {E = Failed} written after i j (retirement new.core.state.retired e) (Ok answer)
+pub steers-on : (stop : Option ℕ) (at later : Turn) (now new : ProcessorState) (mv : Move) (e : Event) (last : Bool) (written after : Option (List ℕ)) (i j : ℕ) (answer : Unit {0})
+    → GoesOn most_retired now.core.state → pick at now ≡ Some mv → MakesKeptOrFails mv now new (Ok e) → last ≡ breaks stop now.core.state mv → IsNextTurn at later now (made_of mv e new) → PutsText {E = Failed} written after i j (retirement new.core.state.retired e) (Ok answer)
     → Steers stop at later now new written after (Ok last)
-unfolding Steers MakesOrFails
+unfolding Steers MakesKeptOrFails
 steers-on stop at later now new mv e last written after i j answer goes is makes ends next put =
     (made_of mv e new, record { goes = goes; pick_is = is; makes = makes; state = refl }, sym ends, next, put.all)
 
 -- or the report failed after it
-pub steers-unshown : {T : Type 0} (stop : Option ℕ) (at later : Turn) (now new : Bench) (mv : Move) (e : Event) (written after : Option (List ℕ)) (i j : ℕ) (failed : Failed)
-    → GoesOn most_retired now.core.state → pick at now ≡ Some mv → MakesOrFails mv now new (Ok e) → PutsText {T = T} written after i j (retirement new.core.state.retired e) (Err failed)
+pub steers-unshown : {T : Type 0} (stop : Option ℕ) (at later : Turn) (now new : ProcessorState) (mv : Move) (e : Event) (written after : Option (List ℕ)) (i j : ℕ) (failed : Failed)
+    → GoesOn most_retired now.core.state → pick at now ≡ Some mv → MakesKeptOrFails mv now new (Ok e) → PutsText {T = T} written after i j (retirement new.core.state.retired e) (Err failed)
     → Steers stop at later now new written after (Err broken.Report)
-unfolding Steers MakesOrFails
+unfolding Steers MakesKeptOrFails
 steers-unshown stop at later now new mv e written after i j failed goes is makes put =
     (made_of mv e new, record { goes = goes; pick_is = is; makes = makes; state = refl }, put.front)
 
 -- or the output failed it
-pub steers-aground : (stop : Option ℕ) (at later : Turn) (now new : Bench) (mv : Move) (written : Option (List ℕ)) (failed : Failed)
-    → GoesOn most_retired now.core.state → pick at now ≡ Some mv → MakesOrFails mv now new (Err failed) → Steers stop at later now new written written (Err broken.Output)
-unfolding Steers MakesOrFails
+pub steers-aground : (stop : Option ℕ) (at later : Turn) (now new : ProcessorState) (mv : Move) (written : Option (List ℕ)) (failed : Failed)
+    → GoesOn most_retired now.core.state → pick at now ≡ Some mv → MakesKeptOrFails mv now new (Err failed) → Steers stop at later now new written written (Err broken.Output)
+unfolding Steers MakesKeptOrFails
 steers-aground stop at later now new mv written failed goes is fails =
     (goes, is ∙ ap Some fails.serves, subst (λ (v : Move). FailsOne v now new) fails.serves fails, refl)
 
 -- the turn after it
-pub next-is : (at : Turn) (now : Bench) (made : Made) (c later : Count) (policy : Option Move) (drained : Bool) → at.count ≡ c.count → c.stages ≡ now.core.plan.stages → drained ≡ is_drained made.state → later ≡ saw c made.move made.event drained → policy ≡ round_on at.policy (offered_to now.core.plan at now.core.state)
+pub next-is : (at : Turn) (now : ProcessorState) (made : Made) (c later : PaceCount) (policy : Option Move) (drained : Bool) → at.count ≡ c.count → c.stages ≡ now.core.plan.stages → drained ≡ is_drained made.state → later ≡ saw c made.move made.event drained → policy ≡ round_on at.policy (offered_to now.core.plan at now.core.state)
     → IsNextTurn at (chooser policy later.count) now made
 next-is at now made c later policy drained count beside drained_is later_is on = record {
   policy = on;
-  count = ap (λ (d : Count). d.count) later_is ∙ ap (λ (b : Bool). stopped c.stages (paced c.count made.move made.event b)) drained_is
+  count = ap (λ (d : PaceCount). d.count) later_is ∙ ap (λ (b : Bool). stopped c.stages (paced c.count made.move made.event b)) drained_is
       ∙ ap (λ (n : ℕ). stopped n (paced c.count made.move made.event (is_drained made.state))) beside
       ∙ ap (λ (n : ℕ). stopped now.core.plan.stages (paced n made.move made.event (is_drained made.state))) (sym count);
 }
 
 -- what is offered by a count is offered beside the stages of the layout
-pub offered-offers : (c : Count) (plan : Plan) (s : State) → c.stages ≡ plan.stages → 0 < length (offered plan c.count s) → 0 < length (offers_by c plan s)
+pub offered-offers : (c : PaceCount) (plan : Plan) (s : State) → c.stages ≡ plan.stages → 0 < length (offered plan c.count s) → 0 < length (offers_by c plan s)
 offered-offers c plan s beside some = subst (λ (moves : List Move). 0 < length moves) (sym (offers-offered c plan s beside)) some
 
 -- the move that is chosen is the one that is picked
-pub chosen-pick : (last : Option Move) (c : Count) (now : Bench) (mv : Move) → c.stages ≡ now.core.plan.stages → Some mv ≡ slice_get (offers_by c now.core.plan now.core.state) (round_pick last (offers_by c now.core.plan now.core.state)) → pick (chooser last c.count) now ≡ Some mv
+pub chosen-pick : (last : Option Move) (c : PaceCount) (now : ProcessorState) (mv : Move) → c.stages ≡ now.core.plan.stages → Some mv ≡ slice_get (offers_by c now.core.plan now.core.state) (round_pick last (offers_by c now.core.plan now.core.state)) → pick (chooser last c.count) now ≡ Some mv
 chosen-pick last c now mv beside is = sym (is ∙ ap (λ (moves : List Move). slice_get moves (round_pick last moves)) (offers-offered c now.core.plan now.core.state beside))
 
 -- and allowed
-pub chosen-allowed : (last : Option Move) (c : Count) (now : Bench) (mv : Move) → c.stages ≡ now.core.plan.stages → Some mv ≡ slice_get (offers_by c now.core.plan now.core.state) (round_pick last (offers_by c now.core.plan now.core.state)) → bar now.core.plan now.core.state mv ≡ None
+pub chosen-allowed : (last : Option Move) (c : PaceCount) (now : ProcessorState) (mv : Move) → c.stages ≡ now.core.plan.stages → Some mv ≡ slice_get (offers_by c now.core.plan now.core.state) (round_pick last (offers_by c now.core.plan now.core.state)) → bar now.core.plan now.core.state mv ≡ None
 chosen-allowed last c now mv beside is = offered_allowed now.core.plan c.count now.core.state (round_pick last (offered now.core.plan c.count now.core.state)) mv (chosen-pick last c now mv beside is)
 
 -- and after it comes the next turn
-pub chosen-next : (last policy : Option Move) (c later : Count) (now new : Bench) (mv : Move) (e : Event) (drained : Bool) → c.stages ≡ now.core.plan.stages → drained ≡ is_drained new.core.state → later ≡ saw c mv e drained → policy ≡ round_on last (offers_by c now.core.plan now.core.state)
+pub chosen-next : (last policy : Option Move) (c later : PaceCount) (now new : ProcessorState) (mv : Move) (e : Event) (drained : Bool) → c.stages ≡ now.core.plan.stages → drained ≡ is_drained new.core.state → later ≡ saw c mv e drained → policy ≡ round_on last (offers_by c now.core.plan now.core.state)
     → IsNextTurn (chooser last c.count) (chooser policy later.count) now (made_of mv e new)
 chosen-next last policy c later now new mv e drained beside drained_is later_is on =
     next-is (chooser last c.count) now (made_of mv e new) c later policy drained refl beside drained_is later_is (on ∙ ap (round_on last) (offers-offered c now.core.plan now.core.state beside))
@@ -90,7 +90,7 @@ chosen-next last policy c later now new mv e drained beside drained_is later_is 
 -- Moves so far --
 
 -- this many moves were made, none of which issued an instruction at the break address; the turn is kept by a count that stops, and their lines were put
-pub record Comes (stop : Option ℕ) (start now : Bench) (held : Turn) (written after : Option (List ℕ)) (count : ℕ) : Type 0 where
+pub record Comes (stop : Option ℕ) (start now : ProcessorState) (held : Turn) (written after : Option (List ℕ)) (count : ℕ) : Type 0 where
   pub trace : List Made
   pub at : Turn
   pub passes : Passes stop first_turn start trace at now
@@ -103,7 +103,7 @@ nothing_put : (told : Option (List ℕ)) → Writes told told []
 nothing_put None = tt
 nothing_put (Some told) = ap Some (sym (append-nil told))
 
-pub comes-first : (stop : Option ℕ) (start : Bench) (policy : Option Move) (held stages : ℕ) (written : Option (List ℕ)) → policy ≡ None → held ≡ stopped stages 0 → stages ≡ start.core.plan.stages → Comes stop start start (chooser policy held) written written 0
+pub comes-first : (stop : Option ℕ) (start : ProcessorState) (policy : Option Move) (held stages : ℕ) (written : Option (List ℕ)) → policy ≡ None → held ≡ stopped stages 0 → stages ≡ start.core.plan.stages → Comes stop start start (chooser policy held) written written 0
 unfolding Passes retirements
 comes-first stop start policy held stages written fresh_policy zero_held beside = record {
   trace = [];
@@ -116,22 +116,22 @@ comes-first stop start policy held stages written fresh_policy zero_held beside 
 }
 
 -- the same is offered by the whole count
-offers : (stop : Option ℕ) (start now : Bench) (held : Turn) (written after : Option (List ℕ)) (count : ℕ) → (c : Comes stop start now held written after count) → offered_to now.core.plan held now.core.state ≡ offered_to now.core.plan c.at now.core.state
+offers : (stop : Option ℕ) (start now : ProcessorState) (held : Turn) (written after : Option (List ℕ)) (count : ℕ) → (c : Comes stop start now held written after count) → offered_to now.core.plan held now.core.state ≡ offered_to now.core.plan c.at now.core.state
 offers stop start now held written after count c =
     ap (λ (n : ℕ). offered now.core.plan n now.core.state) c.count_is ∙ offered-stopped now.core.plan c.at.count now.core.state
 
-picks_same : (stop : Option ℕ) (start now : Bench) (held : Turn) (written after : Option (List ℕ)) (count : ℕ) → (c : Comes stop start now held written after count) → pick held now ≡ pick c.at now
+picks_same : (stop : Option ℕ) (start now : ProcessorState) (held : Turn) (written after : Option (List ℕ)) (count : ℕ) → (c : Comes stop start now held written after count) → pick held now ≡ pick c.at now
 picks_same stop start now held written after count c =
     ap (λ (moves : List Move). slice_get moves (round_pick held.policy moves)) (offers stop start now held written after count c)
     ∙ ap (λ (p : Option Move). slice_get (offered_to now.core.plan c.at now.core.state) (round_pick p (offered_to now.core.plan c.at now.core.state))) c.policy
 
-onward_same : (stop : Option ℕ) (start now : Bench) (held : Turn) (written after : Option (List ℕ)) (count : ℕ) → (c : Comes stop start now held written after count) → round_on held.policy (offered_to now.core.plan held now.core.state) ≡ round_on c.at.policy (offered_to now.core.plan c.at now.core.state)
+onward_same : (stop : Option ℕ) (start now : ProcessorState) (held : Turn) (written after : Option (List ℕ)) (count : ℕ) → (c : Comes stop start now held written after count) → round_on held.policy (offered_to now.core.plan held now.core.state) ≡ round_on c.at.policy (offered_to now.core.plan c.at now.core.state)
 onward_same stop start now held written after count c =
     ap (λ (moves : List Move). round_on held.policy moves) (offers stop start now held written after count c)
     ∙ ap (λ (p : Option Move). round_on p (offered_to now.core.plan c.at now.core.state)) c.policy
 
 -- so the move that is taken is taken by the whole count
-took : (stop : Option ℕ) (start now new : Bench) (held : Turn) (written after : Option (List ℕ)) (count : ℕ) (made : Made) → (c : Comes stop start now held written after count) → Takes held made now new → Takes c.at made now new
+took : (stop : Option ℕ) (start now new : ProcessorState) (held : Turn) (written after : Option (List ℕ)) (count : ℕ) (made : Made) → (c : Comes stop start now held written after count) → DriveTakes held made now new → DriveTakes c.at made now new
 took stop start now new held written after count made c t = record {
   goes = t.goes;
   pick_is = sym (picks_same stop start now held written after count c) ∙ t.pick_is;
@@ -139,12 +139,12 @@ took stop start now new held written after count made c t = record {
   state = t.state;
 }
 
-passes_more : (stop : Option ℕ) (first : Turn) (start : Bench) (trace : List Made) (at : Turn) (now : Bench) (made : Made) (new : Bench) → Passes stop first start trace at now → Takes at made now new → breaks stop now.core.state made.move ≡ false
+passes_more : (stop : Option ℕ) (first : Turn) (start : ProcessorState) (trace : List Made) (at : Turn) (now : ProcessorState) (made : Made) (new : ProcessorState) → Passes stop first start trace at now → DriveTakes at made now new → breaks stop now.core.state made.move ≡ false
     → Passes stop first start (trace ++ made ∷ []) (next_turn at now made) new
 unfolding Passes
 passes_more stop first start [] at now made new (same, here) takes free =
-    let P : Turn → Bench → Type 0 = λ q b. Takes q made b new × (breaks stop b.core.state made.move ≡ false) × (next_turn at now made ≡ next_turn q b made) in
-    let k : P first start = subst (λ (b : Bench). P first b) here (subst (λ (q : Turn). P q now) same (takes, free, refl)) in
+    let P : Turn → ProcessorState → Type 0 = λ q b. DriveTakes q made b new × (breaks stop b.core.state made.move ≡ false) × (next_turn at now made ≡ next_turn q b made) in
+    let k : P first start = subst (λ (b : ProcessorState). P first b) here (subst (λ (q : Turn). P q now) same (takes, free, refl)) in
     (new, k.0, k.1, (k.2, refl))
 passes_more stop first start (one ∷ trace) at now made new (next, t, f, more) takes free =
     (next, t, f, passes_more stop (next_turn first start one) next trace at now made new more takes free)
@@ -160,7 +160,7 @@ one_more : (trace : List Made) (made : Made) → length (trace ++ made ∷ []) �
 one_more trace made = length-append trace (made ∷ [])
 
 -- one more move
-pub comes-more : (stop : Option ℕ) (start now new : Bench) (held later : Turn) (written between after : Option (List ℕ)) (count : ℕ) (last : Bool) → last ≡ false → Comes stop start now held written between count → Steers stop held later now new between after (Ok last)
+pub comes-more : (stop : Option ℕ) (start now new : ProcessorState) (held later : Turn) (written between after : Option (List ℕ)) (count : ℕ) (last : Bool) → last ≡ false → Comes stop start now held written between count → Steers stop held later now new between after (Ok last)
     → Comes stop start new later written after (count + 1)
 unfolding Steers
 comes-more stop start now new held later written between after count last goes_on c (made, takes, free, next, put) =
@@ -180,12 +180,12 @@ comes-more stop start now new held later written between after count last goes_o
     }
 
 -- it stays on its run
-pub steers-stands : (stop : Option ℕ) (at later : Turn) (now new : Bench) (written after : Option (List ℕ)) (last : Bool) → StandsSomewhere now.core now.ring → Steers stop at later now new written after (Ok last) → StandsSomewhere new.core new.ring
+pub steers-stands : (stop : Option ℕ) (at later : Turn) (now new : ProcessorState) (written after : Option (List ℕ)) (last : Bool) → StandsSomewhere now.core now.ring → Steers stop at later now new written after (Ok last) → StandsSomewhere new.core new.ring
 unfolding Steers
 steers-stands stop at later now new written after last (start, h) (made, takes, hit, next, put) = (start, makes-stands start made.move made.event now new h takes.makes)
 
 -- the number of stages stays
-pub steers-plan : (stop : Option ℕ) (at later : Turn) (now new : Bench) (written after : Option (List ℕ)) (last : Bool) → Steers stop at later now new written after (Ok last) → new.core.plan ≡ now.core.plan
+pub steers-plan : (stop : Option ℕ) (at later : Turn) (now new : ProcessorState) (written after : Option (List ℕ)) (last : Bool) → Steers stop at later now new written after (Ok last) → new.core.plan ≡ now.core.plan
 unfolding Steers
 steers-plan stop at later now new written after last (made, takes, hit, next, put) = takes.makes.makes.plan
 
@@ -195,7 +195,7 @@ ends_here : (trace : List Made) → trace ++ [] ≡ trace
 ends_here trace = append-nil trace
 
 -- there are enough, or the run is over
-pub drives-over : (n : ℕ) (stop : Option ℕ) (start now : Bench) (held : Turn) (written after : Option (List ℕ)) (count : ℕ) → count ≤ n → Comes stop start now held written after count → (count ≡ n) ⊎ (GoesOn most_retired now.core.state → ⊥) → DrivesOut n stop start now written after (Ok count)
+pub drives-over : (n : ℕ) (stop : Option ℕ) (start now : ProcessorState) (held : Turn) (written after : Option (List ℕ)) (count : ℕ) → count ≤ n → Comes stop start now held written after count → (count ≡ n) ⊎ (GoesOn most_retired now.core.state → ⊥) → DrivesOut n stop start now written after (Ok count)
 unfolding DrivesOut
 drives-over n stop start now held written after count few c why =
     let why_there : (length c.trace ≡ n) ⊎ (GoesOn most_retired now.core.state → ⊥) = subst (λ (k : ℕ). (k ≡ n) ⊎ (GoesOn most_retired now.core.state → ⊥)) c.many why in (
@@ -215,13 +215,13 @@ drives-over n stop start now held written after count few c why =
     )
 
 -- there are enough
-pub drives-enough : (n : ℕ) (stop : Option ℕ) (start now : Bench) (held : Turn) (written after : Option (List ℕ)) (count : ℕ) → count ≤ n → n ≤ count → Comes stop start now held written after count → DrivesOut n stop start now written after (Ok n)
+pub drives-enough : (n : ℕ) (stop : Option ℕ) (start now : ProcessorState) (held : Turn) (written after : Option (List ℕ)) (count : ℕ) → count ≤ n → n ≤ count → Comes stop start now held written after count → DrivesOut n stop start now written after (Ok n)
 drives-enough n stop start now held written after count few many c =
     let all : count ≡ n = omega (arith, few, many) in
     subst (λ (k : ℕ). DrivesOut n stop start now written after (Ok k)) all (drives-over n stop start now held written after count few c (inl all))
 
 -- an instruction at the break address was issued
-pub drives-break : (n : ℕ) (stop : Option ℕ) (start now new : Bench) (held later : Turn) (written between after : Option (List ℕ)) (count : ℕ) (last : Bool) → last ≡ true → count < n → Comes stop start now held written between count → Steers stop held later now new between after (Ok last) → DrivesOut n stop start new written after (Ok (count + 1))
+pub drives-break : (n : ℕ) (stop : Option ℕ) (start now new : ProcessorState) (held later : Turn) (written between after : Option (List ℕ)) (count : ℕ) (last : Bool) → last ≡ true → count < n → Comes stop start now held written between count → Steers stop held later now new between after (Ok last) → DrivesOut n stop start new written after (Ok (count + 1))
 unfolding DrivesOut Steers
 drives-break n stop start now new held later written between after count last is_last few c (made, takes, hit, next, put) =
     let P : List ℕ → Type 0 = λ lines. Writes written after lines in (
@@ -241,7 +241,7 @@ drives-break n stop start now new held later written between after count last is
     )
 
 -- the report failed after a move
-pub drives-unshown : (n : ℕ) (stop : Option ℕ) (start now new : Bench) (held later : Turn) (written between after : Option (List ℕ)) (count : ℕ) → count < n → Comes stop start now held written between count → Steers stop held later now new between after (Err broken.Report) → DrivesOut n stop start new written after (Err broken.Report)
+pub drives-unshown : (n : ℕ) (stop : Option ℕ) (start now new : ProcessorState) (held later : Turn) (written between after : Option (List ℕ)) (count : ℕ) → count < n → Comes stop start now held written between count → Steers stop held later now new between after (Err broken.Report) → DrivesOut n stop start new written after (Err broken.Report)
 unfolding DrivesOut Steers
 drives-unshown n stop start now new held later written between after count few c (made, takes, put) =
     let P : List ℕ → Type 0 = λ lines. WritesFront written after lines in (
@@ -260,7 +260,7 @@ drives-unshown n stop start now new held later written between after count few c
     )
 
 -- the output failed a move
-pub drives-aground : (n : ℕ) (stop : Option ℕ) (start now new : Bench) (held later : Turn) (written between after : Option (List ℕ)) (count : ℕ) → count < n → Comes stop start now held written between count → Steers stop held later now new between after (Err broken.Output) → DrivesOut n stop start new written after (Err broken.Output)
+pub drives-aground : (n : ℕ) (stop : Option ℕ) (start now new : ProcessorState) (held later : Turn) (written between after : Option (List ℕ)) (count : ℕ) → count < n → Comes stop start now held written between count → Steers stop held later now new between after (Err broken.Output) → DrivesOut n stop start new written after (Err broken.Output)
 unfolding DrivesOut Steers
 drives-aground n stop start now new held later written between after count few c (goes, is, fails, same) = (
   retirements c.trace,
@@ -279,6 +279,6 @@ drives-aground n stop start now new held later written between after count few c
 )
 
 -- whichever failed
-pub drives-broken : (n : ℕ) (stop : Option ℕ) (start now new : Bench) (held later : Turn) (written between after : Option (List ℕ)) (count : ℕ) (b : Broken) → count < n → Comes stop start now held written between count → Steers stop held later now new between after (Err b) → DrivesOut n stop start new written after (Err b)
+pub drives-broken : (n : ℕ) (stop : Option ℕ) (start now new : ProcessorState) (held later : Turn) (written between after : Option (List ℕ)) (count : ℕ) (b : Broken) → count < n → Comes stop start now held written between count → Steers stop held later now new between after (Err b) → DrivesOut n stop start new written after (Err b)
 drives-broken n stop start now new held later written between after count broken.Report few c s = drives-unshown n stop start now new held later written between after count few c s
 drives-broken n stop start now new held later written between after count broken.Output few c s = drives-aground n stop start now new held later written between after count few c s

@@ -16,11 +16,11 @@ use Rattle.cf_core.specs.Stepping.{Makes, MakesOrFails as StepsOrFails}
 use Rattle.cf_core.specs.Undo.{CanStand, kept_by}
 use Rattle.cf_core.specs.declared.fault.Fault.TheVariants as fault
 use Rattle.cf_core.specs.declared.undo.Undo.{Undo}
-use Rattle.cf_core.proofs.Steps.{next_moved}
+use Rattle.cf_core.proofs.StepsOrBarred.{next_moved}
 use Rattle.cf_run.proofs.AfterOutput.{next-after}
-use Rattle.cf_debug.specs.Making.{Bench, MakesOne, FailsOne, bench_of}
+use Rattle.cf_debug.specs.Making.{ProcessorState, MakesAndKeeps, FailsOne, processor_state}
 use Rattle.cf_debug.specs.Rings.{WasKept, ring_after, with_record}
-use Rattle.cf_debug.specs.Standing.{Stands}
+use Rattle.cf_debug.specs.Standing.{StandsAfterMoves}
 use Rattle.cf_debug.proofs.Standing.{stands-kept, stands-served}
 
 -- what is kept of a move, unless it is Serve
@@ -51,7 +51,7 @@ kept_other mv other plan s ring = of (serves-or mv)
 
 -- a move other than Serve was made and kept
 pub made-other : (mv : Move) (e : Event) (core new : Processor) (ring later : List Kept) (out after : Option (List ℕ)) (undo : Undo) → CanStand core.plan core.state → kept_by undo ≡ kept core.plan core.state mv → bar core.plan core.state mv ≡ None → mv ≢ Serve
-    → StepsOrFails core new mv (streams_of (Some []) out) (streams_of (Some []) after) (Ok e) → later ≡ with_record ring (kept_by undo) → MakesOne mv e (bench_of core ring out) (bench_of new later after)
+    → StepsOrFails core new mv (streams_of (Some []) out) (streams_of (Some []) after) (Ok e) → later ≡ with_record ring (kept_by undo) → MakesAndKeeps mv e (processor_state core ring out) (processor_state new later after)
 unfolding StepsOrFails
 made-other mv e core new ring later out after undo stood is free other h put = record {
   allowed = free;
@@ -63,7 +63,7 @@ made-other mv e core new ring later out after undo stood is free other h put = r
 
 -- Serve was made, and nothing is kept
 pub made-serve : (e : Event) (core new : Processor) (ring later : List Kept) (out after : Option (List ℕ)) → bar core.plan core.state Serve ≡ None
-    → StepsOrFails core new Serve (streams_of (Some []) out) (streams_of (Some []) after) (Ok e) → later ≡ [] → MakesOne Serve e (bench_of core ring out) (bench_of new later after)
+    → StepsOrFails core new Serve (streams_of (Some []) out) (streams_of (Some []) after) (Ok e) → later ≡ [] → MakesAndKeeps Serve e (processor_state core ring out) (processor_state new later after)
 unfolding StepsOrFails ring_after
 made-serve e core new ring later out after free h empty = record {
   allowed = free;
@@ -75,7 +75,7 @@ made-serve e core new ring later out after free h empty = record {
 
 -- the output failed Serve
 pub failed-serve : (core new : Processor) (ring later : List Kept) (out after : Option (List ℕ)) → bar core.plan core.state Serve ≡ None
-    → StepsOrFails core new Serve (streams_of (Some []) out) (streams_of (Some []) after) (Err fault.Write) → FailsOne Serve (bench_of core ring out) (bench_of new later after)
+    → StepsOrFails core new Serve (streams_of (Some []) out) (streams_of (Some []) after) (Err fault.Write) → FailsOne Serve (processor_state core ring out) (processor_state new later after)
 unfolding StepsOrFails
 failed-serve core new ring later out after free h = record { allowed = free; serves = refl; fails = h.1 }
 
@@ -92,7 +92,7 @@ same_some : {X : Type 0} (x y : X) → Some x ≡ Some y → x ≡ y
 same_some x y h = cc
 
 -- the moment after a move that finds nothing left, whatever was written before
-after_move : (now new : Bench) (mv : Move) → Makes now.core new.core mv (streams_of (Some []) now.output) (streams_of (Some []) new.output) → (added : List ℕ) × ((before : List ℕ) → next now.core.plan (record { state = now.core.state; rest = []; output = before }) mv ≡ record { state = new.core.state; rest = []; output = before ++ added })
+after_move : (now new : ProcessorState) (mv : Move) → Makes now.core new.core mv (streams_of (Some []) now.output) (streams_of (Some []) new.output) → (added : List ℕ) × ((before : List ℕ) → next now.core.plan (record { state = now.core.state; rest = []; output = before }) mv ≡ record { state = new.core.state; rest = []; output = before ++ added })
 after_move now new mv m =
     let plan : Plan = now.core.plan in
     let none : [] ≡ m.later = same_some [] m.later m.leaves.input in
@@ -106,7 +106,7 @@ after_move now new mv m =
     )
 
 -- the processor after a move other than Serve
-moved_core : (now new : Bench) (mv : Move) → mv ≢ Serve → Makes now.core new.core mv (streams_of (Some []) now.output) (streams_of (Some []) new.output) → new.core ≡ in_state now.core (moved now.core.plan now.core.state mv)
+moved_core : (now new : ProcessorState) (mv : Move) → mv ≢ Serve → Makes now.core new.core mv (streams_of (Some []) now.output) (streams_of (Some []) new.output) → new.core ≡ in_state now.core (moved now.core.plan now.core.state mv)
 moved_core now new mv other m =
     let plan : Plan = now.core.plan in
     let led = (after_move now new mv m).1 [] in
@@ -114,17 +114,17 @@ moved_core now new mv other m =
     ap (λ (p : Plan). record { plan = p; state = new.core.state }) m.plan ∙ ap (in_state now.core) state
 
 -- a session stays on its run after a move
-pub makes-stands : (start : Processor) (mv : Move) (e : Event) (now new : Bench) → Stands start now.core now.ring → MakesOne mv e now new → Stands start new.core new.ring
+pub makes-stands : (start : Processor) (mv : Move) (e : Event) (now new : ProcessorState) → StandsAfterMoves start now.core now.ring → MakesAndKeeps mv e now new → StandsAfterMoves start new.core new.ring
 unfolding ring_after kept
 makes-stands start mv e now new h m = of (serves-or mv)
   where
-    of : (mv ≡ Serve) ⊎ ((mv ≢ Serve) × ((plan : Plan) (s : State) (ring : List Kept) → ring_after plan s mv ring ≡ with_record ring (kept plan s mv))) → Stands start new.core new.ring
+    of : (mv ≡ Serve) ⊎ ((mv ≢ Serve) × ((plan : Plan) (s : State) (ring : List Kept) → ring_after plan s mv ring ≡ with_record ring (kept plan s mv))) → StandsAfterMoves start new.core new.ring
     of (inl serves) =
         let P : Move → Type 0 = λ v. (bar now.core.plan now.core.state v ≡ None) × Makes now.core new.core v (streams_of (Some []) now.output) (streams_of (Some []) new.output) × (new.ring ≡ ring_after now.core.plan now.core.state v now.ring) in
         let here : P Serve = subst P serves (m.allowed, m.makes, m.ring) in
         let led = after_move now new Serve here.1 in
-        subst (Stands start new.core) (sym here.2) (stands-served start now.core new.core now.ring led.0 h here.0 m.makes.plan led.1)
+        subst (StandsAfterMoves start new.core) (sym here.2) (stands-served start now.core new.core now.ring led.0 h here.0 m.makes.plan led.1)
     of (inr (other, is)) =
         let k : Kept = kept now.core.plan now.core.state mv in
         let was : WasKept now.core.plan now.core.state k = record { stood = m.stood other; allowed = m.allowed; other = other; is = refl } in
-        subst (Stands start new.core) (sym (m.ring ∙ is now.core.plan now.core.state now.ring)) (stands-kept start now.core new.core now.ring k h was (moved_core now new mv other m.makes))
+        subst (StandsAfterMoves start new.core) (sym (m.ring ∙ is now.core.plan now.core.state now.ring)) (stands-kept start now.core new.core now.ring k h was (moved_core now new mv other m.makes))

@@ -8,27 +8,27 @@ use Rattle.run_scripts.specs.declared.refusal.ScriptKind.{ScriptKind}
 use Rattle.run_scripts.specs.MoveLines.{move_in}
 use Rattle.run_scripts.specs.Words.{words_of, first_word, first_number}
 use Rattle.cf_bind.specs.declared.moves.Move.{Move as AnyMove}
-use Rattle.cf_debug.specs.declared.command.Command.{Command}
-use Rattle.cf_debug.specs.declared.command.Command.TheVariants.{Nothing, Auto, Show, Break, Back, End}
+use Rattle.cf_debug.specs.declared.command.DebugCommand.{DebugCommand}
+use Rattle.cf_debug.specs.declared.command.DebugCommand.TheVariants.{Nothing, Auto, Show, Break, Back, End}
 use Rattle.cf_debug.specs.declared.command.View.TheVariants.{Picture, Registers, Memory, Bound}
 use Rattle.cf_debug.specs.declared.command.Refusal.{Refusal}
 use Rattle.cf_debug.specs.declared.command.Refusal.TheVariants.{TooLong, UnknownCommand, BadNumber, ExtraWords}
 use Rattle.cf_debug.specs.Commands.{AsksFew, address_told, alone, and_then, auto_told, break_told, command_in, command_named, lone_command, lone_told, memory_told, move_told, number_told, stop_told, within}
 
 -- what is told, if anything is, asks for few
-abbrev Few : Result Command Refusal → Type 0
+abbrev Few : Result DebugCommand Refusal → Type 0
 Few (Ok command) = AsksFew command
 Few (Err refusal) = Unit {0}
 
-pick : (b : Bool) (x y : Result Command Refusal) → Few x → Few y → Few (if b then x else y)
+pick : (b : Bool) (x y : Result DebugCommand Refusal) → Few x → Few y → Few (if b then x else y)
 pick true x y few other = few
 pick false x y few other = other
 
-alone_few : (words : List (List ℕ)) (command : Command) → AsksFew command → Few (alone words command)
+alone_few : (words : List (List ℕ)) (command : DebugCommand) → AsksFew command → Few (alone words command)
 unfolding alone
 alone_few words command few = pick (length words == 0) (Ok command) (Err ExtraWords) few tt
 
-then_few : {A : Type 0} (r : Result A Refusal) (step : A → Result Command Refusal) → ((a : A) → r ≡ Ok a → Few (step a)) → Few (and_then r step)
+then_few : {A : Type 0} (r : Result A Refusal) (step : A → Result DebugCommand Refusal) → ((a : A) → r ≡ Ok a → Few (step a)) → Few (and_then r step)
 then_few (Ok a) step few = few a refl
 then_few (Err e) step few = tt
 
@@ -63,11 +63,11 @@ unfolding stop_told
 stop_few words = then_few (break_told (first_word words)) _ (λ stop is. alone_few (drop 1 words) (Break stop) tt)
 
 -- a command that may be missing, which asks for few where it is there
-abbrev LoneFew : Option Command → Type 0
+abbrev LoneFew : Option DebugCommand → Type 0
 LoneFew None = Unit {0}
 LoneFew (Some command) = AsksFew command
 
-lone_pick : (b : Bool) (command : Command) (other : Option Command) → AsksFew command → LoneFew other → LoneFew (if b then Some command else other)
+lone_pick : (b : Bool) (command : DebugCommand) (other : Option DebugCommand) → AsksFew command → LoneFew other → LoneFew (if b then Some command else other)
 lone_pick true command other few rest = few
 lone_pick false command other few rest = rest
 
@@ -80,7 +80,7 @@ lone_few name =
     (lone_pick (bytes_eq name (codes "back")) Back _ tt
     (lone_pick (bytes_eq name (codes "end")) End None tt tt))))
 
-lone_told_few : (told : Option Command) (words : List (List ℕ)) → LoneFew told → Few (lone_told told words)
+lone_told_few : (told : Option DebugCommand) (words : List (List ℕ)) → LoneFew told → Few (lone_told told words)
 lone_told_few None words few = tt
 lone_told_few (Some command) words few = alone_few words command few
 
@@ -95,6 +95,6 @@ named_few name after =
     (lone_told_few (lone_command name) (words_of after) (lone_few name))))))
 
 -- a command that a line tells asks for few
-pub few-told : (line : List ℕ) (command : Command) → command_in line ≡ Ok command → AsksFew command
+pub few-told : (line : List ℕ) (command : DebugCommand) → command_in line ≡ Ok command → AsksFew command
 unfolding command_in
 few-told line command is = subst Few is (pick (nat_lt 256 (length line)) (Err TooLong) (command_named (name_part line) (operand_part line)) tt (named_few (name_part line) (operand_part line)))

@@ -18,12 +18,12 @@ use Rattle.cf_semantics.specs.state.State.{Moment, State}
 use Rattle.theory_confluence.proofs.Laws.{some_pick}
 use Rattle.theory_confluence.proofs.back.TakenBack.{state_back}
 use Rattle.cf_core.specs.Processors.{Processor, in_state, opened}
-use Rattle.cf_core.specs.Undo.{IsAfter}
-use Rattle.cf_core.proofs.Steps.{next_moved}
+use Rattle.cf_core.specs.Undo.{HasJustMade}
+use Rattle.cf_core.proofs.StepsOrBarred.{next_moved}
 use Rattle.cf_run.specs.Headline.{machine_on}
 use Rattle.cf_run.specs.Policies.{IsOpened}
-use Rattle.cf_debug.specs.Rings.{Leads, WasKept, ring_after, with_record}
-use Rattle.cf_debug.specs.Standing.{Stands, IsOnRun}
+use Rattle.cf_debug.specs.Rings.{RecordsLead, WasKept, ring_after, with_record}
+use Rattle.cf_debug.specs.Standing.{StandsAfterMoves, IsOnRun}
 
 -- Runs --
 
@@ -65,27 +65,27 @@ comes_more plan x s mv c free other =
     }
 
 -- where the ring leads from there
-pub comes-along : (plan : Plan) (x : Machine) (s : State) (ring : List Kept) (last : State) → Comes plan x s → Leads plan s ring last → Comes plan x last
-unfolding Leads
+pub comes-along : (plan : Plan) (x : Machine) (s : State) (ring : List Kept) (last : State) → Comes plan x s → RecordsLead plan s ring last → Comes plan x last
+unfolding RecordsLead
 comes-along plan x s [] last c l = subst (Comes plan x) (sym l) c
 comes-along plan x s (k ∷ ring) last c l = comes-along plan x (moved plan s k.move) ring last (comes_more plan x s k.move c l.0.allowed l.0.other) l.1
 
 -- without its oldest records it leads there too
-leads_drop : (plan : Plan) (x : Machine) (n : ℕ) (s : State) (ring : List Kept) (last : State) → Comes plan x s → Leads plan s ring last → (t : State) × Comes plan x t × Leads plan t (drop n ring) last
-unfolding Leads
+leads_drop : (plan : Plan) (x : Machine) (n : ℕ) (s : State) (ring : List Kept) (last : State) → Comes plan x s → RecordsLead plan s ring last → (t : State) × Comes plan x t × RecordsLead plan t (drop n ring) last
+unfolding RecordsLead
 leads_drop plan x zero s ring last c l = (s, c, l)
 leads_drop plan x (suc n) s [] last c l = (s, c, l)
 leads_drop plan x (suc n) s (k ∷ ring) last c l = leads_drop plan x n (moved plan s k.move) ring last (comes_more plan x s k.move c l.0.allowed l.0.other) l.1
 
 -- one more record
-leads_more : (plan : Plan) (s : State) (ring : List Kept) (last : State) (k : Kept) → Leads plan s ring last → WasKept plan last k → Leads plan s (ring ++ k ∷ []) (moved plan last k.move)
-unfolding Leads
+leads_more : (plan : Plan) (s : State) (ring : List Kept) (last : State) (k : Kept) → RecordsLead plan s ring last → WasKept plan last k → RecordsLead plan s (ring ++ k ∷ []) (moved plan last k.move)
+unfolding RecordsLead
 leads_more plan s [] last k l was = subst (λ (t : State). WasKept plan t k × (moved plan last k.move ≡ moved plan t k.move)) l (was, refl)
 leads_more plan s (first ∷ ring) last k l was = (l.0, leads_more plan (moved plan s first.move) ring last k l.1 was)
 
 -- the newest record, and where the others lead
-leads_last : (plan : Plan) (s : State) (ring : List Kept) (k : Kept) (last : State) → Leads plan s (ring ++ k ∷ []) last → (t : State) × Leads plan s ring t × WasKept plan t k × (last ≡ moved plan t k.move)
-unfolding Leads
+leads_last : (plan : Plan) (s : State) (ring : List Kept) (k : Kept) (last : State) → RecordsLead plan s (ring ++ k ∷ []) last → (t : State) × RecordsLead plan s ring t × WasKept plan t k × (last ≡ moved plan t k.move)
+unfolding RecordsLead
 leads_last plan s [] k last l = (s, refl, l.0, l.1)
 leads_last plan s (first ∷ ring) k last l =
     let rest = leads_last plan (moved plan s first.move) ring k last l.1 in
@@ -94,15 +94,15 @@ leads_last plan s (first ∷ ring) k last l =
 -- Sessions --
 
 -- where the oldest record was kept
-pub oldest : (start core : Processor) (ring : List Kept) (h : Stands start core ring) → Comes start.plan (machine_on h.hart []) h.older.state
+pub oldest : (start core : Processor) (ring : List Kept) (h : StandsAfterMoves start core ring) → Comes start.plan (machine_on h.hart []) h.older.state
 oldest start core ring h = record { moment = h.older; reached = h.reached; none = h.none; state = refl }
 
-pub stands-comes : (start core : Processor) (ring : List Kept) (h : Stands start core ring) → Comes start.plan (machine_on h.hart []) core.state
+pub stands-comes : (start core : Processor) (ring : List Kept) (h : StandsAfterMoves start core ring) → Comes start.plan (machine_on h.hart []) core.state
 stands-comes start core ring h = comes-along start.plan (machine_on h.hart []) h.older.state ring core.state (oldest start core ring h) h.kept
 
 -- at first it stands where it was opened, with an empty ring
-pub stands-first : (core : Processor) (ring : List Kept) → IsOpened core → length core.state.regs ≡ 32 → ring ≡ [] → Stands core core ring
-unfolding Leads IsRun run opened opened_on
+pub stands-first : (core : Processor) (ring : List Kept) → IsOpened core → length core.state.regs ≡ 32 → ring ≡ [] → StandsAfterMoves core core ring
+unfolding RecordsLead IsRun run opened opened_on
 stands-first core ring o wide none = record {
   hart = o.hart;
   opened_is = o.is;
@@ -110,12 +110,12 @@ stands-first core ring o wide none = record {
   older = start_on core.plan (machine_on o.hart []);
   reached = record { moves = []; allowed = tt; is = refl };
   none = refl;
-  kept = subst (λ (r : List Kept). Leads core.plan (start_on core.plan (machine_on o.hart [])).state r core.state) (sym none) (ap (λ (p : Processor). p.state) o.is);
+  kept = subst (λ (r : List Kept). RecordsLead core.plan (start_on core.plan (machine_on o.hart [])).state r core.state) (sym none) (ap (λ (p : Processor). p.state) o.is);
   plan = refl;
 }
 
 -- it stands on a run
-pub stands-on_run : (start core : Processor) (ring : List Kept) → Stands start core ring → IsOnRun start core
+pub stands-on_run : (start core : Processor) (ring : List Kept) → StandsAfterMoves start core ring → IsOnRun start core
 stands-on_run start core ring h =
     let c = stands-comes start core ring h in
     record {
@@ -127,7 +127,7 @@ stands-on_run start core ring h =
     }
 
 -- at another state, with another ring that leads there
-stands_at : (start core new : Processor) (ring later : List Kept) (s : State) → (h : Stands start core ring) → Comes start.plan (machine_on h.hart []) s → Leads start.plan s later new.state → new.plan ≡ core.plan → Stands start new later
+stands_at : (start core new : Processor) (ring later : List Kept) (s : State) → (h : StandsAfterMoves start core ring) → Comes start.plan (machine_on h.hart []) s → RecordsLead start.plan s later new.state → new.plan ≡ core.plan → StandsAfterMoves start new later
 stands_at start core new ring later s h c l same = record {
   hart = h.hart;
   opened_is = h.opened_is;
@@ -135,24 +135,24 @@ stands_at start core new ring later s h c l same = record {
   older = c.moment;
   reached = c.reached;
   none = c.none;
-  kept = subst (λ (t : State). Leads start.plan t later new.state) (sym c.state) l;
+  kept = subst (λ (t : State). RecordsLead start.plan t later new.state) (sym c.state) l;
   plan = same ∙ h.plan;
 }
 
 -- after a move that was kept
-pub stands-kept : (start core new : Processor) (ring : List Kept) (k : Kept) → Stands start core ring → WasKept core.plan core.state k → new ≡ in_state core (moved core.plan core.state k.move) → Stands start new (with_record ring k)
+pub stands-kept : (start core new : Processor) (ring : List Kept) (k : Kept) → StandsAfterMoves start core ring → WasKept core.plan core.state k → new ≡ in_state core (moved core.plan core.state k.move) → StandsAfterMoves start new (with_record ring k)
 stands-kept start core new ring k h was is =
     let plan : Plan = start.plan in
     let here : WasKept plan core.state k = subst (λ (p : Plan). WasKept p core.state k) h.plan was in
     let state : new.state ≡ moved plan core.state k.move = ap (λ (p : Processor). p.state) is ∙ ap (λ (p : Plan). moved p core.state k.move) h.plan in
-    let more : Leads plan h.older.state (ring ++ k ∷ []) new.state = subst (Leads plan h.older.state (ring ++ k ∷ [])) (sym state) (leads_more plan h.older.state ring core.state k h.kept here) in
+    let more : RecordsLead plan h.older.state (ring ++ k ∷ []) new.state = subst (RecordsLead plan h.older.state (ring ++ k ∷ [])) (sym state) (leads_more plan h.older.state ring core.state k h.kept here) in
     let cut = leads_drop plan (machine_on h.hart []) (length (ring ++ k ∷ []) - 1024) h.older.state (ring ++ k ∷ []) new.state (oldest start core ring h) more in
     stands_at start core new ring (with_record ring k) cut.0 h cut.1 cut.2 (ap (λ (p : Processor). p.plan) is)
 
 -- where an allowed Serve leads to, with an empty ring
-pub stands-served : (start core new : Processor) (ring : List Kept) (later : List ℕ) → Stands start core ring → bar core.plan core.state Serve ≡ None → new.plan ≡ core.plan
-    → ((before : List ℕ) → next core.plan (record { state = core.state; rest = []; output = before }) Serve ≡ record { state = new.state; rest = []; output = before ++ later }) → Stands start new []
-unfolding Leads
+pub stands-served : (start core new : Processor) (ring : List Kept) (later : List ℕ) → StandsAfterMoves start core ring → bar core.plan core.state Serve ≡ None → new.plan ≡ core.plan
+    → ((before : List ℕ) → next core.plan (record { state = core.state; rest = []; output = before }) Serve ≡ record { state = new.state; rest = []; output = before ++ later }) → StandsAfterMoves start new []
+unfolding RecordsLead
 stands-served start core new ring later h free same is =
     let plan : Plan = start.plan in
     let c = stands-comes start core ring h in
@@ -169,7 +169,7 @@ stands-served start core new ring later h free same is =
     stands_at start core new ring [] new.state h there refl same
 
 -- the newest record is of the move that was made last
-pub stands-after : (start core : Processor) (older : List Kept) (k : Kept) → Stands start core (older ++ k ∷ []) → IsAfter core k
+pub stands-after : (start core : Processor) (older : List Kept) (k : Kept) → StandsAfterMoves start core (older ++ k ∷ []) → HasJustMade core k
 stands-after start core older k h =
     let cut = leads_last start.plan h.older.state older k core.state h.kept in
     let back : start.plan ≡ core.plan = sym h.plan in
@@ -184,19 +184,19 @@ stands-after start core older k h =
     }
 
 -- and it stands with that taken back
-pub stands-back : (start core new : Processor) (older : List Kept) (k : Kept) → Stands start core (older ++ k ∷ []) → new ≡ in_state core (restored core.state k) → Stands start new older
+pub stands-back : (start core new : Processor) (older : List Kept) (k : Kept) → StandsAfterMoves start core (older ++ k ∷ []) → new ≡ in_state core (restored core.state k) → StandsAfterMoves start new older
 stands-back start core new older k h is =
     let plan : Plan = start.plan in
     let cut = leads_last plan h.older.state older k core.state h.kept in
     let t : State = cut.0 in
     let back : restored core.state k ≡ t = ap (λ (s : State). restored s k) cut.3 ∙ ap (restored (moved plan t k.move)) cut.2.is ∙ state_back plan t k.move cut.2.allowed cut.2.other in
     let state : new.state ≡ t = ap (λ (p : Processor). p.state) is ∙ back in
-    stands_at start core new (older ++ k ∷ []) older h.older.state h (oldest start core (older ++ k ∷ []) h) (subst (Leads plan h.older.state older) (sym state) cut.1) (ap (λ (p : Processor). p.plan) is)
+    stands_at start core new (older ++ k ∷ []) older h.older.state h (oldest start core (older ++ k ∷ []) h) (subst (RecordsLead plan h.older.state older) (sym state) cut.1) (ap (λ (p : Processor). p.plan) is)
 
 -- Offers --
 
 -- while the program goes on, a move is offered, whatever is counted
-pub stands-offered : (start core : Processor) (ring : List Kept) (count : ℕ) → Stands start core ring → IsAccepted core.plan → core.state.ending ≡ None → 0 < length (offered core.plan count core.state)
+pub stands-offered : (start core : Processor) (ring : List Kept) (count : ℕ) → StandsAfterMoves start core ring → IsAccepted core.plan → core.state.ending ≡ None → 0 < length (offered core.plan count core.state)
 unfolding offered
 stands-offered start core ring count h accepted unended =
     let c = stands-comes start core ring h in

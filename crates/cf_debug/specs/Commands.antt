@@ -6,8 +6,8 @@ use Rattle.cf_bind.specs.declared.moves.Move.{Move as AnyMove}
 use Rattle.run_scripts.specs.declared.refusal.ScriptKind.{ScriptKind}
 use Rattle.run_scripts.specs.MoveLines.{move_in}
 use Rattle.run_scripts.specs.Words.{words_of, first_word, first_number, address_in}
-use Rattle.cf_debug.specs.declared.command.Command.{Command}
-use Rattle.cf_debug.specs.declared.command.Command.TheVariants.{Nothing, Move, Auto, Show, Break, Back, End}
+use Rattle.cf_debug.specs.declared.command.DebugCommand.{DebugCommand}
+use Rattle.cf_debug.specs.declared.command.DebugCommand.TheVariants.{Nothing, Move, Auto, Show, Break, Back, End}
 use Rattle.cf_debug.specs.declared.command.View.{View}
 use Rattle.cf_debug.specs.declared.command.View.TheVariants.{Picture, Registers, Memory, Bound}
 use Rattle.cf_debug.specs.declared.command.Refusal.{Refusal}
@@ -42,31 +42,31 @@ unfoldable pub break_told : List ℕ → Result (Option ℕ) Refusal
 break_told word = if bytes_eq word (codes "none") then Ok None else and_then (address_told word) (λ a. Ok (Some a))
 
 -- a command after which no word is left
-unfoldable pub alone : List (List ℕ) → Command → Result Command Refusal
+unfoldable pub alone : List (List ℕ) → DebugCommand → Result DebugCommand Refusal
 alone words command = if length words == 0 then Ok command else Err ExtraWords
 
 -- the move that the text after `move` names, as a line of a script
-abbrev pub move_told : Result AnyMove ScriptKind → Result Command Refusal
+abbrev pub move_told : Result AnyMove ScriptKind → Result DebugCommand Refusal
 move_told (Ok mv) = Ok (Move mv)
 move_told (Err kind) = Err (Script kind)
 
 -- how many moves
-unfoldable pub auto_told : List (List ℕ) → Result Command Refusal
+unfoldable pub auto_told : List (List ℕ) → Result DebugCommand Refusal
 auto_told words = and_then (number_told most_moves words) (λ n. alone (drop 1 words) (Auto n))
 
 -- an address and how many bytes, up to 16
-unfoldable pub memory_told : List (List ℕ) → Result Command Refusal
+unfoldable pub memory_told : List (List ℕ) → Result DebugCommand Refusal
 memory_told words =
     and_then (address_told (first_word words)) (λ address.
     and_then (number_told 16 (drop 1 words)) (λ len.
     alone (drop 1 (drop 1 words)) (Show (Memory address len))))
 
 -- where to break
-unfoldable pub stop_told : List (List ℕ) → Result Command Refusal
+unfoldable pub stop_told : List (List ℕ) → Result DebugCommand Refusal
 stop_told words = and_then (break_told (first_word words)) (λ stop. alone (drop 1 words) (Break stop))
 
 -- the command of this name, if it is one after which no word may follow
-unfoldable pub lone_command : List ℕ → Option Command
+unfoldable pub lone_command : List ℕ → Option DebugCommand
 lone_command name =
     if bytes_eq name (codes "show") then Some (Show Picture)
     else if bytes_eq name (codes "regs") then Some (Show Registers)
@@ -76,12 +76,12 @@ lone_command name =
     else None
 
 -- such a command, or that there is none of the name
-abbrev pub lone_told : Option Command → List (List ℕ) → Result Command Refusal
+abbrev pub lone_told : Option DebugCommand → List (List ℕ) → Result DebugCommand Refusal
 lone_told None words = Err UnknownCommand
 lone_told (Some command) words = alone words command
 
 -- the command of this name, with the text after it
-unfoldable pub command_named : List ℕ → List ℕ → Result Command Refusal
+unfoldable pub command_named : List ℕ → List ℕ → Result DebugCommand Refusal
 command_named name after =
     if bytes_eq name (codes "") then Ok Nothing
     else if bytes_eq name (codes "move") then move_told (move_in after)
@@ -91,7 +91,7 @@ command_named name after =
     else lone_told (lone_command name) (words_of after)
 
 -- what a line tells, or the first refusal
-unfoldable pub command_in : List ℕ → Result Command Refusal
+unfoldable pub command_in : List ℕ → Result DebugCommand Refusal
 command_in line =
     if nat_lt longest_line (length line) then Err TooLong
     else command_named (name_part line) (operand_part line)
@@ -102,6 +102,6 @@ ShowsFew (Memory address len) = len ≤ 16
 ShowsFew view = Unit {0}
 
 -- a command asks for at most 16 bytes of memory
-abbrev pub AsksFew : Command → Type 0
+abbrev pub AsksFew : DebugCommand → Type 0
 AsksFew (Show view) = ShowsFew view
 AsksFew command = Unit {0}

@@ -1,7 +1,7 @@
 -- How the bytes of the commands are cut into lines (POSIX, "Line"), as they are taken.
 use Rattle.std.specs.Prelude.{◌≡◌, ◌≢◌, ℕ, ◌+◌, ◌<◌, ◌≤◌, List, [], ◌∷◌, ◌++◌, All, length, map, take, Option, Some, None, Result, Ok, Err}
 use Rattle.cf_io.specs.Takes.{IsAtEnd}
-use Rattle.rv_machine.specs.Streams.{Gives}
+use Rattle.rv_machine.specs.Streams.{GivesInput}
 use Rattle.rv_text.specs.Lines.{without_return}
 use Rattle.cf_debug.specs.declared.feed.Next.{Next}
 use Rattle.cf_debug.specs.declared.feed.Next.TheVariants.{Byte, AtEnd, TooMany, Fault}
@@ -41,11 +41,11 @@ pub record Feeding : Type 0 where
 -- the next byte of the commands: where no byte that was taken is left, some are taken; or the commands are at their end, or there are more than there may be, or a take failed
 unfoldable pub Feeds : (before after : Option (List ℕ)) → (now new : Feeding) → Next → Type 0
 Feeds before after now new (Byte byte) =
-    (taken : List ℕ) × Gives before after taken × (now.rest ++ taken ≡ byte ∷ new.rest)
+    (taken : List ℕ) × GivesInput before after taken × (now.rest ++ taken ≡ byte ∷ new.rest)
     × (new.left + length taken ≡ now.left) × (length new.rest < most_taken)
-Feeds before after now new AtEnd = (now.rest ≡ []) × IsAtEnd before × Gives before after [] × (new ≡ now)
-Feeds before after now new TooMany = (now.rest ≡ []) × (now.left ≡ 0) × ((byte : ℕ) × Gives before after (byte ∷ [])) × (new ≡ now)
-Feeds before after now new Fault = (now.rest ≡ []) × Gives before after [] × (new ≡ now)
+Feeds before after now new AtEnd = (now.rest ≡ []) × IsAtEnd before × GivesInput before after [] × (new ≡ now)
+Feeds before after now new TooMany = (now.rest ≡ []) × (now.left ≡ 0) × ((byte : ℕ) × GivesInput before after (byte ∷ [])) × (new ≡ now)
+Feeds before after now new Fault = (now.rest ≡ []) × GivesInput before after [] × (new ≡ now)
 
 -- an error where a take failed
 abbrev pub commands_fed : Next → Result (Unit {0}) (Unit {0})

@@ -11,7 +11,7 @@ use Rattle.cf_run.specs.Made.{Made, retirement}
 use Rattle.cf_run.specs.Policies.{Chooser, fresh, choice, after_choice}
 use Rattle.cf_run.specs.Reaching.{GoesOn}
 use Rattle.cf_debug.specs.Limits.{most_retired}
-use Rattle.cf_debug.specs.Making.{Bench, MakesOne, FailsOne}
+use Rattle.cf_debug.specs.Making.{ProcessorState, MakesAndKeeps, FailsOne}
 
 -- fetch runs at the address
 abbrev pub runs_at : ℕ → Fetch → Bool
@@ -32,25 +32,25 @@ abbrev pub first_turn : Turn
 first_turn = fresh None
 
 -- the move that is picked in the state
-abbrev pub pick : Turn → Bench → Option Move
+abbrev pub pick : Turn → ProcessorState → Option Move
 pick at now = choice round_pick now.core.plan at now.core.state
 
 -- the turn after a move that was made
-abbrev pub next_turn : Turn → Bench → Made → Turn
+abbrev pub next_turn : Turn → ProcessorState → Made → Turn
 next_turn at now made = after_choice round_on now.core.plan at now.core.state made
 
 -- the run goes on, and the move that is picked was made
-pub record Takes (at : Turn) (made : Made) (now new : Bench) : Type 0 where
+pub record DriveTakes (at : Turn) (made : Made) (now new : ProcessorState) : Type 0 where
   pub goes : GoesOn most_retired now.core.state
   pub pick_is : pick at now ≡ Some made.move
-  pub makes : MakesOne made.move made.event now new
+  pub makes : MakesAndKeeps made.move made.event now new
   pub state : made.state ≡ new.core.state
 
 -- the moves were made one after another, and none issued an instruction at the break address
-unfoldable pub Passes : Option ℕ → Turn → Bench → List Made → Turn → Bench → Type 0
+unfoldable pub Passes : Option ℕ → Turn → ProcessorState → List Made → Turn → ProcessorState → Type 0
 Passes stop at now [] last new = (last ≡ at) × (new ≡ now)
 Passes stop at now (made ∷ trace) last new =
-    (next : Bench) × Takes at made now next × (breaks stop now.core.state made.move ≡ false)
+    (next : ProcessorState) × DriveTakes at made now next × (breaks stop now.core.state made.move ≡ false)
     × Passes stop (next_turn at now made) next trace last new
 
 -- the lines of the instructions that retired
@@ -59,17 +59,17 @@ retirements [] = []
 retirements (made ∷ trace) = retirement made.state.retired made.event ++ retirements trace
 
 -- after this many of n moves: there are enough, or the run is over; or the next one issues an instruction at the break address, and is the last
-abbrev pub Pauses : ℕ → Option ℕ → ℕ → Turn → (now new : Bench) → List Made → Type 0
+abbrev pub Pauses : ℕ → Option ℕ → ℕ → Turn → (now new : ProcessorState) → List Made → Type 0
 Pauses n stop count at now new [] = (new ≡ now) × ((count ≡ n) ⊎ (GoesOn most_retired now.core.state → ⊥))
 Pauses n stop count at now new (made ∷ []) =
-    (count < n) × Takes at made now new × (breaks stop now.core.state made.move ≡ true)
+    (count < n) × DriveTakes at made now new × (breaks stop now.core.state made.move ≡ true)
 Pauses n stop count at now new (made ∷ other ∷ more) = ⊥
 
 -- at most n moves were made, `count` of them, with these lines of the instructions that retired
-pub record Drives (n : ℕ) (stop : Option ℕ) (start new : Bench) (count : ℕ) (lines : List ℕ) : Type 0 where
+pub record Drives (n : ℕ) (stop : Option ℕ) (start new : ProcessorState) (count : ℕ) (lines : List ℕ) : Type 0 where
   pub trace : List Made
   pub at : Turn
-  pub now : Bench
+  pub now : ProcessorState
   pub passes : Passes stop first_turn start trace at now
   pub within : length trace ≤ n
   pub last : List Made
@@ -78,21 +78,21 @@ pub record Drives (n : ℕ) (stop : Option ℕ) (start new : Bench) (count : ℕ
   pub lines_are : lines ≡ retirements (trace ++ last)
 
 -- fewer than n moves were made, and one more, with these lines
-pub record DrivesOn (n : ℕ) (stop : Option ℕ) (start new : Bench) (lines : List ℕ) : Type 0 where
+pub record DrivesOn (n : ℕ) (stop : Option ℕ) (start new : ProcessorState) (lines : List ℕ) : Type 0 where
   pub trace : List Made
   pub at : Turn
-  pub now : Bench
+  pub now : ProcessorState
   pub passes : Passes stop first_turn start trace at now
   pub below : length trace < n
   pub made : Made
-  pub takes : Takes at made now new
+  pub takes : DriveTakes at made now new
   pub lines_are : lines ≡ retirements (trace ++ made ∷ [])
 
 -- fewer than n moves were made, with these lines, and the output fails the call of the next
-pub record DrivesAground (n : ℕ) (stop : Option ℕ) (start new : Bench) (lines : List ℕ) : Type 0 where
+pub record DrivesAground (n : ℕ) (stop : Option ℕ) (start new : ProcessorState) (lines : List ℕ) : Type 0 where
   pub trace : List Made
   pub at : Turn
-  pub now : Bench
+  pub now : ProcessorState
   pub passes : Passes stop first_turn start trace at now
   pub below : length trace < n
   pub goes : GoesOn most_retired now.core.state

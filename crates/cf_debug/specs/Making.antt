@@ -14,20 +14,20 @@ use Rattle.cf_core.specs.Undo.{CanStand}
 use Rattle.cf_debug.specs.Rings.{ring_after}
 
 -- what moves change: the processor, the ring, and what the output tells
-pub record Bench : Type 0 where
+pub record ProcessorState : Type 0 where
   pub core : Processor
   pub ring : List Kept
   pub output : Option (List ℕ)
 
-abbrev pub bench_of : Processor → List Kept → Option (List ℕ) → Bench
-bench_of core ring output = record { core = core; ring = ring; output = output }
+abbrev pub processor_state : Processor → List Kept → Option (List ℕ) → ProcessorState
+processor_state core ring output = record { core = core; ring = ring; output = output }
 
 -- the guest's input is empty
-abbrev pub streams_at : Bench → Streams
+abbrev pub streams_at : ProcessorState → Streams
 streams_at b = streams_of (Some []) b.output
 
 -- nothing bars the move, which can be taken back unless it is Serve; it was made with this event, and kept
-pub record MakesOne (mv : Move) (event : Event) (now new : Bench) : Type 0 where
+pub record MakesAndKeeps (mv : Move) (event : Event) (now new : ProcessorState) : Type 0 where
   pub allowed : bar now.core.plan now.core.state mv ≡ None
   pub stood : mv ≢ Serve → CanStand now.core.plan now.core.state
   pub makes : Makes now.core new.core mv (streams_at now) (streams_at new)
@@ -35,12 +35,12 @@ pub record MakesOne (mv : Move) (event : Event) (now new : Bench) : Type 0 where
   pub ring : new.ring ≡ ring_after now.core.plan now.core.state mv now.ring
 
 -- nothing bars the move, which is Serve, and the output failed its call
-pub record FailsOne (mv : Move) (now new : Bench) : Type 0 where
+pub record FailsOne (mv : Move) (now new : ProcessorState) : Type 0 where
   pub allowed : bar now.core.plan now.core.state mv ≡ None
   pub serves : mv ≡ Serve
   pub fails : FailsToWrite now.core new.core (streams_at now) (streams_at new)
 
 -- what the move does
-unfoldable pub MakesOrFails : Move → (now new : Bench) → Result Event Failed → Type 0
-MakesOrFails mv now new (Ok event) = MakesOne mv event now new
-MakesOrFails mv now new (Err failed) = FailsOne mv now new
+unfoldable pub MakesKeptOrFails : Move → (now new : ProcessorState) → Result Event Failed → Type 0
+MakesKeptOrFails mv now new (Ok event) = MakesAndKeeps mv event now new
+MakesKeptOrFails mv now new (Err failed) = FailsOne mv now new

@@ -11,29 +11,29 @@ use Rattle.cf_run.specs.Made.{Made, retirement}
 use Rattle.cf_run.specs.Reaching.{GoesOn}
 use Rattle.cf_debug.specs.declared.answer.Broken.{Broken}
 use Rattle.cf_debug.specs.declared.answer.Broken.TheVariants as broken
-use Rattle.cf_debug.specs.declared.command.Command.{Command}
-use Rattle.cf_debug.specs.Driving.{Turn, Takes, Drives, DrivesOn, DrivesAground, breaks, next_turn, pick}
+use Rattle.cf_debug.specs.declared.command.DebugCommand.{DebugCommand}
+use Rattle.cf_debug.specs.Driving.{Turn, DriveTakes, Drives, DrivesOn, DrivesAground, breaks, next_turn, pick}
 use Rattle.cf_debug.specs.Limits.{most_retired}
-use Rattle.cf_debug.specs.Making.{Bench, FailsOne}
-use Rattle.cf_debug.specs.Replies.{Desk, Carries, CarriesPart, RunsAground, TakesBack}
+use Rattle.cf_debug.specs.Making.{ProcessorState, FailsOne}
+use Rattle.cf_debug.specs.Replies.{DebuggerState, CommandAnswers, CommandAnswersPart, RunsAground, TakesBack}
 
 -- the turn after a move, by a count that stops where Issue is held back
-pub record IsNextTurn (at later : Turn) (now : Bench) (made : Made) : Type 0 where
+pub record IsNextTurn (at later : Turn) (now : ProcessorState) (made : Made) : Type 0 where
   pub policy : later.policy ≡ (next_turn at now made).policy
   pub count : later.count ≡ stopped now.core.plan.stages (next_turn at now made).count
 
 -- what a move of `auto` leaves, and whether it issued an instruction at the break address
-unfoldable pub Steers : Option ℕ → (at later : Turn) → (now new : Bench) → (written after : Option (List ℕ)) → Result Bool Broken → Type 0
+unfoldable pub Steers : Option ℕ → (at later : Turn) → (now new : ProcessorState) → (written after : Option (List ℕ)) → Result Bool Broken → Type 0
 Steers stop at later now new written after (Ok last) =
-    (made : Made) × Takes at made now new × (breaks stop now.core.state made.move ≡ last) × IsNextTurn at later now made
+    (made : Made) × DriveTakes at made now new × (breaks stop now.core.state made.move ≡ last) × IsNextTurn at later now made
     × Writes written after (retirement made.state.retired made.event)
 Steers stop at later now new written after (Err broken.Report) =
-    (made : Made) × Takes at made now new × WritesFront written after (retirement made.state.retired made.event)
+    (made : Made) × DriveTakes at made now new × WritesFront written after (retirement made.state.retired made.event)
 Steers stop at later now new written after (Err broken.Output) =
     GoesOn most_retired now.core.state × (pick at now ≡ Some Serve) × FailsOne Serve now new × (after ≡ written)
 
 -- what the moves of `auto` leave, and how many there were
-unfoldable pub DrivesOut : ℕ → Option ℕ → (now new : Bench) → (written after : Option (List ℕ)) → Result ℕ Broken → Type 0
+unfoldable pub DrivesOut : ℕ → Option ℕ → (now new : ProcessorState) → (written after : Option (List ℕ)) → Result ℕ Broken → Type 0
 DrivesOut n stop now new written after (Ok count) = (lines : List ℕ) × Drives n stop now new count lines × Writes written after lines
 DrivesOut n stop now new written after (Err broken.Report) = (lines : List ℕ) × DrivesOn n stop now new lines × WritesFront written after lines
 DrivesOut n stop now new written after (Err broken.Output) = (lines : List ℕ) × DrivesAground n stop now new lines × Writes written after lines
@@ -44,14 +44,14 @@ of_report (Ok done) = Ok tt
 of_report (Err failed) = Err broken.Report
 
 -- what `back` leaves, and what is put
-abbrev pub PutsBack : (now new : Bench) → (written after : Option (List ℕ)) → (before faults : ℕ) → Result (Unit {0}) Failed → Type 0
+abbrev pub PutsBack : (now new : ProcessorState) → (written after : Option (List ℕ)) → (before faults : ℕ) → Result (Unit {0}) Failed → Type 0
 PutsBack now new written after before faults answer = (text : List ℕ) × TakesBack now new text × PutsText written after before faults text answer
 
 -- what a command leaves: it is carried out and its answer put; or the report failed after a front of that, or the output failed it
-unfoldable pub CarriesOut : Command → (now new : Desk) → (written after : Option (List ℕ)) → Result (Unit {0}) Broken → Type 0
-CarriesOut command now new written after (Ok done) = (text : List ℕ) × Carries command now new text × Writes written after text
-CarriesOut command now new written after (Err broken.Report) = (text : List ℕ) × CarriesPart command now new text × WritesFront written after text
-CarriesOut command now new written after (Err broken.Output) = (text : List ℕ) × RunsAground command now new text × Writes written after text
+unfoldable pub CommandLeaves : DebugCommand → (now new : DebuggerState) → (written after : Option (List ℕ)) → Result (Unit {0}) Broken → Type 0
+CommandLeaves command now new written after (Ok done) = (text : List ℕ) × CommandAnswers command now new text × Writes written after text
+CommandLeaves command now new written after (Err broken.Report) = (text : List ℕ) × CommandAnswersPart command now new text × WritesFront written after text
+CommandLeaves command now new written after (Err broken.Output) = (text : List ℕ) × RunsAground command now new text × Writes written after text
 
 -- an error where the output failed
 abbrev pub output_broken : {T : Type 0} → Result T Broken → Result (Unit {0}) (Unit {0})

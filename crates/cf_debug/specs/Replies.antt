@@ -17,8 +17,8 @@ use Rattle.cf_report.specs.Picture.{picture}
 use Rattle.report_refusals.specs.Bars.{bar_text}
 use Rattle.report_refusals.specs.Scripts.{script_refusal}
 use Rattle.cf_run.specs.Made.{retirement}
-use Rattle.cf_debug.specs.declared.command.Command.{Command}
-use Rattle.cf_debug.specs.declared.command.Command.TheVariants.{Nothing, Move, Auto, Show, Break, Back, End}
+use Rattle.cf_debug.specs.declared.command.DebugCommand.{DebugCommand}
+use Rattle.cf_debug.specs.declared.command.DebugCommand.TheVariants.{Nothing, Move, Auto, Show, Break, Back, End}
 use Rattle.cf_debug.specs.declared.command.Refusal.{Refusal}
 use Rattle.cf_debug.specs.declared.command.View.{View}
 use Rattle.cf_debug.specs.declared.command.View.TheVariants.{Picture, Registers, Memory, Bound}
@@ -26,15 +26,15 @@ use Rattle.cf_debug.specs.declared.command.Refusal.TheVariants.{TooLong, Unknown
 use Rattle.cf_debug.specs.Commands.{command_in}
 use Rattle.cf_debug.specs.Driving.{Drives, DrivesOn, DrivesAground}
 use Rattle.cf_debug.specs.Limits.{most_retired}
-use Rattle.cf_debug.specs.Making.{Bench, MakesOne, FailsOne}
+use Rattle.cf_debug.specs.Making.{ProcessorState, MakesAndKeeps, FailsOne}
 
 -- what a session works on: the bench, and the address at which `auto` stops, where there is one
-pub record Desk : Type 0 where
-  pub bench : Bench
+pub record DebuggerState : Type 0 where
+  pub bench : ProcessorState
   pub stop : Option ℕ
 
-abbrev pub desk_of : Bench → Option ℕ → Desk
-desk_of bench stop = record { bench = bench; stop = stop }
+abbrev pub debugger_state : ProcessorState → Option ℕ → DebuggerState
+debugger_state bench stop = record { bench = bench; stop = stop }
 
 -- Texts --
 
@@ -70,45 +70,45 @@ unfoldable pub back_text : AnyMove → List ℕ
 back_text mv = codes "back " ++ line (move_line mv)
 
 -- a move that was made, and the instruction that retired with it, if one did
-abbrev pub moved_text : Bench → Event → List ℕ
+abbrev pub moved_text : ProcessorState → Event → List ℕ
 moved_text new event = line (codes "moved") ++ retirement new.core.state.retired event
 
 -- Commands --
 
 -- as many instructions have retired as may
-abbrev pub IsSpent : Bench → Type 0
-IsSpent now = most_retired ≤ now.core.state.retired
+abbrev pub IsAtLimit : ProcessorState → Type 0
+IsAtLimit now = most_retired ≤ now.core.state.retired
 
-abbrev pub GoesOn : Bench → Type 0
-GoesOn now = now.core.state.retired < most_retired
+abbrev pub SessionGoesOn : ProcessorState → Type 0
+SessionGoesOn now = now.core.state.retired < most_retired
 
 -- nothing changes, and the answer is a refusal
-abbrev pub Refuses : (now new : Bench) → List ℕ → List ℕ → Type 0
-Refuses now new text why = (new ≡ now) × (text ≡ refused_line why)
+abbrev pub RefusesLine : (now new : ProcessorState) → List ℕ → List ℕ → Type 0
+RefusesLine now new text why = (new ≡ now) × (text ≡ refused_line why)
 
 -- `move`: the limit is reached, or the move is barred, or it is made
-abbrev pub Moves : AnyMove → (now new : Bench) → List ℕ → Type 0
+abbrev pub Moves : AnyMove → (now new : ProcessorState) → List ℕ → Type 0
 Moves mv now new text =
-    (IsSpent now × Refuses now new text (codes "Limit"))
-    ⊎ (GoesOn now × ((b : Bar) × (bar now.core.plan now.core.state mv ≡ Some b) × Refuses now new text (bar_text b)))
-    ⊎ (GoesOn now × ((event : Event) × MakesOne mv event now new × (text ≡ moved_text new event)))
+    (IsAtLimit now × RefusesLine now new text (codes "Limit"))
+    ⊎ (SessionGoesOn now × ((b : Bar) × (bar now.core.plan now.core.state mv ≡ Some b) × RefusesLine now new text (bar_text b)))
+    ⊎ (SessionGoesOn now × ((event : Event) × MakesAndKeeps mv event now new × (text ≡ moved_text new event)))
 
 -- `auto`: the limit is reached, or moves are made in turn
-abbrev pub Automates : ℕ → Option ℕ → (now new : Bench) → List ℕ → Type 0
+abbrev pub Automates : ℕ → Option ℕ → (now new : ProcessorState) → List ℕ → Type 0
 Automates n stop now new text =
-    (IsSpent now × Refuses now new text (codes "Limit"))
-    ⊎ (GoesOn now × ((count : ℕ) × (lines : List ℕ) × Drives n stop now new count lines × (text ≡ lines ++ counted_line (codes "auto ") count)))
+    (IsAtLimit now × RefusesLine now new text (codes "Limit"))
+    ⊎ (SessionGoesOn now × ((count : ℕ) × (lines : List ℕ) × Drives n stop now new count lines × (text ≡ lines ++ counted_line (codes "auto ") count)))
 
 -- `back`: nothing is kept, or the newest move that is kept is taken back
-abbrev pub TakesBack : (now new : Bench) → List ℕ → Type 0
+abbrev pub TakesBack : (now new : ProcessorState) → List ℕ → Type 0
 TakesBack now new text =
-    ((now.ring ≡ []) × Refuses now new text (codes "NothingKept"))
+    ((now.ring ≡ []) × RefusesLine now new text (codes "NothingKept"))
     ⊎ ((older : List Kept) × (k : Kept) × (now.ring ≡ older ++ k ∷ [])
     × (new ≡ record now { core = in_state now.core (restored now.core.state k); ring = older }) × (text ≡ back_text k.move))
 
 -- nothing changes, and this is the answer
-abbrev pub Shows : (now new : Desk) → (text told : List ℕ) → Type 0
-Shows now new text told = (new ≡ now) × (text ≡ told)
+abbrev pub OnlyAnswers : (now new : DebuggerState) → (text told : List ℕ) → Type 0
+OnlyAnswers now new text told = (new ≡ now) × (text ≡ told)
 
 -- what is shown of a processor
 unfoldable pub shown : Processor → View → List ℕ
@@ -118,22 +118,22 @@ shown core (Memory address len) = memory_text address (range_of core.state.mem a
 shown core Bound = counted_line (codes "bound ") (weight core.plan core.state)
 
 -- the table
-unfoldable pub Carries : Command → (now new : Desk) → List ℕ → Type 0
-Carries Nothing now new text = Shows now new text []
-Carries (Move mv) now new text = (new.stop ≡ now.stop) × Moves mv now.bench new.bench text
-Carries (Auto n) now new text = (new.stop ≡ now.stop) × Automates n now.stop now.bench new.bench text
-Carries (Show view) now new text = Shows now new text (shown now.bench.core view)
-Carries (Break stop) now new text = (new ≡ desk_of now.bench stop) × (text ≡ break_text stop)
-Carries Back now new text = (new.stop ≡ now.stop) × TakesBack now.bench new.bench text
-Carries End now new text = Shows now new text []
+unfoldable pub CommandAnswers : DebugCommand → (now new : DebuggerState) → List ℕ → Type 0
+CommandAnswers Nothing now new text = OnlyAnswers now new text []
+CommandAnswers (Move mv) now new text = (new.stop ≡ now.stop) × Moves mv now.bench new.bench text
+CommandAnswers (Auto n) now new text = (new.stop ≡ now.stop) × Automates n now.stop now.bench new.bench text
+CommandAnswers (Show view) now new text = OnlyAnswers now new text (shown now.bench.core view)
+CommandAnswers (Break stop) now new text = (new ≡ debugger_state now.bench stop) × (text ≡ break_text stop)
+CommandAnswers Back now new text = (new.stop ≡ now.stop) × TakesBack now.bench new.bench text
+CommandAnswers End now new text = OnlyAnswers now new text []
 
 -- all of it, or `auto` in part: what is done where the report fails after a front of the text
-unfoldable pub CarriesPart : Command → (now new : Desk) → List ℕ → Type 0
-CarriesPart (Auto n) now new text = Carries (Auto n) now new text ⊎ ((new.stop ≡ now.stop) × DrivesOn n now.stop now.bench new.bench text)
-CarriesPart command now new text = Carries command now new text
+unfoldable pub CommandAnswersPart : DebugCommand → (now new : DebuggerState) → List ℕ → Type 0
+CommandAnswersPart (Auto n) now new text = CommandAnswers (Auto n) now new text ⊎ ((new.stop ≡ now.stop) × DrivesOn n now.stop now.bench new.bench text)
+CommandAnswersPart command now new text = CommandAnswers command now new text
 
 -- the output fails the call of a move
-unfoldable pub RunsAground : Command → (now new : Desk) → List ℕ → Type 0
+unfoldable pub RunsAground : DebugCommand → (now new : DebuggerState) → List ℕ → Type 0
 RunsAground (Move mv) now new text = (text ≡ []) × FailsOne mv now.bench new.bench
 RunsAground (Auto n) now new text = DrivesAground n now.stop now.bench new.bench text
 RunsAground command now new text = ⊥
@@ -141,23 +141,23 @@ RunsAground command now new text = ⊥
 -- Lines --
 
 -- what a line tells is answered: another command than `end`, or a refusal
-unfoldable pub Answers : Result Command Refusal → (now new : Desk) → List ℕ → Type 0
-Answers (Ok command) now new text = (command ≢ End) × Carries command now new text
-Answers (Err refusal) now new text = Shows now new text (refused_line (refusal_text refusal))
+unfoldable pub AnswersLine : Result DebugCommand Refusal → (now new : DebuggerState) → List ℕ → Type 0
+AnswersLine (Ok command) now new text = (command ≢ End) × CommandAnswers command now new text
+AnswersLine (Err refusal) now new text = OnlyAnswers now new text (refused_line (refusal_text refusal))
 
 -- the same in part
-unfoldable pub AnswersPart : Result Command Refusal → (now new : Desk) → List ℕ → Type 0
-AnswersPart (Ok command) now new text = (command ≢ End) × CarriesPart command now new text
-AnswersPart (Err refusal) now new text = Shows now new text (refused_line (refusal_text refusal))
+unfoldable pub AnswersPart : Result DebugCommand Refusal → (now new : DebuggerState) → List ℕ → Type 0
+AnswersPart (Ok command) now new text = (command ≢ End) × CommandAnswersPart command now new text
+AnswersPart (Err refusal) now new text = OnlyAnswers now new text (refused_line (refusal_text refusal))
 
 -- the output fails the command
-unfoldable pub FailsAnswer : Result Command Refusal → (now new : Desk) → List ℕ → Type 0
+unfoldable pub FailsAnswer : Result DebugCommand Refusal → (now new : DebuggerState) → List ℕ → Type 0
 FailsAnswer (Ok command) now new text = RunsAground command now new text
 FailsAnswer (Err refusal) now new text = ⊥
 
 -- the lines are answered one after another
-unfoldable pub AnswersAll : List (List ℕ) → (now new : Desk) → List ℕ → Type 0
-AnswersAll [] now new text = Shows now new text []
+unfoldable pub AnswersAll : List (List ℕ) → (now new : DebuggerState) → List ℕ → Type 0
+AnswersAll [] now new text = OnlyAnswers now new text []
 AnswersAll (told ∷ lines) now new text =
-    (next : Desk) × (first rest : List ℕ) × Answers (command_in told) now next first
+    (next : DebuggerState) × (first rest : List ℕ) × AnswersLine (command_in told) now next first
     × AnswersAll lines next new rest × (text ≡ first ++ rest)

@@ -28,6 +28,6 @@ pub record WasKept (plan : Plan) (s : State) (k : Kept) : Type 0 where
   pub is : k ≡ kept plan s k.move
 
 -- the records were kept of moves that lead from one state to another
-unfoldable pub Leads : Plan → State → List Kept → State → Type 0
-Leads plan s [] last = last ≡ s
-Leads plan s (k ∷ ring) last = WasKept plan s k × Leads plan (moved plan s k.move) ring last
+unfoldable pub RecordsLead : Plan → State → List Kept → State → Type 0
+RecordsLead plan s [] last = last ≡ s
+RecordsLead plan s (k ∷ ring) last = WasKept plan s k × RecordsLead plan (moved plan s k.move) ring last

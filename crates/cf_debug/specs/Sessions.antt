@@ -1,41 +1,41 @@
 -- A session of the debugger: its commands are answered line by line, until one of them is `end` or there are no more.
 use Rattle.std.specs.Prelude.{◌≡◌, ◌≢◌, ◌⊎◌, ℕ, ◌+◌, ◌<◌, ◌≤◌, List, [], ◌∷◌, ◌++◌, length, Option, Some, None, Result, Ok, Err}
 use Rattle.cf_io.specs.Puts.{Writes, WritesFront}
-use Rattle.rv_machine.specs.Streams.{Gives, IsTold}
+use Rattle.rv_machine.specs.Streams.{GivesInput, IsTold}
 use Rattle.cf_semantics.specs.moves.Kept.{Kept}
 use Rattle.cf_core.specs.Processors.{Processor}
 use Rattle.cf_debug.specs.declared.answer.Broken.{Broken}
 use Rattle.cf_debug.specs.declared.answer.Broken.TheVariants as broken
 use Rattle.cf_debug.specs.declared.answer.Debugged.{Debugged}
 use Rattle.cf_debug.specs.declared.answer.Debugged.TheVariants.{Done, Limit, ReadFault, WriteFault, ReportFault}
-use Rattle.cf_debug.specs.declared.command.Command.TheVariants.{End}
+use Rattle.cf_debug.specs.declared.command.DebugCommand.TheVariants.{End}
 use Rattle.cf_debug.specs.Commands.{command_in}
 use Rattle.rv_text.specs.Lines.{without_return}
 use Rattle.cf_debug.specs.Cutting.{HasLines, held, last_line}
 use Rattle.cf_debug.specs.Limits.{most_bytes, most_taken}
-use Rattle.cf_debug.specs.Making.{Bench, bench_of}
-use Rattle.cf_debug.specs.Replies.{Desk, desk_of, Answers, AnswersAll, AnswersPart, FailsAnswer}
+use Rattle.cf_debug.specs.Making.{ProcessorState, processor_state}
+use Rattle.cf_debug.specs.Replies.{DebuggerState, debugger_state, AnswersLine, AnswersAll, AnswersPart, FailsAnswer}
 use Rattle.cf_debug.specs.Standing.{IsOnRun}
 
 -- what is seen of a session from outside: the bench, what the commands tell that they have left, and what the report tells
 pub record Session : Type 0 where
-  pub bench : Bench
+  pub bench : ProcessorState
   pub commands : Option (List ℕ)
   pub report : Option (List ℕ)
 
-abbrev pub session_of : Bench → (commands report : Option (List ℕ)) → Session
+abbrev pub session_of : ProcessorState → (commands report : Option (List ℕ)) → Session
 session_of bench commands report = record { bench = bench; commands = commands; report = report }
 
 -- One line --
 
 -- what a line leaves: it is answered, and the session goes on; or it is `end`; or it ends the session by a fault
-unfoldable pub Ends : List ℕ → (now new : Desk) → (written after : Option (List ℕ)) → Option Debugged → Type 0
-Ends line now new written after None = (text : List ℕ) × Answers (command_in line) now new text × Writes written after text
-Ends line now new written after (Some Done) = (command_in line ≡ Ok End) × (new ≡ now) × (after ≡ written)
-Ends line now new written after (Some WriteFault) = (text : List ℕ) × FailsAnswer (command_in line) now new text × Writes written after text
-Ends line now new written after (Some ReportFault) = (text : List ℕ) × AnswersPart (command_in line) now new text × WritesFront written after text
-Ends line now new written after (Some Limit) = ⊥
-Ends line now new written after (Some ReadFault) = ⊥
+unfoldable pub LineLeaves : List ℕ → (now new : DebuggerState) → (written after : Option (List ℕ)) → Option Debugged → Type 0
+LineLeaves line now new written after None = (text : List ℕ) × AnswersLine (command_in line) now new text × Writes written after text
+LineLeaves line now new written after (Some Done) = (command_in line ≡ Ok End) × (new ≡ now) × (after ≡ written)
+LineLeaves line now new written after (Some WriteFault) = (text : List ℕ) × FailsAnswer (command_in line) now new text × Writes written after text
+LineLeaves line now new written after (Some ReportFault) = (text : List ℕ) × AnswersPart (command_in line) now new text × WritesFront written after text
+LineLeaves line now new written after (Some Limit) = ⊥
+LineLeaves line now new written after (Some ReadFault) = ⊥
 
 -- how what a command leaves ends the session
 abbrev pub ended_by : Result (Unit {0}) Broken → Option Debugged
@@ -44,30 +44,30 @@ ended_by (Err broken.Output) = Some WriteFault
 ended_by (Err broken.Report) = Some ReportFault
 
 -- what a byte leaves: it is one more of the unfinished line, of which this is held; or it ends the line
-abbrev pub UsesByte : ℕ → (line later : List ℕ) → (now new : Desk) → (written after : Option (List ℕ)) → Option Debugged → Type 0
+abbrev pub UsesByte : ℕ → (line later : List ℕ) → (now new : DebuggerState) → (written after : Option (List ℕ)) → Option Debugged → Type 0
 UsesByte byte line later now new written after answer =
     ((byte ≢ 10) × (later ≡ held (line ++ byte ∷ [])) × (new ≡ now) × (after ≡ written) × (answer ≡ None))
-    ⊎ ((byte ≡ 10) × (later ≡ []) × Ends (without_return line) now new written after answer)
+    ⊎ ((byte ≡ 10) × (later ≡ []) × LineLeaves (without_return line) now new written after answer)
 
 -- what the end of the commands leaves: no unfinished line is there; or it is answered, or ends the session
-abbrev pub Finishes : List ℕ → (now new : Desk) → (written after : Option (List ℕ)) → Debugged → Type 0
-Finishes line now new written after answer =
+abbrev pub FinishesSession : List ℕ → (now new : DebuggerState) → (written after : Option (List ℕ)) → Debugged → Type 0
+FinishesSession line now new written after answer =
     ((line ≡ []) × (answer ≡ Done) × (new ≡ now) × (after ≡ written))
-    ⊎ ((0 < length line) × (answer ≡ Done) × Ends line now new written after None)
-    ⊎ ((0 < length line) × Ends line now new written after (Some answer))
+    ⊎ ((0 < length line) × (answer ≡ Done) × LineLeaves line now new written after None)
+    ⊎ ((0 < length line) × LineLeaves line now new written after (Some answer))
 
 -- All lines --
 
 -- these bytes were taken, no more than may be
 abbrev pub Taken : (before after : Session) → List ℕ → Type 0
-Taken before after bytes = Gives before.commands after.commands bytes × (length bytes ≤ most_bytes)
+Taken before after bytes = GivesInput before.commands after.commands bytes × (length bytes ≤ most_bytes)
 
 -- the lines are answered, and their answers put
-abbrev pub AnswersLines : List (List ℕ) → (begin now : Desk) → (written after : Option (List ℕ)) → Type 0
+abbrev pub AnswersLines : List (List ℕ) → (begin now : DebuggerState) → (written after : Option (List ℕ)) → Type 0
 AnswersLines lines begin now written after = (text : List ℕ) × AnswersAll lines begin now text × Writes written after text
 
 -- the whole lines among the bytes that were taken are answered, and then this follows
-pub record AnswersWhole (bytes : List ℕ) (begin now : Desk) (written after : Option (List ℕ)) : Type 0 where
+pub record AnswersWhole (bytes : List ℕ) (begin now : DebuggerState) (written after : Option (List ℕ)) : Type 0 where
   pub lines : List (List ℕ)
   pub unfinished : List ℕ
   pub has : HasLines bytes lines unfinished
@@ -80,19 +80,19 @@ IsNext told bytes lines line =
     ⊎ (IsTold told bytes × (0 < length line) × HasLines bytes lines line)
 
 -- the lines before it are answered, and this one ends the session in this way
-pub record EndsAtLine (before after : Session) (begin new : Desk) (answer : Debugged) : Type 0 where
+pub record EndsAtLine (before after : Session) (begin new : DebuggerState) (answer : Debugged) : Type 0 where
   pub bytes : List ℕ
   pub taken : Taken before after bytes
   pub lines : List (List ℕ)
   pub line : List ℕ
   pub is_next : IsNext before.commands bytes lines line
-  pub now : Desk
+  pub now : DebuggerState
   pub written : Option (List ℕ)
   pub answers : AnswersLines lines begin now before.report written
-  pub ends : Ends line now new written after.report (Some answer)
+  pub ends : LineLeaves line now new written after.report (Some answer)
 
 -- the bytes are all that the commands had, where they tell that, and all lines are answered
-pub record EndsAtLast (before after : Session) (begin new : Desk) : Type 0 where
+pub record EndsAtLast (before after : Session) (begin new : DebuggerState) : Type 0 where
   pub bytes : List ℕ
   pub taken : Taken before after bytes
   pub all : IsTold before.commands bytes
@@ -102,21 +102,21 @@ pub record EndsAtLast (before after : Session) (begin new : Desk) : Type 0 where
   pub answers : AnswersLines (lines ++ last_line unfinished) begin new before.report after.report
 
 -- a take failed, and the whole lines are answered
-pub record EndsAtFault (before after : Session) (begin new : Desk) : Type 0 where
+pub record EndsAtFault (before after : Session) (begin new : DebuggerState) : Type 0 where
   pub bytes : List ℕ
   pub taken : Taken before after bytes
   pub answers : AnswersWhole bytes begin new before.report after.report
 
 -- as many bytes were taken as may be, and one more; the whole lines are answered
-pub record EndsAtLimit (before after : Session) (begin new : Desk) : Type 0 where
+pub record EndsAtLimit (before after : Session) (begin new : DebuggerState) : Type 0 where
   pub bytes : List ℕ
   pub more : ℕ
-  pub gives : Gives before.commands after.commands (bytes ++ more ∷ [])
+  pub gives : GivesInput before.commands after.commands (bytes ++ more ∷ [])
   pub size : length bytes ≡ most_bytes
   pub answers : AnswersWhole bytes begin new before.report after.report
 
 -- how a session ends
-unfoldable pub EndsSession : (before after : Session) → (begin new : Desk) → Debugged → Type 0
+unfoldable pub EndsSession : (before after : Session) → (begin new : DebuggerState) → Debugged → Type 0
 EndsSession before after begin new Done = EndsAtLine before after begin new Done ⊎ EndsAtLast before after begin new
 EndsSession before after begin new Limit = EndsAtLimit before after begin new
 EndsSession before after begin new ReadFault = EndsAtFault before after begin new
@@ -126,7 +126,7 @@ EndsSession before after begin new ReportFault = EndsAtLine before after begin n
 -- the session: it begins without a break address, and ends in this way
 pub record Debugs (before after : Session) (answer : Debugged) : Type 0 where
   pub stop : Option ℕ
-  pub ends : EndsSession before after (desk_of before.bench None) (desk_of after.bench stop) answer
+  pub ends : EndsSession before after (debugger_state before.bench None) (debugger_state after.bench stop) answer
 
 -- unless the output or the report failed, the processor stands at a moment of a run
 abbrev pub StaysOnRun : (start core : Processor) → Debugged → Type 0

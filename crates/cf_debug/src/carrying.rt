@@ -3,17 +3,17 @@
 ghost use Rattle.std.specs.Prelude.{◌≡◌, None};
 ghost use Rattle.cf_io.specs.Causes.{HasCause};
 ghost use Rattle.cf_report.specs.Putting.{PutsText};
-ghost use Rattle.cf_debug.specs.declared.command.Command.TheVariants as commands;
+ghost use Rattle.cf_debug.specs.declared.command.DebugCommand.TheVariants as commands;
 ghost use Rattle.cf_debug.specs.Commands.{AsksFew, ShowsFew};
-ghost use Rattle.cf_debug.specs.Lending.{desk_left, desk_lent};
-ghost use Rattle.cf_debug.specs.Making.{bench_of};
-ghost use Rattle.cf_debug.specs.Outcomes.{CarriesOut, PutsBack, of_report, output_broken, report_broken};
+ghost use Rattle.cf_debug.specs.Lending.{debugger_state_left, debugger_state_lent};
+ghost use Rattle.cf_debug.specs.Making.{processor_state};
+ghost use Rattle.cf_debug.specs.Outcomes.{CommandLeaves, PutsBack, of_report, output_broken, report_broken};
 ghost use Rattle.cf_debug.specs.Replies.{break_text, shown};
 ghost use Rattle.cf_debug.specs.Standing.{StandsSomewhere};
 
 use crate::answer::Broken;
-use crate::command::{Command, View};
-use crate::desk::Desk;
+use crate::command::{DebugCommand, View};
+use crate::debugger_state::DebuggerState;
 use crate::driving::{drive, is_spent};
 use crate::making::make;
 use crate::replies::{put_back, put_break, put_counted, put_memory, put_moved, refuse, refuse_bar};
@@ -36,17 +36,17 @@ pub(crate) fn told(answer: Result<(), Failed>) -> Result<(), Broken>
 /// `move`.
 fn carry_move<K: Sink, R: Sink>(
     mv: Move,
-    desk: Desk<'_>,
+    desk: DebuggerState<'_>,
     output: &mut K,
     report: &mut R,
 ) -> Result<(), Broken>
-    ensures carries { CarriesOut (commands.Move mv)
-        (desk_lent desk.entry (K.written output.old)) (desk_left desk.exit (K.written output.new))
+    ensures carries { CommandLeaves (commands.Move mv)
+        (debugger_state_lent desk.entry (K.written output.old)) (debugger_state_left desk.exit (K.written output.new))
         (R.written report.old) (R.written report.new) result }
     ensures output { HasCause (K.faults output.old) (K.faults output.new) (output_broken result) }
     ensures report { HasCause (R.faults report.old) (R.faults report.new) (report_broken result) }
 {
-    let Desk { core, ring, .. } = desk;
+    let DebuggerState { core, ring, .. } = desk;
     if is_spent(core) {
         return told(refuse(b"Limit", report));
     }
@@ -62,18 +62,18 @@ fn carry_move<K: Sink, R: Sink>(
 /// `auto`.
 fn carry_auto<K: Sink, R: Sink>(
     count: u32,
-    desk: Desk<'_>,
+    desk: DebuggerState<'_>,
     output: &mut K,
     report: &mut R,
 ) -> Result<(), Broken>
     requires stands { StandsSomewhere desk.core.now desk.ring.now }
-    ensures carries { CarriesOut (commands.Auto count)
-        (desk_lent desk.entry (K.written output.old)) (desk_left desk.exit (K.written output.new))
+    ensures carries { CommandLeaves (commands.Auto count)
+        (debugger_state_lent desk.entry (K.written output.old)) (debugger_state_left desk.exit (K.written output.new))
         (R.written report.old) (R.written report.new) result }
     ensures output { HasCause (K.faults output.old) (K.faults output.new) (output_broken result) }
     ensures report { HasCause (R.faults report.old) (R.faults report.new) (report_broken result) }
 {
-    let Desk {
+    let DebuggerState {
         core,
         candidates,
         ring,
@@ -89,7 +89,7 @@ fn carry_auto<K: Sink, R: Sink>(
 /// `back`.
 fn carry_back<R: Sink>(core: &mut Core, ring: &mut Ring, report: &mut R) -> Result<(), Failed>
     requires stands { StandsSomewhere core.old ring.old }
-    ensures { PutsBack (bench_of core.old ring.old None) (bench_of core.new ring.new None)
+    ensures { PutsBack (processor_state core.old ring.old None) (processor_state core.new ring.new None)
         (R.written report.old) (R.written report.new) (R.faults report.old) (R.faults report.new) result }
 {
     match ring.pop() {
@@ -132,29 +132,29 @@ fn show<R: Sink>(view: View, core: &Core, report: &mut R) -> Result<(), Failed>
 
 /// Carries a command out.
 pub(crate) fn carry_out<K: Sink, R: Sink>(
-    command: Command,
-    desk: Desk<'_>,
+    command: DebugCommand,
+    desk: DebuggerState<'_>,
     output: &mut K,
     report: &mut R,
 ) -> Result<(), Broken>
     requires stands { StandsSomewhere desk.core.now desk.ring.now }
     requires few { AsksFew command }
-    ensures carries { CarriesOut command
-        (desk_lent desk.entry (K.written output.old)) (desk_left desk.exit (K.written output.new))
+    ensures carries { CommandLeaves command
+        (debugger_state_lent desk.entry (K.written output.old)) (debugger_state_left desk.exit (K.written output.new))
         (R.written report.old) (R.written report.new) result }
     ensures output { HasCause (K.faults output.old) (K.faults output.new) (output_broken result) }
     ensures report { HasCause (R.faults report.old) (R.faults report.new) (report_broken result) }
 {
     match command {
-        Command::Nothing => Ok(()),
-        Command::Move(mv) => carry_move(mv, desk, output, report),
-        Command::Auto(count) => carry_auto(count, desk, output, report),
-        Command::Show(view) => told(show(view, desk.core, report)),
-        Command::Break(address) => told(carry_break(address, desk.stop, report)),
-        Command::Back => {
-            let Desk { core, ring, .. } = desk;
+        DebugCommand::Nothing => Ok(()),
+        DebugCommand::Move(mv) => carry_move(mv, desk, output, report),
+        DebugCommand::Auto(count) => carry_auto(count, desk, output, report),
+        DebugCommand::Show(view) => told(show(view, desk.core, report)),
+        DebugCommand::Break(address) => told(carry_break(address, desk.stop, report)),
+        DebugCommand::Back => {
+            let DebuggerState { core, ring, .. } = desk;
             told(carry_back(core, ring, report))
         }
-        Command::End => Ok(()),
+        DebugCommand::End => Ok(()),
     }
 }

@@ -5,7 +5,7 @@ use run_scripts::ScriptKind;
 
 /// A command of the debugger.
 #[derive(Clone, Copy)]
-pub(crate) enum Command {
+pub(crate) enum DebugCommand {
     /// A line without words.
     Nothing,
 

@@ -7,7 +7,7 @@ ghost use Rattle.cf_run.specs.Reaching.{GoesOn};
 ghost use Rattle.cf_run.specs.Policies.{chooser};
 ghost use Rattle.cf_debug.specs.Driving.{breaks};
 ghost use Rattle.cf_debug.specs.Limits.{most_retired};
-ghost use Rattle.cf_debug.specs.Making.{bench_of};
+ghost use Rattle.cf_debug.specs.Making.{processor_state};
 ghost use Rattle.cf_debug.specs.Outcomes.{DrivesOut, Steers, output_broken, report_broken};
 ghost use Rattle.cf_debug.specs.Standing.{StandsSomewhere};
 
@@ -67,7 +67,7 @@ fn advance<K: Sink, R: Sink>(
     requires stages { pace.old.stages ≡ core.old.plan.stages }
     requires some { 0 < length (offered core.old.plan pace.old.count core.old.state) }
     ensures steers { Steers stop (chooser round.old pace.old.count) (chooser round.new pace.new.count)
-        (bench_of core.old ring.old (K.written output.old)) (bench_of core.new ring.new (K.written output.new))
+        (processor_state core.old ring.old (K.written output.old)) (processor_state core.new ring.new (K.written output.new))
         (R.written report.old) (R.written report.new) result }
     ensures stages { pace.new.stages ≡ pace.old.stages }
     ensures output { HasCause (K.faults output.old) (K.faults output.new) (output_broken result) }
@@ -100,7 +100,7 @@ pub(crate) fn drive<K: Sink, R: Sink>(
 ) -> Result<u32, Broken>
     requires stands { StandsSomewhere core.old ring.old }
     ensures drives { DrivesOut count stop
-        (bench_of core.old ring.old (K.written output.old)) (bench_of core.new ring.new (K.written output.new))
+        (processor_state core.old ring.old (K.written output.old)) (processor_state core.new ring.new (K.written output.new))
         (R.written report.old) (R.written report.new) result }
     ensures output { HasCause (K.faults output.old) (K.faults output.new) (output_broken result) }
     ensures report { HasCause (R.faults report.old) (R.faults report.new) (report_broken result) }

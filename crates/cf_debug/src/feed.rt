@@ -3,7 +3,7 @@
 ghost use Rattle.std.specs.Prelude.{◌≡◌, ◌<◌, ◌≤◌, ◌+◌, [], ◌∷◌, length, false, true, IfOk, OnErr, OnOk};
 ghost use Rattle.cf_io.specs.Causes.{HasCause};
 ghost use Rattle.cf_io.specs.Takes.{IsAtEnd};
-ghost use Rattle.rv_machine.specs.Streams.{Gives};
+ghost use Rattle.rv_machine.specs.Streams.{GivesInput};
 ghost use Rattle.cf_debug.specs.Cutting.{Feeding, Feeds, commands_fed};
 ghost use Rattle.cf_debug.specs.Limits.{most_bytes, most_taken};
 
@@ -80,12 +80,12 @@ impl Feed {
     fn fill<S: Source>(&mut self, commands: &mut S) -> Result<usize, Failed>
         requires none { self.old.rest ≡ [] }
         requires some { 0 < self.old.left }
-        ensures taken { OnOk result (Gives (S.left commands.old) (S.left commands.new) self.new.rest) }
+        ensures taken { OnOk result (GivesInput (S.left commands.old) (S.left commands.new) self.new.rest) }
         ensures count { IfOk result (λ count. count ≡ length self.new.rest) }
         ensures left { OnOk result (self.new.left + length self.new.rest ≡ self.old.left) }
         ensures few { OnOk result (length self.new.rest ≤ most_taken) }
         ensures end { IfOk result (λ count. count ≡ 0 → IsAtEnd (S.left commands.old)) }
-        ensures failed { OnErr result ((self.new ≡ self.old) × Gives (S.left commands.old) (S.left commands.new) []) }
+        ensures failed { OnErr result ((self.new ≡ self.old) × GivesInput (S.left commands.old) (S.left commands.new) []) }
         ensures cause { HasCause (S.faults commands.old) (S.faults commands.new) result }
     {
         let room = self.left.min(4096);

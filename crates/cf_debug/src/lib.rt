@@ -4,7 +4,7 @@
 mod answer;
 mod carrying;
 mod command;
-mod desk;
+mod debugger_state;
 mod driving;
 mod feed;
 mod making;

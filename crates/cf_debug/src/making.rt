@@ -1,11 +1,11 @@
 //! A move of the debugger.
-#![tactic(auto, unfolding(crate::specs::Making::MakesOrFails))]
+#![tactic(auto, unfolding(crate::specs::Making::MakesKeptOrFails))]
 
 ghost use Rattle.std.specs.Prelude.{◌≡◌, ◌≢◌, ◌+◌, ◌<◌, ◌^◌, None};
 ghost use Rattle.cf_io.specs.Causes.{HasCause};
 ghost use Rattle.cf_bind.specs.declared.moves.Move.TheVariants as moves;
 ghost use Rattle.cf_semantics.specs.moves.Bars.{bar};
-ghost use Rattle.cf_debug.specs.Making.{bench_of, MakesOne, MakesOrFails};
+ghost use Rattle.cf_debug.specs.Making.{processor_state, MakesAndKeeps, MakesKeptOrFails};
 
 use crate::ring::Ring;
 use cf_bind::Move;
@@ -16,9 +16,9 @@ use cf_io::{Empty, Failed, Sink};
 fn serve<K: Sink>(core: &mut Core, ring: &mut Ring, output: &mut K) -> Result<Event, Failed>
     requires allowed { bar core.old.plan core.old.state moves.Serve ≡ None }
     requires retired { core.old.state.retired + 1 < 2 ^ 64 }
-    ensures makes { MakesOrFails moves.Serve
-        (bench_of core.old ring.old (K.written output.old))
-        (bench_of core.new ring.new (K.written output.new)) result }
+    ensures makes { MakesKeptOrFails moves.Serve
+        (processor_state core.old ring.old (K.written output.old))
+        (processor_state core.new ring.new (K.written output.new)) result }
     ensures output { HasCause (K.faults output.old) (K.faults output.new) result }
 {
     match core.make(Move::Serve, &mut Empty, output) {
@@ -36,9 +36,9 @@ fn make_other<K: Sink>(core: &mut Core, ring: &mut Ring, mv: Move, output: &mut 
     requires allowed { bar core.old.plan core.old.state mv ≡ None }
     requires other { mv ≢ moves.Serve }
     requires retired { core.old.state.retired + 1 < 2 ^ 64 }
-    ensures makes { MakesOne mv result
-        (bench_of core.old ring.old (K.written output.old))
-        (bench_of core.new ring.new (K.written output.new)) }
+    ensures makes { MakesAndKeeps mv result
+        (processor_state core.old ring.old (K.written output.old))
+        (processor_state core.new ring.new (K.written output.new)) }
     ensures output { K.faults output.new ≡ K.faults output.old }
 {
     let undo = core.before(mv);
@@ -61,9 +61,9 @@ pub(crate) fn make<K: Sink>(
 ) -> Result<Event, Failed>
     requires allowed { bar core.old.plan core.old.state mv ≡ None }
     requires retired { core.old.state.retired + 1 < 2 ^ 64 }
-    ensures makes { MakesOrFails mv
-        (bench_of core.old ring.old (K.written output.old))
-        (bench_of core.new ring.new (K.written output.new)) result }
+    ensures makes { MakesKeptOrFails mv
+        (processor_state core.old ring.old (K.written output.old))
+        (processor_state core.new ring.new (K.written output.new)) result }
     ensures output { HasCause (K.faults output.old) (K.faults output.new) result }
 {
     if mv == Move::Serve {

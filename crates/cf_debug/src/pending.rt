@@ -8,11 +8,11 @@ use std::marker::Model;
 
 /// The first 258 bytes of a line that is not ended yet: as many as show whether it is too long, a carriage return among them.
 #[derive(Drop)]
-pub(crate) struct Pending {
+pub(crate) struct PendingLine {
     bytes: ArrayVec<u8, 258>,
 }
 
-impl Model for Pending {
+impl Model for PendingLine {
     ghost use Rattle.std.specs.Prelude.{ℕ, List};
 
     ghost Value = { List ℕ };
@@ -20,12 +20,12 @@ impl Model for Pending {
     ghost view = { λ line. line.bytes.items };
 }
 
-impl Pending {
+impl PendingLine {
     /// The line has no byte yet.
-    pub(crate) fn new() -> Pending
+    pub(crate) fn new() -> PendingLine
         ensures { result ≡ [] }
     {
-        Pending {
+        PendingLine {
             bytes: ArrayVec::new(),
         }
     }

@@ -5,7 +5,7 @@ ghost use Rattle.run_scripts.specs.MoveLines.{move_in};
 ghost use Rattle.run_scripts.specs.Words.{words_of};
 ghost use Rattle.cf_debug.specs.Commands.{address_told, alone, auto_told, break_told, command_in, command_named, lone_command, lone_told, memory_told, move_told, number_told, stop_told};
 
-use crate::command::{Command, Refusal, View};
+use crate::command::{DebugCommand, Refusal, View};
 use run_scripts::{Words, read_move};
 use rv_text::{numeral, split_name};
 
@@ -46,7 +46,7 @@ fn address(word: &[u8]) -> Result<u32, Refusal>
 
 /// The command, if no word is left.
 #[tactic(auto, unfolding(crate::specs::Commands::alone))]
-fn alone(words: &Words<'_>, command: Command) -> Result<Command, Refusal>
+fn alone(words: &Words<'_>, command: DebugCommand) -> Result<DebugCommand, Refusal>
     ensures { result ≡ alone words.now command }
 {
     if words.is_empty() {
@@ -57,32 +57,32 @@ fn alone(words: &Words<'_>, command: Command) -> Result<Command, Refusal>
 }
 
 /// What follows `move`: a move, as in a script.
-fn read_moves(after: &[u8]) -> Result<Command, Refusal>
+fn read_moves(after: &[u8]) -> Result<DebugCommand, Refusal>
     ensures { result ≡ move_told (move_in after.now) }
 {
     match read_move(after) {
-        Ok(mv) => Ok(Command::Move(mv)),
+        Ok(mv) => Ok(DebugCommand::Move(mv)),
         Err(kind) => Err(Refusal::Script(kind)),
     }
 }
 
 /// What follows `auto`: how many moves.
 #[tactic(auto, unfolding(crate::specs::Commands::auto_told))]
-fn read_auto(mut words: Words<'_>) -> Result<Command, Refusal>
+fn read_auto(mut words: Words<'_>) -> Result<DebugCommand, Refusal>
     ensures { result ≡ auto_told words.entry }
 {
     let count = number(&mut words, MOST_MOVES)?;
-    alone(&words, Command::Auto(count))
+    alone(&words, DebugCommand::Auto(count))
 }
 
 /// What follows `mem`: an address, and how many bytes.
 #[tactic(auto, unfolding(crate::specs::Commands::memory_told))]
-fn read_memory(mut words: Words<'_>) -> Result<Command, Refusal>
+fn read_memory(mut words: Words<'_>) -> Result<DebugCommand, Refusal>
     ensures { result ≡ memory_told words.entry }
 {
     let start = address(words.next())?;
     let len = number(&mut words, 16)?;
-    alone(&words, Command::Show(View::Memory(start, len)))
+    alone(&words, DebugCommand::Show(View::Memory(start, len)))
 }
 
 /// An address, or `none`.
@@ -99,35 +99,35 @@ fn break_address(word: &[u8]) -> Result<Option<u32>, Refusal>
 
 /// What follows `break`.
 #[tactic(auto, unfolding(crate::specs::Commands::stop_told))]
-fn read_break(mut words: Words<'_>) -> Result<Command, Refusal>
+fn read_break(mut words: Words<'_>) -> Result<DebugCommand, Refusal>
     ensures { result ≡ stop_told words.entry }
 {
     let stop = break_address(words.next())?;
-    alone(&words, Command::Break(stop))
+    alone(&words, DebugCommand::Break(stop))
 }
 
 /// The command of this name, if it is one after which no word may follow.
 #[tactic(auto, unfolding(crate::specs::Commands::lone_command))]
-fn lone_command(name: &[u8]) -> Option<Command>
+fn lone_command(name: &[u8]) -> Option<DebugCommand>
     ensures { result ≡ lone_command name.now }
 {
     if name == b"show".as_slice() {
-        Some(Command::Show(View::Picture))
+        Some(DebugCommand::Show(View::Picture))
     } else if name == b"regs".as_slice() {
-        Some(Command::Show(View::Registers))
+        Some(DebugCommand::Show(View::Registers))
     } else if name == b"bound".as_slice() {
-        Some(Command::Show(View::Bound))
+        Some(DebugCommand::Show(View::Bound))
     } else if name == b"back".as_slice() {
-        Some(Command::Back)
+        Some(DebugCommand::Back)
     } else if name == b"end".as_slice() {
-        Some(Command::End)
+        Some(DebugCommand::End)
     } else {
         None
     }
 }
 
 /// A command after which no word may follow, with the text after its name.
-fn read_lone(name: &[u8], after: &[u8]) -> Result<Command, Refusal>
+fn read_lone(name: &[u8], after: &[u8]) -> Result<DebugCommand, Refusal>
     ensures { result ≡ lone_told (lone_command name.now) (words_of after.now) }
 {
     match lone_command(name) {
@@ -138,11 +138,11 @@ fn read_lone(name: &[u8], after: &[u8]) -> Result<Command, Refusal>
 
 /// The command of a name, with the text after it.
 #[tactic(auto, unfolding(crate::specs::Commands::command_named))]
-fn read_named(name: &[u8], after: &[u8]) -> Result<Command, Refusal>
+fn read_named(name: &[u8], after: &[u8]) -> Result<DebugCommand, Refusal>
     ensures { result ≡ command_named name.now after.now }
 {
     if name == b"".as_slice() {
-        Ok(Command::Nothing)
+        Ok(DebugCommand::Nothing)
     } else if name == b"move".as_slice() {
         read_moves(after)
     } else if name == b"auto".as_slice() {
@@ -159,7 +159,7 @@ fn read_named(name: &[u8], after: &[u8]) -> Result<Command, Refusal>
 /// What a line tells: a command, or the first refusal of `TooLong`, `UnknownCommand`, `BadNumber` and `ExtraWords`, where
 /// after `move` those of scripts take the place of the last two.
 #[tactic(auto, unfolding(crate::specs::Commands::command_in))]
-pub(crate) fn read_command(line: &[u8]) -> Result<Command, Refusal>
+pub(crate) fn read_command(line: &[u8]) -> Result<DebugCommand, Refusal>
     ensures { result ≡ command_in line.now }
 {
     if line.len() > 256 {

@@ -3,20 +3,20 @@
 ghost use Rattle.std.specs.Prelude.{◌≡◌, ◌≢◌, ◌≤◌, true, false, None, Some, [], Ok};
 ghost use Rattle.cf_io.specs.Causes.{HasCause};
 ghost use Rattle.cf_run.specs.Policies.{IsOpened};
-ghost use Rattle.cf_debug.specs.declared.command.Command.TheVariants as commands;
-ghost use Rattle.cf_debug.specs.Lending.{desk_left, desk_lent};
+ghost use Rattle.cf_debug.specs.declared.command.DebugCommand.TheVariants as commands;
+ghost use Rattle.cf_debug.specs.Lending.{debugger_state_left, debugger_state_lent};
 ghost use Rattle.cf_debug.specs.Limits.{most_retired};
-ghost use Rattle.cf_debug.specs.Making.{bench_of};
+ghost use Rattle.cf_debug.specs.Making.{processor_state};
 ghost use Rattle.cf_debug.specs.Outcomes.{output_broken, report_broken};
-ghost use Rattle.cf_debug.specs.Sessions.{Debugs, Ends, Finishes, StaysOnRun, UsesByte, commands_ended, ended_by, output_ended, report_ended, session_of};
+ghost use Rattle.cf_debug.specs.Sessions.{Debugs, LineLeaves, FinishesSession, StaysOnRun, UsesByte, commands_ended, ended_by, output_ended, report_ended, session_of};
 ghost use Rattle.cf_debug.specs.Standing.{StandsSomewhere};
 
 use crate::answer::{Broken, Debugged};
 use crate::carrying::{carry_out, told};
-use crate::command::Command;
-use crate::desk::Desk;
+use crate::command::DebugCommand;
+use crate::debugger_state::DebuggerState;
 use crate::feed::{Feed, Next};
-use crate::pending::Pending;
+use crate::pending::PendingLine;
 use crate::reading::read_command;
 use crate::replies::refuse_line;
 use crate::ring::Ring;
@@ -37,23 +37,23 @@ fn ended(answer: Result<(), Broken>) -> Option<Debugged>
 }
 
 /// Whether the command ends the session.
-fn is_end(command: Command) -> bool
+fn is_end(command: DebugCommand) -> bool
     ensures yes { result ≡ true → command ≡ commands.End }
     ensures no { result ≡ false → command ≢ commands.End }
 {
-    matches!(command, Command::End)
+    matches!(command, DebugCommand::End)
 }
 
 /// Answers what a line tells, or says how the session ends there.
 fn answer_line<K: Sink, R: Sink>(
     line: &[u8],
-    desk: Desk<'_>,
+    desk: DebuggerState<'_>,
     output: &mut K,
     report: &mut R,
 ) -> Option<Debugged>
     requires stands { StandsSomewhere desk.core.now desk.ring.now }
-    ensures ends { Ends line.now
-        (desk_lent desk.entry (K.written output.old)) (desk_left desk.exit (K.written output.new))
+    ensures ends { LineLeaves line.now
+        (debugger_state_lent desk.entry (K.written output.old)) (debugger_state_left desk.exit (K.written output.new))
         (R.written report.old) (R.written report.new) result }
     ensures output { HasCause (K.faults output.old) (K.faults output.new) (output_ended result) }
     ensures report { HasCause (R.faults report.old) (R.faults report.new) (report_ended result) }
@@ -72,14 +72,14 @@ fn answer_line<K: Sink, R: Sink>(
 /// Uses a byte of the commands: it is one more of the line, or it ends the line, which is answered.
 fn use_byte<K: Sink, R: Sink>(
     byte: u8,
-    line: &mut Pending,
-    desk: Desk<'_>,
+    line: &mut PendingLine,
+    desk: DebuggerState<'_>,
     output: &mut K,
     report: &mut R,
 ) -> Option<Debugged>
     requires stands { StandsSomewhere desk.core.now desk.ring.now }
     ensures uses { UsesByte byte line.old line.new
-        (desk_lent desk.entry (K.written output.old)) (desk_left desk.exit (K.written output.new))
+        (debugger_state_lent desk.entry (K.written output.old)) (debugger_state_left desk.exit (K.written output.new))
         (R.written report.old) (R.written report.new) result }
     ensures output { HasCause (K.faults output.old) (K.faults output.new) (output_ended result) }
     ensures report { HasCause (R.faults report.old) (R.faults report.new) (report_ended result) }
@@ -95,14 +95,14 @@ fn use_byte<K: Sink, R: Sink>(
 
 /// Answers the unfinished line at the end of the commands, if there is one.
 fn finish<K: Sink, R: Sink>(
-    line: &Pending,
-    desk: Desk<'_>,
+    line: &PendingLine,
+    desk: DebuggerState<'_>,
     output: &mut K,
     report: &mut R,
 ) -> Debugged
     requires stands { StandsSomewhere desk.core.now desk.ring.now }
-    ensures finishes { Finishes line.now
-        (desk_lent desk.entry (K.written output.old)) (desk_left desk.exit (K.written output.new))
+    ensures finishes { FinishesSession line.now
+        (debugger_state_lent desk.entry (K.written output.old)) (debugger_state_left desk.exit (K.written output.new))
         (R.written report.old) (R.written report.new) result }
     ensures output { HasCause (K.faults output.old) (K.faults output.new) (output_ended (Some result)) }
     ensures report { HasCause (R.faults report.old) (R.faults report.new) (report_ended (Some result)) }
@@ -139,8 +139,8 @@ pub fn debug<S: Source, K: Sink, R: Sink>(
     requires retired { core.old.state.retired ≤ most_retired }
     requires ring { ring.old ≡ [] }
     ensures session { Debugs
-        (session_of (bench_of core.old ring.old (K.written output.old)) (S.left commands.old) (R.written report.old))
-        (session_of (bench_of core.new ring.new (K.written output.new)) (S.left commands.new) (R.written report.new))
+        (session_of (processor_state core.old ring.old (K.written output.old)) (S.left commands.old) (R.written report.old))
+        (session_of (processor_state core.new ring.new (K.written output.new)) (S.left commands.new) (R.written report.new))
         result }
     ensures on_run { StaysOnRun core.old core.new result }
     ensures commands { HasCause (S.faults commands.old) (S.faults commands.new) (commands_ended (Some result)) }
@@ -149,10 +149,10 @@ pub fn debug<S: Source, K: Sink, R: Sink>(
 {
     known(core);
     let mut stop = None;
-    let mut line = Pending::new();
+    let mut line = PendingLine::new();
     let mut feed = Feed::new();
     loop {
-        let desk = Desk {
+        let desk = DebuggerState {
             core,
             candidates,
             ring,

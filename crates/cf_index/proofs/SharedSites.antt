@@ -9,7 +9,7 @@ use Rattle.cf_layout.specs.Words.{has_bit}
 use Rattle.cf_bind.specs.declared.moves.Move.{Move}
 use Rattle.cf_bind.specs.declared.moves.Move.TheVariants.{Issue, Emit, Climb, Fall, Meet, Execute, Send, Launch, Slide, Access, Recover, Leave, Exit, Serve}
 use Rattle.cf_semantics.specs.moves.Sites.{Site, Stage, SidingCell, Lane, Fetching, Cache, Registers, Memory, Code, Input, Output, Count, Ended, Failure, among, same_site}
-use Rattle.cf_index.specs.Sites.{AreThere, IsPlace, shares, sidings_where, used, uses_place, ways_in, ways_out}
+use Rattle.cf_index.specs.Sites.{HasSites, LayoutHasSite, shares, sidings_where, used, uses_place, ways_in, ways_out}
 use Rattle.cf_index.proofs.SiteWords.{siding_within}
 
 either : (a b : Bool) → (a || b) ≡ true → (a ≡ true) ⊎ (b ≡ true)
@@ -135,9 +135,9 @@ pub used_one : (plan : Plan) (mv : Move) (x : Site) → uses_place plan mv x ≡
 unfolding uses_place
 used_one plan mv x e = found IsOne x (used plan mv) (used_ones plan mv) e
 
-pub used_there : (plan : Plan) (mv : Move) (x : Site) → AreThere plan mv → uses_place plan mv x ≡ true → IsPlace plan x
+pub used_there : (plan : Plan) (mv : Move) (x : Site) → HasSites plan mv → uses_place plan mv x ≡ true → LayoutHasSite plan x
 unfolding uses_place
-used_there plan mv x there e = found (IsPlace plan) x (used plan mv) there e
+used_there plan mv x there e = found (LayoutHasSite plan) x (used plan mv) there e
 
 -- what the words of the two moves, and the flags, say
 pub record AreWords (plan : Plan) (mv : Move) (stages cells : ℕ) : Type 0 where
@@ -168,7 +168,7 @@ some_test s c l f m d h = grind arith
 
 -- a place that both use passes one of the tests
 place_test : (plan : Plan) (a b : Move) (sa sb ca cb : ℕ) (s c : Bool) → IsAccepted plan → AreWords plan a sa ca → AreWords plan b sb cb →
-    (Overlap sa sb → s ≡ true) → (Overlap ca cb → c ≡ true) → (x : Site) → is_other x ≡ false → IsPlace plan x → uses_place plan a x ≡ true → uses_place plan b x ≡ true →
+    (Overlap sa sb → s ≡ true) → (Overlap ca cb → c ≡ true) → (x : Site) → is_other x ≡ false → LayoutHasSite plan x → uses_place plan a x ≡ true → uses_place plan b x ≡ true →
     tests s c (both_use plan a b Lane) (both_use plan a b Fetching) (both_use plan a b Memory) (both_use plan a b Code) ≡ true
 place_test plan a b sa sb ca cb s c acc wa wb hs hc (Stage zero) o there ea eb = absurd (omega arith)
 place_test plan a b sa sb ca cb s c acc wa wb hs hc (Stage (suc k)) o there ea eb =
@@ -207,7 +207,7 @@ test_place plan a b sa sb ca cb false false false false false true wa wb hs hc e
 test_place plan a b sa sb ca cb false false false false false false wa wb hs hc el ef em ed e = absurd (cc)
 
 -- so the tests say whether the two share a place
-pub shares_tested : (plan : Plan) (a b : Move) (sa sb ca cb : ℕ) (s c : Bool) → IsAccepted plan → AreThere plan a → AreWords plan a sa ca → AreWords plan b sb cb →
+pub shares_tested : (plan : Plan) (a b : Move) (sa sb ca cb : ℕ) (s c : Bool) → IsAccepted plan → HasSites plan a → AreWords plan a sa ca → AreWords plan b sb cb →
     (IsTrue s ↔ Overlap sa sb) → (IsTrue c ↔ Overlap ca cb) →
     tests s c (both_use plan a b Lane) (both_use plan a b Fetching) (both_use plan a b Memory) (both_use plan a b Code) ≡ shares plan a b
 shares_tested plan a b sa sb ca cb s c acc there wa wb hs hc = by (tests s c (both_use plan a b Lane) (both_use plan a b Fetching) (both_use plan a b Memory) (both_use plan a b Code)) (shares plan a b) refl refl

@@ -18,7 +18,7 @@ use Rattle.cf_semantics.specs.state.Options.{on, is_some}
 use Rattle.cf_semantics.specs.moves.Sites.{Site}
 use Rattle.cf_semantics.specs.state.State.{State, cell_at, siding_at}
 use Rattle.theory_refinement.proofs.moves.Rows.{bar_row}
-use Rattle.cf_index.specs.Sites.{AreThere, IsPlace, way_in, way_out, ways_in, ways_out}
+use Rattle.cf_index.specs.Sites.{HasSites, LayoutHasSite, way_in, way_out, ways_in, ways_out}
 use Rattle.cf_index.proofs.SiteWords.{siding_within}
 use Rattle.cf_core.specs.Processors.{IsProcessor}
 use Rattle.cf_index.specs.Alone.{HasSidings}
@@ -41,26 +41,26 @@ at_stage : (s : State) (i n : ℕ) (onward : Cell → Option Bar) → length s.c
 at_stage s i n onward size e = let f = found_at (cell_at s.cells i) onward e in cell_there s.cells i n f.here size f.is
 
 -- the cells at the ends of the sidings that pass a test
-all_where : (plan : Plan) (f : ℕ → Site) (test : ℕ → Bool) (first n : ℕ) → ((k : ℕ) → k < first + n → IsPlace plan (f k)) → AllByRecursion (IsPlace plan) (map f (filter test (counted_from first n)))
+all_where : (plan : Plan) (f : ℕ → Site) (test : ℕ → Bool) (first n : ℕ) → ((k : ℕ) → k < first + n → LayoutHasSite plan (f k)) → AllByRecursion (LayoutHasSite plan) (map f (filter test (counted_from first n)))
 all_where plan f test first zero h = tt
 all_where plan f test first (suc n) h = by (test first) (all_where plan f test (suc first) n (λ k within. h k (omega (arith, within))))
   where
-    by : (b : Bool) → AllByRecursion (IsPlace plan) (map f (filter test (counted_from (suc first) n)))
-        → AllByRecursion (IsPlace plan) (map f (if b then first ∷ filter test (counted_from (suc first) n) else filter test (counted_from (suc first) n)))
+    by : (b : Bool) → AllByRecursion (LayoutHasSite plan) (map f (filter test (counted_from (suc first) n)))
+        → AllByRecursion (LayoutHasSite plan) (map f (if b then first ∷ filter test (counted_from (suc first) n) else filter test (counted_from (suc first) n)))
     by true rest = (h first (omega arith), rest)
     by false rest = rest
 
-first_cells : (plan : Plan) (i : ℕ) → IsAccepted plan → AllByRecursion (IsPlace plan) (ways_in plan i)
+first_cells : (plan : Plan) (i : ℕ) → IsAccepted plan → AllByRecursion (LayoutHasSite plan) (ways_in plan i)
 unfolding ways_in
 first_cells plan i accepted = all_where plan way_in (λ k. launch_stage plan k == i) 0 (length plan.sidings) (λ k within. here k (omega (arith, within)))
   where
-    here : (k : ℕ) → k < length plan.sidings → IsPlace plan (way_in k)
+    here : (k : ℕ) → k < length plan.sidings → LayoutHasSite plan (way_in k)
     here k within = (within, omega (arith, (siding_within plan k accepted within).0))
 
-last_place : (plan : Plan) (k : ℕ) → IsAccepted plan → k < length plan.sidings → IsPlace plan (way_out plan k)
+last_place : (plan : Plan) (k : ℕ) → IsAccepted plan → k < length plan.sidings → LayoutHasSite plan (way_out plan k)
 last_place plan k accepted within = (within, omega (arith, (siding_within plan k accepted within).0))
 
-last_cells : (plan : Plan) (i : ℕ) → IsAccepted plan → AllByRecursion (IsPlace plan) (ways_out plan i)
+last_cells : (plan : Plan) (i : ℕ) → IsAccepted plan → AllByRecursion (LayoutHasSite plan) (ways_out plan i)
 unfolding ways_out
 last_cells plan i accepted = all_where plan (way_out plan) (λ k. recover_stage plan k == i) 0 (length plan.sidings) (λ k within. last_place plan k accepted (omega (arith, within)))
 
@@ -85,7 +85,7 @@ slid_within ops c e = go (slice_get ops (c + 1)) refl e
     go None is f = absurd (cc)
     go (Some o) is f = slice_get_within ops (c + 1) o is
 
-pub there : (plan : Plan) (s : State) (mv : Move) → IsAccepted plan → length s.cells ≡ plan.stages → HasSidings plan s → bar plan s mv ≡ None → AreThere plan mv
+pub there : (plan : Plan) (s : State) (mv : Move) → IsAccepted plan → length s.cells ≡ plan.stages → HasSidings plan s → bar plan s mv ≡ None → HasSites plan mv
 there plan s mv accepted size sidings free = row mv (bar_row plan s mv free)
   where
     top : (1 ≤ plan.stages) × (plan.stages ≤ plan.stages)
@@ -94,7 +94,7 @@ there plan s mv accepted size sidings free = row mv (bar_row plan s mv free)
     bottom : (1 ≤ 1) × (1 ≤ plan.stages)
     bottom = (omega arith, omega (arith, accepted.stages.0))
 
-    row : (mv : Move) → row_bar plan s mv ≡ None → AreThere plan mv
+    row : (mv : Move) → row_bar plan s mv ≡ None → HasSites plan mv
     row (Issue g) e = (bottom, (tt, (tt, (tt, tt))))
     row Emit e = (top, (tt, tt))
     row (Climb i) e =
@@ -137,5 +137,5 @@ unfolding cells_of
 has_sidings plan s p k = same_cells s.sidings plan.sidings k p.sidings
 
 -- a move that a processor can make uses what there is
-pub there_allowed : (plan : Plan) (s : State) (mv : Move) → IsProcessor plan s → bar plan s mv ≡ None → AreThere plan mv
+pub there_allowed : (plan : Plan) (s : State) (mv : Move) → IsProcessor plan s → bar plan s mv ≡ None → HasSites plan mv
 there_allowed plan s mv p free = there plan s mv p.accepted p.stages (has_sidings plan s p) free

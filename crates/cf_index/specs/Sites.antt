@@ -55,11 +55,11 @@ unfoldable pub shares : Plan → Move → Move → Bool
 shares plan a b = list_any (uses_place plan b) (used plan a)
 
 -- a stage, or a cell of a siding, is one that the layout has
-abbrev pub IsPlace : Plan → Site → Type 0
-IsPlace plan (Stage i) = IsStage plan i
-IsPlace plan (SidingCell k c) = (k < length plan.sidings) × (c < cells_of plan k)
-IsPlace plan _ = Unit {0}
+abbrev pub LayoutHasSite : Plan → Site → Type 0
+LayoutHasSite plan (Stage i) = IsStage plan i
+LayoutHasSite plan (SidingCell k c) = (k < length plan.sidings) × (c < cells_of plan k)
+LayoutHasSite plan _ = Unit {0}
 
 -- the layout has each stage and each cell that the move uses
-abbrev pub AreThere : Plan → Move → Type 0
-AreThere plan mv = AllByRecursion (IsPlace plan) (used plan mv)
+abbrev pub HasSites : Plan → Move → Type 0
+HasSites plan mv = AllByRecursion (LayoutHasSite plan) (used plan mv)

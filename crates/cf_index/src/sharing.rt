@@ -6,7 +6,7 @@ ghost use Rattle.cf_layout.specs.Words.{has_bit};
 ghost use Rattle.cf_layout.specs.Accepted.{IsAccepted};
 ghost use Rattle.cf_semantics.specs.state.Layouts.{port as port_of};
 ghost use Rattle.cf_semantics.specs.moves.Sites.{Code, Fetching, Lane, Memory, SidingCell, Stage, among};
-ghost use Rattle.cf_index.specs.Sites.{AreThere, shares, uses_place, ways_in, ways_out};
+ghost use Rattle.cf_index.specs.Sites.{HasSites, shares, uses_place, ways_in, ways_out};
 
 use crate::bits::with_bit;
 use cf_bind::Move;
@@ -39,7 +39,7 @@ fn two_stages(i: u32, j: u32) -> u64
 #[inline(always)]
 #[tactic(auto, using(crate::proofs::UsedSites::stage_used, cf_layout::proofs::Words::no_bits))]
 fn stages_used(layout: &Layout, mv: Move) -> u64
-    requires { AreThere layout.now mv }
+    requires { HasSites layout.now mv }
     ensures stages { (k : ℕ) → has_bit result k ≡ uses_place layout.now mv (Stage (k + 1)) }
     ensures accepted { IsAccepted layout.now }
 {
@@ -131,7 +131,7 @@ fn port(layout: &Layout) -> u64
 #[inline(always)]
 #[tactic(auto, using(crate::proofs::UsedCells::cell_used, cf_layout::proofs::Words::no_bits))]
 fn cells_used(layout: &Layout, mv: Move) -> u64
-    requires { AreThere layout.now mv }
+    requires { HasSites layout.now mv }
     ensures { (j : ℕ) → has_bit result j ≡ uses_place layout.now mv (SidingCell (j / 8) (j % 8)) }
 {
     match mv {
@@ -194,8 +194,8 @@ fn overlap(word: u64, other: u64) -> bool
 /// the lane, what fetch does, the memory or the code. The layout has each stage and each cell that the two use.
 #[inline(always)]
 pub fn shares(layout: &Layout, a: Move, b: Move) -> bool
-    requires first { AreThere layout.now a }
-    requires second { AreThere layout.now b }
+    requires first { HasSites layout.now a }
+    requires second { HasSites layout.now b }
     ensures { result ≡ shares layout.now a b }
 {
     let stages = overlap(stages_used(layout, a), stages_used(layout, b));

@@ -3,7 +3,7 @@ use Rattle.std.specs.Prelude.{◌≡◌, ℕ, List, [], ◌∷◌, ◌++◌, Boo
 use Rattle.cf_io.specs.Causes.{raised}
 use Rattle.cf_io.specs.FailingCalls.{Calls, no_calls, fails_next, after_call}
 use Rattle.cf_io.specs.NamedFiles.{content_of}
-use Rattle.cf_io.specs.Reads.{Told}
+use Rattle.cf_io.specs.ReadsFile.{FilesSeen}
 use Rattle.cf_io.specs.declared.files.FilesErr.{FilesErr}
 use Rattle.cf_io.specs.declared.files.FilesErr.TheVariants as err
 
@@ -28,7 +28,7 @@ unread_files files fails = record {
 }
 
 -- what the files tell
-abbrev pub told_by : MemoryFiles → Told
+abbrev pub told_by : MemoryFiles → FilesSeen
 told_by files = record {
   content = content_of files.files;
   read = files.read;

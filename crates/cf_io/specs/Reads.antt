@@ -6,38 +6,38 @@ use Rattle.cf_io.specs.declared.files.FilesErr.{FilesErr}
 use Rattle.cf_io.specs.declared.files.FilesErr.TheVariants as err
 
 -- what files tell: the bytes of each name that they have, the names that were read and those whose read failed, both in order, and how many reads found no memory
-pub record Told : Type 0 where
+pub record FilesSeen : Type 0 where
   pub content : List ℕ → Option (List ℕ)
   pub read : List (List ℕ)
   pub failed : List (List ℕ)
   pub unheld : ℕ
 
 -- the same files with one more read, of this name
-abbrev pub with_read : Told → List ℕ → Told
+abbrev pub with_read : FilesSeen → List ℕ → FilesSeen
 with_read told name = record told { read = told.read ++ name ∷ [] }
 
 -- with one more read, of this name, that failed
-abbrev pub with_failed : Told → List ℕ → Told
+abbrev pub with_failed : FilesSeen → List ℕ → FilesSeen
 with_failed told name = record told {
   read = told.read ++ name ∷ [];
   failed = told.failed ++ name ∷ [];
 }
 
 -- with one more read that found no memory, perhaps not even for the name itself
-abbrev pub with_unheld : Told → Told
+abbrev pub with_unheld : FilesSeen → FilesSeen
 with_unheld told = record told { unheld = raised told.unheld }
 
 -- one read, where the files tell what they have: the first bytes of the file; each read is noted, by its name or as one that found no memory
-abbrev pub ReadsTold : Told → Option Told → List ℕ → ℕ → Result (Vec ℕ Global) FilesErr → Type 0
+abbrev pub ReadsTold : FilesSeen → Option FilesSeen → List ℕ → ℕ → Result (Vec ℕ Global) FilesErr → Type 0
 ReadsTold told after name most (Ok bytes) =
     (option_map (take most) (told.content name) ≡ Some bytes.items) × (after ≡ Some (with_read told name))
 ReadsTold told after name most (Err err.Failed) = after ≡ Some (with_failed told name)
 ReadsTold told after name most (Err err.NoMemory) = after ≡ Some (with_unheld told)
 
 -- one read: what the files tell before and after, the name, the most bytes wanted, the answer
-abbrev pub Reads : Option Told → Option Told → List ℕ → ℕ → Result (Vec ℕ Global) FilesErr → Type 0
-Reads None after name most result = after ≡ None
-Reads (Some told) after name most result = ReadsTold told after name most result
+abbrev pub ReadsFile : Option FilesSeen → Option FilesSeen → List ℕ → ℕ → Result (Vec ℕ Global) FilesErr → Type 0
+ReadsFile None after name most result = after ≡ None
+ReadsFile (Some told) after name most result = ReadsTold told after name most result
 
 -- Failed comes only where the count rose, and any other answer only where it did not
 abbrev pub RoseOnFailed : {T : Type 0} → ℕ → ℕ → Result T FilesErr → Type 0

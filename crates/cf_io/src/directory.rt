@@ -3,7 +3,7 @@
 ghost use Rattle.std.specs.Prelude.{◌≡◌, ◌≤◌, ◌↔◌, None, IfOk, IfSome, take, vec_len};
 ghost use Rattle.std.specs.IoError.{error_kind};
 ghost use Rattle.std.specs.declared.io.ErrorKind.TheVariants as kind;
-ghost use Rattle.cf_io.specs.Reads.{Reads, HasReadCause, CountsReadFaults};
+ghost use Rattle.cf_io.specs.ReadsFile.{ReadsFile, HasReadCause, CountsReadFaults};
 
 use crate::files::{Files, FilesErr};
 use std::alloc::Global;
@@ -68,7 +68,7 @@ impl<'a, R: rt::Files + AllocGlobal> Files for DirFiles<'a, R> {
     ghost faults = { λ f. f.faults };
 
     fn read(&mut self, alloc: Global, name: &str, most: u64) -> Result<Vec<u8>, FilesErr>
-        ensures bytes { Reads None None name.now most result }
+        ensures bytes { ReadsFile None None name.now most result }
         ensures most { IfOk result (λ bytes. vec_len bytes ≤ most) }
         ensures cause { HasReadCause self.old.faults self.new.faults result }
         ensures counted { CountsReadFaults self.old.faults self.new.faults result }

@@ -1,7 +1,7 @@
 //! Files, as the simulator sees them.
 
 ghost use Rattle.std.specs.Prelude.{ℕ, Option, ◌≤◌, IfOk, vec_len};
-ghost use Rattle.cf_io.specs.Reads.{Told, Reads, HasReadCause};
+ghost use Rattle.cf_io.specs.ReadsFile.{FilesSeen, ReadsFile, HasReadCause};
 
 use std::alloc::Global;
 
@@ -18,7 +18,7 @@ pub enum FilesErr {
 pub trait Files {
     /// The bytes of each name, the names that were read, those whose read failed, and how many reads found no memory, where
     /// the files tell them.
-    ghost told: { Self → Option Told };
+    ghost told: { Self → Option FilesSeen };
 
     /// How often the files have failed, up to the greatest `u64`.
     ghost faults: { Self → ℕ };
@@ -29,7 +29,7 @@ pub trait Files {
     /// their contents note each read: they append the name to their list of reads, and after `Failed`
     /// to that of failed reads too; after `NoMemory` they only count one more read that found no memory.
     fn read(&mut self, alloc: Global, name: &str, most: u64) -> Result<Vec<u8>, FilesErr>
-        ensures bytes { Reads (told self.old) (told self.new) name.now most result }
+        ensures bytes { ReadsFile (told self.old) (told self.new) name.now most result }
         ensures most { IfOk result (λ bytes. vec_len bytes ≤ most) }
         ensures cause { HasReadCause (faults self.old) (faults self.new) result };
 }

@@ -3,7 +3,7 @@
 ghost use Rattle.std.specs.Prelude.{◌≡◌, ◌<◌, ◌≤◌, [], ◌∷◌, ◌++◌, Some, None, map, take, IfSome, IfNone, IfOk, IfErr, string_bytes};
 ghost use Rattle.std.specs.Prelude.{vec_len, vec_capacity};
 ghost use Rattle.cf_io.specs.Causes.{raised};
-ghost use Rattle.cf_io.specs.Reads.{Reads, HasReadCause};
+ghost use Rattle.cf_io.specs.ReadsFile.{ReadsFile, HasReadCause};
 ghost use Rattle.cf_io.specs.MemoryFiles.{unread_files, told_by, ReadsCounted};
 ghost use Rattle.cf_io.specs.NamedFiles.{content_of, entry_of};
 
@@ -139,7 +139,7 @@ impl Files for MemFiles {
 
     #[tactic(auto, unfolding(crate::specs::MemoryFiles::read_fails))]
     fn read(&mut self, alloc: Global, name: &str, most: u64) -> Result<Vec<u8>, FilesErr>
-        ensures bytes { Reads (Some (told_by self.old)) (Some (told_by self.new))
+        ensures bytes { ReadsFile (Some (told_by self.old)) (Some (told_by self.new))
             name.now most result }
         ensures most { IfOk result (λ bytes. vec_len bytes ≤ most) }
         ensures cause { HasReadCause self.old.faults self.new.faults result }

@@ -5,7 +5,7 @@ use Rattle.std.proofs.lemmas.Bool.Decides.{nat_tests}
 use Rattle.rv_inst.specs.declared.classes.Class.{Class}
 use Rattle.rv_inst.specs.declared.classes.Class.TheVariants.{Add, Logic, Shift, Compare, Branch, Jump, Memory, Serial, Free, Mul, Div}
 use Rattle.cf_layout.specs.declared.parts.Parts.{Parts}
-use Rattle.cf_layout.specs.Asked.{natural, is_within, IsSmall, is_asked, listed, ascending, plan_of}
+use Rattle.cf_layout.specs.Asked.{natural, is_within, IsSmallSiding, is_asked, listed, ascending, plan_of}
 use Rattle.cf_layout.specs.Accepted.{is_needed, is_control, IsAccepted}
 use Rattle.cf_layout.specs.Acceptable.{AreComputed, IsAcceptable}
 use Rattle.cf_layout.specs.Refusal.{refusal, missing, missing_refusal, needed_classes, above, turn_refusal, control_refusal, turns_in, siding_for, memory_launch_in}
@@ -111,7 +111,7 @@ unfolding refusal
 limits_kept parts e = limits_hold parts (first_passes _ _ e)
 
 -- and so are those of their sidings
-pub small_kept : (parts : Parts) → refusal parts ≡ None → All IsSmall parts.sidings
+pub small_kept : (parts : Parts) → refusal parts ≡ None → All IsSmallSiding parts.sidings
 unfolding refusal
 small_kept parts e =
     let limits = limits_hold parts (first_passes _ _ e) in

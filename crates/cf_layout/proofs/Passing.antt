@@ -12,7 +12,7 @@ use Rattle.cf_layout.specs.declared.parts.Siding as asked
 use Rattle.cf_layout.specs.declared.parts.Parts.{Parts}
 use Rattle.cf_layout.specs.declared.refusal.LayoutErr.{LayoutErr}
 use Rattle.cf_layout.specs.Layout.{same_class}
-use Rattle.cf_layout.specs.Asked.{natural, is_within, names, is_unit, is_sided, IsSmall}
+use Rattle.cf_layout.specs.Asked.{natural, is_within, names, is_unit, is_sided, IsSmallSiding}
 use Rattle.cf_layout.specs.Acceptable.{IsUnit, IsSiding, times, sided_classes}
 use Rattle.cf_layout.specs.Refusal.{told, unless, or_else, outside, twice, limits_refusal, unit_refusal, units_refusal, first_repeated, stages_refusal, classes_refusal, filled_refusal, siding_refusal, sidings_refusal}
 use Rattle.cf_layout.proofs.Counts.{same_true, names_times, times_cons, times_append, times_nil, is_unit_times}
@@ -156,7 +156,7 @@ sidings_hold n units before [] e = All-nil (IsSiding n)
 sidings_hold n units before (siding ∷ sidings) e = All-cons (IsSiding n) siding sidings (siding_holds n units before siding (first_passes _ _ e)) (sidings_hold n units (before ++ siding ∷ []) sidings (next_passes _ _ e))
 
 -- a siding in a pipeline that is not too long has small numbers
-small_siding : (n : ℕ) (siding : asked.Siding) → n ≤ 32 → IsSiding n siding → IsSmall siding
+small_siding : (n : ℕ) (siding : asked.Siding) → n ≤ 32 → IsSiding n siding → IsSmallSiding siding
 small_siding n siding few s = record {
   launch = within_word siding.launch 1 n s.launch (omega arith);
   recover = within_word siding.recover 1 n s.recover (omega arith);
@@ -164,7 +164,7 @@ small_siding n siding few s = record {
 }
 
 -- so have all sidings that are not refused
-pub small_sidings : (n : ℕ) (units : List (Class × List ℤ)) (sidings : List asked.Siding) → sidings_refusal n units [] sidings ≡ None → n ≤ 32 → All IsSmall sidings
+pub small_sidings : (n : ℕ) (units : List (Class × List ℤ)) (sidings : List asked.Siding) → sidings_refusal n units [] sidings ≡ None → n ≤ 32 → All IsSmallSiding sidings
 small_sidings n units sidings e few = λ k d within. small_siding n _ few (sidings_hold n units [] sidings e k d within)
 
 -- where a test answers that it passes there is no refusal
@@ -173,7 +173,7 @@ none_told None answer u told_so passes = refl
 none_told (Some e) answer u told_so passes = cc
 
 -- so after an answer that lets them pass
-pub told_small : (n : ℕ) (units : List (Class × List ℤ)) (sidings : List asked.Siding) (o : Option LayoutErr) → sidings_refusal n units [] sidings ≡ o → n ≤ 32 → OnOk (told o) (All IsSmall sidings)
+pub told_small : (n : ℕ) (units : List (Class × List ℤ)) (sidings : List asked.Siding) (o : Option LayoutErr) → sidings_refusal n units [] sidings ≡ o → n ≤ 32 → OnOk (told o) (All IsSmallSiding sidings)
 told_small n units sidings None e few = small_sidings n units sidings e few
 told_small n units sidings (Some x) e few = tt
 

@@ -6,7 +6,7 @@ use Rattle.std.proofs.lemmas.List.Elements.{All-tail}
 use Rattle.std.proofs.lemmas.Option.{same_Some}
 use Rattle.rv_inst.specs.declared.classes.Class.{Class}
 use Rattle.cf_layout.specs.declared.parts.Siding.{Siding}
-use Rattle.cf_layout.specs.Asked.{IsSmall, names}
+use Rattle.cf_layout.specs.Asked.{IsSmallSiding, names}
 use Rattle.cf_layout.specs.Refusal.{siding_for, or_else, unit_refusal, units_refusal, siding_refusal, sidings_refusal, first_repeated}
 
 -- the units from one unit on are refused for that unit, or else for those after it
@@ -44,6 +44,6 @@ found_holds P test [] x all e = cc
 found_holds P test (y ∷ xs) x all e = found_step P (test y) y x (find test xs) (all 0 y (omega arith)) e (λ later. found_holds P test xs x (All-tail P y xs all) later)
 
 -- so of small sidings the one that is found is small
-pub found_small : (sidings : List Siding) (c : Class) (siding : Siding) → All IsSmall sidings → siding_for sidings c ≡ Some siding → IsSmall siding
+pub found_small : (sidings : List Siding) (c : Class) (siding : Siding) → All IsSmallSiding sidings → siding_for sidings c ≡ Some siding → IsSmallSiding siding
 unfolding siding_for
-found_small sidings c siding all e = found_holds IsSmall (λ s. names s.classes c) sidings siding all e
+found_small sidings c siding all e = found_holds IsSmallSiding (λ s. names s.classes c) sidings siding all e

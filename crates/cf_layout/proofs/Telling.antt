@@ -18,7 +18,7 @@ use Rattle.cf_layout.specs.Layout.{same_class}
 use Rattle.cf_layout.specs.Accepted.{is_needed, is_control}
 use Rattle.cf_layout.specs.Asked.{natural, is_within, names, is_unit, is_sided, is_asked, listed, ascending}
 use Rattle.cf_layout.specs.Acceptable.{IsAcceptable, times, sided_classes, asked_classes}
-use Rattle.cf_layout.specs.Causes.{IsCause}
+use Rattle.cf_layout.specs.Causes.{IsLayoutCause}
 use Rattle.cf_layout.specs.Refusal.{unless, or_else, outside, twice, missing, above, limits_refusal, unit_refusal, units_refusal, first_repeated, stages_refusal, classes_refusal, filled_refusal, siding_refusal, sidings_refusal, missing_refusal, needed_classes, turn_refusal, control_refusal, turns_in, siding_for, memory_launch_in, refusal}
 use Rattle.cf_layout.proofs.Counts.{same_true, same_self, times_cons, times_append, is_unit_times, is_sided_times}
 use Rattle.cf_layout.proofs.Acceptance.{acceptable}
@@ -69,7 +69,7 @@ all_needed = All-from_recursion (λ (c : Class). is_needed c ≡ true) needed_cl
 -- what a refusal, if there is one, says of the parts
 Says : Parts → Option LayoutErr → Type 0
 Says parts None = Unit {0}
-Says parts (Some e) = IsCause parts e
+Says parts (Some e) = IsLayoutCause parts e
 
 -- where the refusals of two tests are true, so is the first of them
 says_first : (parts : Parts) (a b : Option LayoutErr) → Says parts a → Says parts b → Says parts (or_else a b)
@@ -78,7 +78,7 @@ says_first parts None b s t = t
 says_first parts (Some e) b s t = s
 
 -- the refusal of a test is true where the test's failure is a cause
-says_unless : (parts : Parts) (holds : Bool) (e : LayoutErr) → (holds ≡ false → IsCause parts e) → Says parts (unless holds e)
+says_unless : (parts : Parts) (holds : Bool) (e : LayoutErr) → (holds ≡ false → IsLayoutCause parts e) → Says parts (unless holds e)
 unfolding Says
 says_unless parts true e cause = tt
 says_unless parts false e cause = cause refl
@@ -269,17 +269,17 @@ says_all parts =
     (says_first parts _ _ (says_missing parts) (says_control parts))))
 
 -- what is answered is a cause
-told_cause : (parts : Parts) (o : Option LayoutErr) (e : LayoutErr) → Says parts o → o ≡ Some e → IsCause parts e
+told_cause : (parts : Parts) (o : Option LayoutErr) (e : LayoutErr) → Says parts o → o ≡ Some e → IsLayoutCause parts e
 unfolding Says
 told_cause parts None e said at = cc
-told_cause parts (Some f) e said at = subst (IsCause parts) (same_Some f e at) said
+told_cause parts (Some f) e said at = subst (IsLayoutCause parts) (same_Some f e at) said
 
 -- each refusal is true
-pub causes : (parts : Parts) (e : LayoutErr) → refusal parts ≡ Some e → IsCause parts e
+pub causes : (parts : Parts) (e : LayoutErr) → refusal parts ≡ Some e → IsLayoutCause parts e
 causes parts e at = told_cause parts (refusal parts) e (says_all parts) at
 
 -- an answer that refuses is true
-pub refused_cause : {T : Type 0} (parts : Parts) (r : Result T LayoutErr) → IfErr r (λ e. refusal parts ≡ Some e) → IfErr r (λ e. IsCause parts e)
+pub refused_cause : {T : Type 0} (parts : Parts) (r : Result T LayoutErr) → IfErr r (λ e. refusal parts ≡ Some e) → IfErr r (λ e. IsLayoutCause parts e)
 refused_cause parts (Ok x) h = tt
 refused_cause parts (Err e) h = causes parts e h
 

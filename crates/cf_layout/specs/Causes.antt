@@ -25,17 +25,17 @@ abbrev pub IsWanted : Parts → Class → Type 0
 IsWanted parts c = (is_needed c ≡ true) ⊎ (((c ≡ Mul) × (is_asked parts Div ≡ true)) ⊎ ((c ≡ Div) × (is_asked parts Mul ≡ true)))
 
 -- what each refusal says of the parts
-abbrev pub IsCause : Parts → LayoutErr → Type 0
-IsCause parts (StagesOutOfRange z) = (z ≡ parts.stages) × (is_within 2 32 z ≡ false)
-IsCause parts (LaneOutOfRange z) = (z ≡ parts.lane) × (is_within 2 64 z ≡ false)
-IsCause parts (StageOutOfRange c z) = (is_within 1 (natural parts.stages) z ≡ false) × (ListsStage parts c z ⊎ SidesAt parts c z)
-IsCause parts (ClassTwice c) = 1 < times (asked_classes parts) c
-IsCause parts (MissingUnit c) = (is_asked parts c ≡ false) × IsWanted parts c
-IsCause parts (EmptyUnit c) = Any (λ (unit : Class × List ℤ). (unit.0 ≡ c) × (length unit.1 ≡ 0)) parts.units
-IsCause parts MemoryNotSiding = is_unit parts.units Memory ≡ true
-IsCause parts MemorySharesSiding = Any (λ (siding : Siding). (names siding.classes Memory ≡ true) × (1 < length siding.classes)) parts.sidings
-IsCause parts (SidingOrder launch recover) = (recover ≤ℤ launch) × Any (λ (siding : Siding). (siding.launch ≡ launch) × (siding.recover ≡ recover)) parts.sidings
-IsCause parts (CellsOutOfRange z) = (is_within 1 8 z ≡ false) × Any (λ (siding : Siding). siding.cells ≡ z) parts.sidings
-IsCause parts (ControlAboveMemory c stage launch) = (is_control c ≡ true) × (launch ≡ memory_launch_in parts.sidings) × (launch < stage) × Contains (turns_in (ascending (listed parts.units c)) (siding_for parts.sidings c)) stage
-IsCause parts (TooManySidings count) = (count ≡ min (length parts.sidings) 4294967295) × (8 < length parts.sidings)
-IsCause parts (EmptySiding k) = Any (λ (siding : Siding). (slice_get parts.sidings k ≡ Some siding) × (length siding.classes ≡ 0)) parts.sidings
+abbrev pub IsLayoutCause : Parts → LayoutErr → Type 0
+IsLayoutCause parts (StagesOutOfRange z) = (z ≡ parts.stages) × (is_within 2 32 z ≡ false)
+IsLayoutCause parts (LaneOutOfRange z) = (z ≡ parts.lane) × (is_within 2 64 z ≡ false)
+IsLayoutCause parts (StageOutOfRange c z) = (is_within 1 (natural parts.stages) z ≡ false) × (ListsStage parts c z ⊎ SidesAt parts c z)
+IsLayoutCause parts (ClassTwice c) = 1 < times (asked_classes parts) c
+IsLayoutCause parts (MissingUnit c) = (is_asked parts c ≡ false) × IsWanted parts c
+IsLayoutCause parts (EmptyUnit c) = Any (λ (unit : Class × List ℤ). (unit.0 ≡ c) × (length unit.1 ≡ 0)) parts.units
+IsLayoutCause parts MemoryNotSiding = is_unit parts.units Memory ≡ true
+IsLayoutCause parts MemorySharesSiding = Any (λ (siding : Siding). (names siding.classes Memory ≡ true) × (1 < length siding.classes)) parts.sidings
+IsLayoutCause parts (SidingOrder launch recover) = (recover ≤ℤ launch) × Any (λ (siding : Siding). (siding.launch ≡ launch) × (siding.recover ≡ recover)) parts.sidings
+IsLayoutCause parts (CellsOutOfRange z) = (is_within 1 8 z ≡ false) × Any (λ (siding : Siding). siding.cells ≡ z) parts.sidings
+IsLayoutCause parts (ControlAboveMemory c stage launch) = (is_control c ≡ true) × (launch ≡ memory_launch_in parts.sidings) × (launch < stage) × Contains (turns_in (ascending (listed parts.units c)) (siding_for parts.sidings c)) stage
+IsLayoutCause parts (TooManySidings count) = (count ≡ min (length parts.sidings) 4294967295) × (8 < length parts.sidings)
+IsLayoutCause parts (EmptySiding k) = Any (λ (siding : Siding). (slice_get parts.sidings k ≡ Some siding) × (length siding.classes ≡ 0)) parts.sidings

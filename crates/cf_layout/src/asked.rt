@@ -2,7 +2,7 @@
 
 ghost use Rattle.std.specs.Prelude.{◌≡◌, All, IfSome, find, not, true};
 ghost use Rattle.std.specs.Option.{option_copied};
-ghost use Rattle.cf_layout.specs.Asked.{is_within, IsSmall, natural, names, is_unit, is_sided, is_asked, listed};
+ghost use Rattle.cf_layout.specs.Asked.{is_within, IsSmallSiding, natural, names, is_unit, is_sided, is_asked, listed};
 ghost use Rattle.cf_layout.specs.Refusal.{siding_for};
 ghost use Rattle.cf_layout.specs.Layout.{same_class};
 
@@ -84,7 +84,7 @@ pub(crate) fn listed(units: &[(Class, Listed<i64>)], class: Class) -> &[i64]
 #[tactic(auto, using(crate::proofs::Steps::found_small), unfolding(crate::specs::Refusal::siding_for))]
 pub(crate) fn siding_for(sidings: &[Siding], class: Class) -> Option<&Siding>
     ensures first { option_copied result ≡ siding_for sidings.now class }
-    ensures small { All IsSmall sidings.now → IfSome result (λ siding. IsSmall siding.now) }
+    ensures small { All IsSmallSiding sidings.now → IfSome result (λ siding. IsSmallSiding siding.now) }
 {
     sidings
         .iter()

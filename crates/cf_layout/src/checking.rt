@@ -2,9 +2,9 @@
 
 ghost use Rattle.std.specs.Prelude.{◌≡◌, All, IfOk, IfErr, OnOk, true, Some, None, ◌≤◌, ◌||◌, [], ◌∷◌, find, not, nat_lt, length, is_some};
 ghost use Rattle.std.specs.Option.{option_copied};
-ghost use Rattle.cf_layout.specs.Asked.{plan_of, is_within, IsSmall, natural, is_unit, is_sided, is_asked, names, listed, ascending};
+ghost use Rattle.cf_layout.specs.Asked.{plan_of, is_within, IsSmallSiding, natural, is_unit, is_sided, is_asked, names, listed, ascending};
 ghost use Rattle.cf_layout.specs.Acceptable.{AreComputed, IsAcceptable};
-ghost use Rattle.cf_layout.specs.Causes.{IsCause};
+ghost use Rattle.cf_layout.specs.Causes.{IsLayoutCause};
 ghost use Rattle.cf_layout.specs.Refusal.{refusal, told, limits_refusal, unit_refusal, units_refusal, first_repeated, stages_refusal, classes_refusal, filled_refusal, siding_refusal, sidings_refusal, missing_refusal, memory_launch_in, siding_for, launch_in, turns_in, turn_refusal, control_refusal, needed_classes};
 
 use crate::asked::{
@@ -190,7 +190,7 @@ fn check_sidings(
     requires eight { length sidings.now ≤ 8 }
     requires tall { most ≤ 32 }
     ensures answer { result ≡ told (sidings_refusal most units.now [] sidings.now) }
-    ensures small { OnOk result (All IsSmall sidings.now) }
+    ensures small { OnOk result (All IsSmallSiding sidings.now) }
 {
     check_each_siding(most, units, sidings)
 }
@@ -225,7 +225,7 @@ fn check_missing(parts: &Parts) -> Result<(), LayoutErr>
 
 /// The stage from which the siding launches.
 fn launch_of(siding: &Siding) -> u32
-    requires { IsSmall siding.now }
+    requires { IsSmallSiding siding.now }
     ensures { result ≡ natural siding.now.launch }
 {
     natural(siding.launch)
@@ -233,7 +233,7 @@ fn launch_of(siding: &Siding) -> u32
 
 /// The stage at which the siding recovers.
 fn recovery_of(siding: &Siding) -> u32
-    requires { IsSmall siding.now }
+    requires { IsSmallSiding siding.now }
     ensures { result ≡ natural siding.now.recover }
 {
     natural(siding.recover)
@@ -242,7 +242,7 @@ fn recovery_of(siding: &Siding) -> u32
 /// The stage from which memory is reached.
 #[tactic(auto, unfolding(crate::specs::Refusal::memory_launch_in))]
 fn memory_launch(sidings: &[Siding]) -> u32
-    requires { All IsSmall sidings.now }
+    requires { All IsSmallSiding sidings.now }
     ensures { result ≡ memory_launch_in sidings.now }
 {
     match siding_for(sidings, Class::Memory) {
@@ -258,7 +258,7 @@ fn turn_above(
     class: Class,
     launch: u32,
 ) -> Option<u32>
-    requires { All IsSmall sidings.now }
+    requires { All IsSmallSiding sidings.now }
     ensures { result ≡ find (nat_lt launch) (turns_in (ascending (listed units.now class)) (siding_for sidings.now class)) }
 {
     match siding_for(sidings, class) {
@@ -273,7 +273,7 @@ fn turn_above(
 /// Tests that the class turns control at no stage above the one from which memory is reached.
 #[tactic(auto, unfolding(crate::specs::Refusal::turn_refusal))]
 fn check_turns(parts: &Parts, class: Class) -> Result<(), LayoutErr>
-    requires { All IsSmall parts.now.sidings }
+    requires { All IsSmallSiding parts.now.sidings }
     ensures { result ≡ told (turn_refusal parts.now class) }
 {
     let sidings = parts.sidings.as_slice();
@@ -287,7 +287,7 @@ fn check_turns(parts: &Parts, class: Class) -> Result<(), LayoutErr>
 /// Tests where branches and jumps turn control.
 #[tactic(auto, unfolding(crate::specs::Refusal::control_refusal))]
 fn check_control(parts: &Parts) -> Result<(), LayoutErr>
-    requires { All IsSmall parts.now.sidings }
+    requires { All IsSmallSiding parts.now.sidings }
     ensures { result ≡ told (control_refusal parts.now) }
 {
     check_turns(parts, Class::Branch)?;
@@ -343,7 +343,7 @@ pub fn check(parts: &Parts) -> Result<Layout, LayoutErr>
     ensures not_refused { IfOk result (λ layout. refusal parts.now ≡ None) }
     ensures refused { IfErr result (λ error. refusal parts.now ≡ Some error) }
     ensures unacceptable { IfErr result (λ error. ¬ IsAcceptable parts.now) }
-    ensures cause { IfErr result (λ error. IsCause parts.now error) }
+    ensures cause { IfErr result (λ error. IsLayoutCause parts.now error) }
 {
     lay_out(parts)
 }

@@ -2,7 +2,7 @@
 
 ghost use Rattle.std.specs.Prelude.{◌≡◌, ◌↔◌, IsTrue};
 
-use crate::laid::Laid;
+use crate::accepted_siding::AcceptedSiding;
 use crate::stage_set::StageSet;
 
 /// Whether the two lists have the same sets of stages in the same order.
@@ -19,7 +19,7 @@ pub(crate) fn same_units(units: &[StageSet], other: &[StageSet]) -> bool
 }
 
 /// Whether the two lists have the same sidings in the same order.
-pub(crate) fn same_sidings(sidings: &[Laid], other: &[Laid]) -> bool
+pub(crate) fn same_sidings(sidings: &[AcceptedSiding], other: &[AcceptedSiding]) -> bool
     ensures { IsTrue result ↔ (sidings.now ≡ other.now) }
 {
     match (sidings, other) {

@@ -1,23 +1,23 @@
 //! Laying out a layout that was asked for.
 
 ghost use Rattle.std.specs.Prelude.{◌≡◌, ◌≤◌, All, map, length};
-ghost use Rattle.cf_layout.specs.Asked.{IsSmall, units_plan, siding_plan};
+ghost use Rattle.cf_layout.specs.Asked.{IsSmallSiding, units_plan, siding_plan};
 ghost use Rattle.cf_layout.specs.Held.{places_for};
 ghost use Rattle.cf_layout.specs.Layout.{no_siding};
 
 use crate::asked::{listed, natural};
 use crate::class_set::ClassSet;
 use crate::classes::CLASSES;
-use crate::laid::Laid;
+use crate::accepted_siding::AcceptedSiding;
 use crate::stage_set::StageSet;
 use crate::{Listed, Siding};
 use rv_inst::Class;
 
 /// What stands in a place that no siding takes.
-pub(crate) fn no_siding() -> Laid
+pub(crate) fn no_siding() -> AcceptedSiding
     ensures { result ≡ no_siding }
 {
-    Laid {
+    AcceptedSiding {
         classes: ClassSet::empty(),
         launch: 0,
         recover: 0,
@@ -39,11 +39,11 @@ pub(crate) fn lay_units(units: &[(Class, Listed<i64>)]) -> [StageSet; 9]
 
 /// The siding that is asked for.
 #[tactic(auto, unfolding(crate::specs::Asked::siding_plan))]
-fn lay_siding(siding: &Siding) -> Laid
-    requires { IsSmall siding.now }
+fn lay_siding(siding: &Siding) -> AcceptedSiding
+    requires { IsSmallSiding siding.now }
     ensures { result ≡ siding_plan siding.now }
 {
-    Laid {
+    AcceptedSiding {
         classes: ClassSet::of(siding.classes.as_slice()),
         launch: natural(siding.launch),
         recover: natural(siding.recover),
@@ -52,9 +52,9 @@ fn lay_siding(siding: &Siding) -> Laid
 }
 
 /// The sidings that are asked for, in eight places.
-pub(crate) fn lay_sidings(sidings: &[Siding]) -> [Laid; 8]
+pub(crate) fn lay_sidings(sidings: &[Siding]) -> [AcceptedSiding; 8]
     requires few { length sidings.now ≤ 8 }
-    requires small { All IsSmall sidings.now }
+    requires small { All IsSmallSiding sidings.now }
     ensures { result ≡ places_for (map siding_plan sidings.now) }
 {
     let mut places = [no_siding(); 8];

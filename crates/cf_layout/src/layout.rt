@@ -1,7 +1,7 @@
 //! An accepted layout.
 
 ghost use Rattle.std.specs.Prelude.{◌≡◌, ◌↔◌, IsTrue, ◌<◌, ◌≤◌, true, All, IfOk, IfSome, None, length};
-ghost use Rattle.cf_layout.specs.Asked.{is_within, IsSmall, plan_of};
+ghost use Rattle.cf_layout.specs.Asked.{is_within, IsSmallSiding, plan_of};
 ghost use Rattle.cf_layout.specs.Layout.{stages_of, unit_at, siding_of, recovers_by, is_homed, launch_stage, recover_stage, cells_of, serves, siding_at, has_mul, last_stage};
 ghost use Rattle.cf_layout.specs.Accepted.{IsAccepted};
 
@@ -10,7 +10,7 @@ use crate::asked::natural;
 use crate::class_set::ClassSet;
 use crate::classes::place;
 use crate::comparing::{same_sidings, same_units};
-use crate::laid::Laid;
+use crate::accepted_siding::AcceptedSiding;
 use crate::laying::{lay_sidings, lay_units, no_siding};
 use crate::stage_set::StageSet;
 use rv_inst::Class;
@@ -25,7 +25,7 @@ pub struct Layout {
     cache: bool,
     units: [StageSet; 9],
     count: u32,
-    sidings: [Laid; 8],
+    sidings: [AcceptedSiding; 8],
 }
 
 impl Model for Layout {
@@ -111,7 +111,7 @@ impl Layout {
 
     /// The sidings.
     #[inline(always)]
-    fn sidings(&self) -> &[Laid]
+    fn sidings(&self) -> &[AcceptedSiding]
         ensures { result.now ≡ self.now.sidings }
     {
         &self.sidings[..self.count as usize]
@@ -119,7 +119,7 @@ impl Layout {
 
     /// The siding with that number.
     #[inline(always)]
-    fn siding(&self, siding: u32) -> &Laid
+    fn siding(&self, siding: u32) -> &AcceptedSiding
         requires { siding < length self.now.sidings }
         ensures { result.now ≡ siding_at self.now siding }
     {
@@ -279,7 +279,7 @@ impl Layout {
         requires stages { is_within 2 32 parts.now.stages ≡ true }
         requires lane { is_within 2 64 parts.now.lane ≡ true }
         requires few { length parts.now.sidings ≤ 8 }
-        requires small { All IsSmall parts.now.sidings }
+        requires small { All IsSmallSiding parts.now.sidings }
         ensures { result ≡ plan_of parts.now }
     {
         let sidings = parts.sidings.as_slice();
@@ -303,7 +303,7 @@ impl Layout {
         ensures { result ≡ plain }
     {
         let none = StageSet::empty();
-        let memory = Laid {
+        let memory = AcceptedSiding {
             classes: ClassSet::of(&[Class::Memory]),
             launch: 4,
             recover: 6,

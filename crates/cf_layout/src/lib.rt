@@ -8,7 +8,7 @@ mod checking;
 mod class_set;
 mod classes;
 mod comparing;
-mod laid;
+mod accepted_siding;
 pub mod laws;
 mod laying;
 mod layout;

@@ -3,7 +3,7 @@ use Rattle.std.specs.Prelude.{ℕ, List, [], ◌∷◌, ◌++◌, Option, Some, 
 use Rattle.cf_bind.specs.declared.passenger.Passenger.{Passenger}
 use Rattle.cf_semantics.specs.state.Options.{on}
 use Rattle.cf_semantics.specs.state.Passengers.{missing}
-use Rattle.cf_passengers.specs.declared.asking.Asked.{Asked}
+use Rattle.cf_passengers.specs.declared.asking.RequestedSources.{RequestedSources}
 
 -- the register of the first source without a value
 abbrev pub first_unknown : Passenger → Option ℕ
@@ -15,5 +15,5 @@ listed_one None = []
 listed_one (Some r) = r ∷ []
 
 -- the registers that are requested, in order
-abbrev pub listed : Asked → List ℕ
+abbrev pub listed : RequestedSources → List ℕ
 listed asked = listed_one asked.first ++ listed_one asked.second

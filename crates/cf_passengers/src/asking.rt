@@ -11,7 +11,7 @@ use cf_bind::Passenger;
 
 /// The registers that are requested, at most two and each once.
 #[derive(Clone, Copy)]
-pub struct Asked {
+pub struct RequestedSources {
     /// The one to be requested first.
     pub first: Option<u8>,
 
@@ -19,7 +19,7 @@ pub struct Asked {
     pub second: Option<u8>,
 }
 
-impl Asked {
+impl RequestedSources {
     /// How many there are.
     #[inline(always)]
     pub fn count(self) -> u32
@@ -31,14 +31,14 @@ impl Asked {
 
 /// The registers of the sources without a value, each once, the first source's first.
 #[inline(always)]
-pub fn requests(p: &Passenger) -> Asked
+pub fn requests(p: &Passenger) -> RequestedSources
     ensures requests { listed result ≡ requested p.now }
     ensures first { (isa : InstructionSet) → IsPassenger isa p.now → IfSome result.first IsWritable }
     ensures second { (isa : InstructionSet) → IsPassenger isa p.now → IfSome result.second IsWritable }
 {
     let first = missing(p.src1);
     let second = missing(p.src2);
-    Asked {
+    RequestedSources {
         first,
         second: if second == first { None } else { second },
     }

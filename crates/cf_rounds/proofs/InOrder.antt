@@ -8,7 +8,7 @@ use Rattle.cf_semantics.specs.state.Options.{on}
 use Rattle.cf_semantics.specs.state.State.{State}
 use Rattle.cf_core.specs.Processors.{IsProcessor}
 use Rattle.cf_index.specs.Alone.{stands_alone}
-use Rattle.cf_index.specs.Sites.{AreThere}
+use Rattle.cf_index.specs.Sites.{HasSites}
 use Rattle.cf_index.proofs.There.{there_allowed}
 use Rattle.cf_rounds.specs.Rounds.{AreApart, AreCandidates, IsAllowed, IsRound, round_of, shares_any, taken}
 use Rattle.cf_rounds.proofs.Chosen.{apart_after, candidates_allowed, all_after, taken_more, unshared}
@@ -52,19 +52,19 @@ all_at test [] place mv h e = absurd (cc)
 all_at test (first ∷ moves) zero mv (h, hs) e = let same : first ≡ mv = cc in subst test same h
 all_at test (first ∷ moves) (suc place) mv (h, hs) e = all_at test moves place mv hs e
 
-pub candidate_there : (plan : Plan) (s : State) (moves : List Move) (place : ℕ) (mv : Move) → IsProcessor plan s → AreCandidates plan s moves → Some mv ≡ slice_get moves place → AreThere plan mv
+pub candidate_there : (plan : Plan) (s : State) (moves : List Move) (place : ℕ) (mv : Move) → IsProcessor plan s → AreCandidates plan s moves → Some mv ≡ slice_get moves place → HasSites plan mv
 candidate_there plan s moves place mv p are e = there_allowed plan s mv p (all_at (IsAllowed plan s) moves place mv (candidates_allowed plan s moves are) e)
 
 -- the moves that are taken so far: the layout has what they use, no two share a place, and with the candidates from the place on they make the round
 pub record TakenSoFar (plan : Plan) (moves round : List Move) (place : ℕ) : Type 0 where
-  pub there : AllByRecursion (AreThere plan) round
+  pub there : AllByRecursion (HasSites plan) round
   pub apart : AreApart plan round
   pub rest : taken plan round (drop place moves) ≡ taken plan [] moves
 
 pub taken_none : (plan : Plan) (moves round : List Move) → round ≡ [] → TakenSoFar plan moves round 0
 taken_none plan moves round none = subst (λ (r : List Move). TakenSoFar plan moves r 0) (sym none) (record { there = tt; apart = tt; rest = refl })
 
-pub taken_next : (plan : Plan) (moves round new : List Move) (place : ℕ) (mv : Move) → TakenSoFar plan moves round place → Some mv ≡ slice_get moves place → AreThere plan mv → new ≡ (if shares_any plan round mv then round else round ++ mv ∷ []) → TakenSoFar plan moves new (place + 1)
+pub taken_next : (plan : Plan) (moves round new : List Move) (place : ℕ) (mv : Move) → TakenSoFar plan moves round place → Some mv ≡ slice_get moves place → HasSites plan mv → new ≡ (if shares_any plan round mv then round else round ++ mv ∷ []) → TakenSoFar plan moves new (place + 1)
 unfolding taken
 taken_next plan moves round new place mv h e there is = subst (λ (r : List Move). TakenSoFar plan moves r (place + 1)) (sym is) (by (shares_any plan round mv) refl)
   where
@@ -73,12 +73,12 @@ taken_next plan moves round new place mv h e there is = subst (λ (r : List Move
 
     by : (b : Bool) → shares_any plan round mv ≡ b → TakenSoFar plan moves (if shares_any plan round mv then round else round ++ mv ∷ []) (place + 1)
     by true f = record {
-      there = subst (λ (r : List Move). AllByRecursion (AreThere plan) r) (sym (rw f refl)) h.there;
+      there = subst (λ (r : List Move). AllByRecursion (HasSites plan) r) (sym (rw f refl)) h.there;
       apart = subst (λ (r : List Move). AreApart plan r) (sym (rw f refl)) h.apart;
       rest = rest;
     }
     by false f = record {
-      there = subst (λ (r : List Move). AllByRecursion (AreThere plan) r) (sym (rw f refl)) (all_after (AreThere plan) round mv h.there there);
+      there = subst (λ (r : List Move). AllByRecursion (HasSites plan) r) (sym (rw f refl)) (all_after (HasSites plan) round mv h.there there);
       apart = subst (λ (r : List Move). AreApart plan r) (sym (rw f refl)) (apart_after plan round mv h.apart (unshared plan round mv f));
       rest = rest;
     }

@@ -20,7 +20,7 @@ use Rattle.cf_index.specs.Alone.{HasSidings}
 use Rattle.cf_index.specs.Sites.{shares, uses_place}
 use Rattle.cf_index.proofs.SharedSites.{shared_at}
 use Rattle.cf_run.specs.Made.{Made, moves_of}
-use Rattle.cf_run.specs.Moving.{Place}
+use Rattle.cf_run.specs.Moving.{RunPlace}
 use Rattle.cf_run.proofs.Ending.{Over, over-made}
 use Rattle.cf_rounds.specs.Firing.{MakesAll}
 use Rattle.cf_rounds.specs.Rounds.{IsRound}
@@ -98,9 +98,9 @@ stands_on plan limit m mv e round f is (inl low) = by (is_leave mv) refl
 stands_on plan limit m mv e round f is (inr (over, (one, rest))) = inr (level_stays plan limit m mv f.plain.0.allowed one over, rest)
 
 -- all of a round whose moves share no place
-free_level : (plan : Plan) (limit : ℕ) (trace : List Made) (now new : Place) → now.core.plan ≡ plan → IsFree plan now.core.state (moves_of trace) → MakesAll trace now new → Stands plan limit now.core.state (moves_of trace) → Over plan limit new.core.state
+free_level : (plan : Plan) (limit : ℕ) (trace : List Made) (now new : RunPlace) → now.core.plan ≡ plan → IsFree plan now.core.state (moves_of trace) → MakesAll trace now new → Stands plan limit now.core.state (moves_of trace) → Over plan limit new.core.state
 unfolding MakesAll
-free_level plan limit [] now new same f all stands = subst (λ (p : Place). Over plan limit p.core.state) (sym all) (stands_over plan limit now.core.state [] stands)
+free_level plan limit [] now new same f all stands = subst (λ (p : RunPlace). Over plan limit p.core.state) (sym all) (stands_over plan limit now.core.state [] stands)
 free_level plan limit (made ∷ trace) now new same f (there, one, is, all) stands =
     let makes : Makes now.core there.core made.move now.streams there.streams = one.makes.makes in
     let m : Moment = record { state = now.core.state; rest = makes.rest; output = [] } in
@@ -111,7 +111,7 @@ free_level plan limit (made ∷ trace) now new same f (there, one, is, all) stan
     (subst (λ (s : State). Stands plan limit s (moves_of trace)) state (stands_on plan limit m made.move made.event (moves_of trace) f event stands))
 
 -- a move that is made alone
-alone_level : (plan : Plan) (limit : ℕ) (mv : Move) (trace : List Made) (now new : Place) → now.core.plan ≡ plan → moves_of trace ≡ mv ∷ [] → MakesAll trace now new → now.core.state.retired < limit → Over plan limit new.core.state
+alone_level : (plan : Plan) (limit : ℕ) (mv : Move) (trace : List Made) (now new : RunPlace) → now.core.plan ≡ plan → moves_of trace ≡ mv ∷ [] → MakesAll trace now new → now.core.state.retired < limit → Over plan limit new.core.state
 unfolding MakesAll
 alone_level plan limit mv [] now new same is all low = absurd (cc)
 alone_level plan limit mv (made ∷ []) now new same is (there, one, at, all) low =
@@ -119,11 +119,11 @@ alone_level plan limit mv (made ∷ []) now new same is (there, one, at, all) lo
     let m : Moment = record { state = now.core.state; rest = makes.rest; output = [] } in
     let state : (next now.core.plan m made.move).state ≡ there.core.state = ap (λ (q : Moment). q.state) makes.is in
     let over : Over now.core.plan limit (next now.core.plan m made.move).state = over-made now.core.plan limit m made.move made.event one.makes.allowed one.makes.is_event low in
-    subst (λ (p : Plan). Over p limit new.core.state) same (subst (Over now.core.plan limit) (state ∙ ap (λ (p : Place). p.core.state) (sym all)) over)
+    subst (λ (p : Plan). Over p limit new.core.state) same (subst (Over now.core.plan limit) (state ∙ ap (λ (p : RunPlace). p.core.state) (sym all)) over)
 alone_level plan limit mv (made ∷ more ∷ trace) now new same is all low = absurd (cc)
 
 -- so it is after each round that is made below the limit
-pub round-level : (plan : Plan) (limit : ℕ) (trace : List Made) (now new : Place) → now.core.plan ≡ plan → HasSidings plan now.core.state → IsRound plan now.core.state (moves_of trace) → MakesAll trace now new → now.core.state.retired < limit → Over plan limit new.core.state
+pub round-level : (plan : Plan) (limit : ℕ) (trace : List Made) (now new : RunPlace) → now.core.plan ≡ plan → HasSidings plan now.core.state → IsRound plan now.core.state (moves_of trace) → MakesAll trace now new → now.core.state.retired < limit → Over plan limit new.core.state
 round-level plan limit trace now new same sidings r all low = by (round_form plan now.core.state (moves_of trace) sidings r)
   where
     by : Form plan now.core.state (moves_of trace) → Over plan limit new.core.state

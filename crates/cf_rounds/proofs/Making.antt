@@ -24,10 +24,10 @@ use Rattle.cf_index.specs.Sites.{shares, uses_place}
 use Rattle.cf_index.proofs.SharedSites.{shared_at}
 use Rattle.cf_index.proofs.Independence.{IsPlain}
 use Rattle.cf_report.specs.declared.tally.Tally.{Tally}
-use Rattle.cf_sched.specs.Paces.{Count, HasCounted}
+use Rattle.cf_sched.specs.Paces.{PaceCount, HasCounted}
 use Rattle.cf_run.specs.declared.answer.Ran.TheVariants as ran
 use Rattle.cf_run.specs.Made.{Made, moves_of, counted, raised_if}
-use Rattle.cf_run.specs.Moving.{Place, MakesAndShows, Does}
+use Rattle.cf_run.specs.Moving.{RunPlace, MakesAndShows, MoveDoes}
 use Rattle.cf_run.proofs.AfterOutput.{next-retired}
 use Rattle.cf_rounds.specs.declared.answer.Fired.{Fired}
 use Rattle.cf_rounds.specs.declared.answer.Fired.TheVariants.{Plain, Retired, Ended, ReadFault, WriteFault}
@@ -38,12 +38,12 @@ use Rattle.cf_rounds.proofs.Chosen.{Form, alone, together, round_form}
 use Rattle.cf_rounds.proofs.Free.{IsFree, free_step, sidings_stay}
 
 -- one more move
-all_more : (trace : List Made) (made : Made) (now mid new : Place) → MakesAll trace now mid → MakesAndShows show.Report made.move made.event mid new → made.state ≡ new.core.state → MakesAll (trace ++ made ∷ []) now new
+all_more : (trace : List Made) (made : Made) (now mid new : RunPlace) → MakesAll trace now mid → MakesAndShows show.Report made.move made.event mid new → made.state ≡ new.core.state → MakesAll (trace ++ made ∷ []) now new
 unfolding MakesAll
-all_more [] made now mid new h d e = (new, subst (λ (p : Place). MakesAndShows show.Report made.move made.event p new) h d, e, refl)
+all_more [] made now mid new h d e = (new, subst (λ (p : RunPlace). MakesAndShows show.Report made.move made.event p new) h d, e, refl)
 all_more (first ∷ trace) made now mid new (there, one, is, h) d e = (there, one, is, all_more trace made there mid new h d e)
 
-none_made : (now new : Place) → MakesAll [] now new → new ≡ now
+none_made : (now new : RunPlace) → MakesAll [] now new → new ≡ now
 unfolding MakesAll
 none_made now new h = h
 
@@ -217,7 +217,7 @@ left_first plan s round sidings r = by (round_form plan s round sidings r)
     by (together f) = (inl f, few_leaves plan round f.apart)
 
 -- the moves of a round so far
-pub record FiredSoFar (plan : Plan) (round : List Move) (start now : Place) (pace current : Count) (fired : Fired) (place : ℕ) : Type 0 where
+pub record FiredSoFar (plan : Plan) (round : List Move) (start now : RunPlace) (pace current : PaceCount) (fired : Fired) (place : ℕ) : Type 0 where
   pub trace : List Made
   pub moves : moves_of trace ≡ take place round
   pub makes : MakesAll trace start now
@@ -229,7 +229,7 @@ pub record FiredSoFar (plan : Plan) (round : List Move) (start now : Place) (pac
   pub retired : now.core.state.retired + leaves (drop place round) ≤ start.core.state.retired + 1
   pub counts : (now.tally.moves ≤ start.tally.moves + place) × (now.tally.meets ≤ start.tally.meets + place) × (now.tally.kills ≤ start.tally.kills + place) × (now.tally.dead ≤ start.tally.dead + place)
 
-pub fired-none : (start : Place) (pace : Count) (round : List Move) → IsProcessor start.core.plan start.core.state → HasSidings start.core.plan start.core.state → IsRound start.core.plan start.core.state round → FiredSoFar start.core.plan round start start pace pace Plain 0
+pub fired-none : (start : RunPlace) (pace : PaceCount) (round : List Move) → IsProcessor start.core.plan start.core.state → HasSidings start.core.plan start.core.state → IsRound start.core.plan start.core.state round → FiredSoFar start.core.plan round start start pace pace Plain 0
 unfolding MakesAll paced_by
 fired-none start pace round p sidings r =
     let first = left_first start.core.plan start.core.state round sidings r in
@@ -251,10 +251,10 @@ raised true n m place h = omega arith
 raised false n m place h = omega arith
 
 -- with the move whose turn it is, and what is seen of it
-pub fired-more : (plan : Plan) (round : List Move) (start now new : Place) (pace current later : Count) (fired answer : Fired) (place : ℕ) (mv : Move) (e : Event) (drained : Bool) → FiredSoFar plan round start now pace current fired place → Some mv ≡ slice_get round place
-    → Does show.Report mv now new (Ok e) → drained ≡ is_drained new.core.state → ((stages count : ℕ) → HasCounted stages count current → HasCounted stages (paced count mv e drained) later) → answer ≡ seen fired e
+pub fired-more : (plan : Plan) (round : List Move) (start now new : RunPlace) (pace current later : PaceCount) (fired answer : Fired) (place : ℕ) (mv : Move) (e : Event) (drained : Bool) → FiredSoFar plan round start now pace current fired place → Some mv ≡ slice_get round place
+    → MoveDoes show.Report mv now new (Ok e) → drained ≡ is_drained new.core.state → ((stages count : ℕ) → HasCounted stages count current → HasCounted stages (paced count mv e drained) later) → answer ≡ seen fired e
     → FiredSoFar plan round start new pace later answer (place + 1)
-unfolding Does
+unfolding MoveDoes
 fired-more plan round start now new pace current later fired answer place mv e drained h there d drained_is counts answer_is =
     let made : Made = record { move = mv; event = e; state = new.core.state } in
     let makes : Makes now.core new.core mv now.streams new.streams = d.makes.makes in
@@ -283,14 +283,14 @@ fired-more plan round start now new pace current later fired answer place mv e d
     }
 
 -- the move whose turn it is can be made
-pub fired-allowed : (plan : Plan) (round : List Move) (start now : Place) (pace current : Count) (fired : Fired) (place : ℕ) (mv : Move) → FiredSoFar plan round start now pace current fired place → Some mv ≡ slice_get round place → bar now.core.plan now.core.state mv ≡ None
+pub fired-allowed : (plan : Plan) (round : List Move) (start now : RunPlace) (pace current : PaceCount) (fired : Fired) (place : ℕ) (mv : Move) → FiredSoFar plan round start now pace current fired place → Some mv ≡ slice_get round place → bar now.core.plan now.core.state mv ≡ None
 fired-allowed plan round start now pace current fired place mv h there = ap (λ (l : Plan). bar l now.core.state mv) h.plan_is ∙ left_allowed plan now.core.state round place mv h.left there
 
 -- all moves of a round were made
 take_all : (round : List Move) (place : ℕ) → place ≡ length round → take place round ≡ round
 take_all round place e = rw e (take-length round)
 
-pub fired-all : (plan : Plan) (round : List Move) (start now : Place) (pace current : Count) (fired : Fired) (place : ℕ) → place ≡ length round → FiredSoFar plan round start now pace current fired place → Fires round start now pace current fired
+pub fired-all : (plan : Plan) (round : List Move) (start now : RunPlace) (pace current : PaceCount) (fired : Fired) (place : ℕ) → place ≡ length round → FiredSoFar plan round start now pace current fired place → Fires round start now pace current fired
 unfolding Fires
 fired-all plan round start now pace current Plain place all h = record { trace = h.trace; moves = h.moves ∙ take_all round place all; makes = h.makes; seen = h.seen; paced = h.paced }
 fired-all plan round start now pace current (Retired line) place all h = record { trace = h.trace; moves = h.moves ∙ take_all round place all; makes = h.makes; seen = h.seen; paced = h.paced }
@@ -299,18 +299,18 @@ fired-all plan round start now pace current ReadFault place all h = absurd h.see
 fired-all plan round start now pace current WriteFault place all h = absurd h.seen
 
 -- the input or the output failed its call
-pub fired-unread : (plan : Plan) (round : List Move) (start now new : Place) (pace current : Count) (fired : Fired) (place : ℕ) (mv : Move) → FiredSoFar plan round start now pace current fired place → Some mv ≡ slice_get round place → Does show.Report mv now new (Err ran.ReadFault)
+pub fired-unread : (plan : Plan) (round : List Move) (start now new : RunPlace) (pace current : PaceCount) (fired : Fired) (place : ℕ) (mv : Move) → FiredSoFar plan round start now pace current fired place → Some mv ≡ slice_get round place → MoveDoes show.Report mv now new (Err ran.ReadFault)
     → Fires round start new pace current ReadFault
-unfolding Fires Does
+unfolding Fires MoveDoes
 fired-unread plan round start now new pace current fired place mv h there d =
     let alone = left_serves plan now.core.state round place mv h.left there d.0.serves in
     let start_is = h.first alone.0 in
-    (alone.1, subst (λ (p : Place). Does show.Report Serve p new (Err ran.ReadFault)) start_is.0 (subst (λ (m : Move). Does show.Report m now new (Err ran.ReadFault)) d.0.serves d), start_is.1)
+    (alone.1, subst (λ (p : RunPlace). MoveDoes show.Report Serve p new (Err ran.ReadFault)) start_is.0 (subst (λ (m : Move). MoveDoes show.Report m now new (Err ran.ReadFault)) d.0.serves d), start_is.1)
 
-pub fired-unwritten : (plan : Plan) (round : List Move) (start now new : Place) (pace current : Count) (fired : Fired) (place : ℕ) (mv : Move) → FiredSoFar plan round start now pace current fired place → Some mv ≡ slice_get round place → Does show.Report mv now new (Err ran.WriteFault)
+pub fired-unwritten : (plan : Plan) (round : List Move) (start now new : RunPlace) (pace current : PaceCount) (fired : Fired) (place : ℕ) (mv : Move) → FiredSoFar plan round start now pace current fired place → Some mv ≡ slice_get round place → MoveDoes show.Report mv now new (Err ran.WriteFault)
     → Fires round start new pace current WriteFault
-unfolding Fires Does
+unfolding Fires MoveDoes
 fired-unwritten plan round start now new pace current fired place mv h there d =
     let alone = left_serves plan now.core.state round place mv h.left there d.0.serves in
     let start_is = h.first alone.0 in
-    (alone.1, subst (λ (p : Place). Does show.Report Serve p new (Err ran.WriteFault)) start_is.0 (subst (λ (m : Move). Does show.Report m now new (Err ran.WriteFault)) d.0.serves d), start_is.1)
+    (alone.1, subst (λ (p : RunPlace). MoveDoes show.Report Serve p new (Err ran.WriteFault)) start_is.0 (subst (λ (m : Move). MoveDoes show.Report m now new (Err ran.WriteFault)) d.0.serves d), start_is.1)

@@ -21,7 +21,7 @@ use Rattle.cf_core.specs.Stepping.{Makes}
 use Rattle.cf_report.specs.declared.tally.Tally.{Tally}
 use Rattle.cf_index.specs.Alone.{HasSidings}
 use Rattle.cf_index.proofs.There.{has_sidings}
-use Rattle.cf_sched.specs.Paces.{Count, HasCounted}
+use Rattle.cf_sched.specs.Paces.{PaceCount, HasCounted}
 use Rattle.cf_run.specs.declared.answer.Ran.{Ran as Answer}
 use Rattle.cf_run.specs.declared.answer.Ran.TheVariants as ran
 use Rattle.cf_run.specs.declared.answer.Scripted.TheVariants.{Ran}
@@ -29,7 +29,7 @@ use Rattle.cf_run.specs.Ending.{EndsAlike, EndsAsMachine, EndsSequentially}
 use Rattle.cf_run.specs.Going.{moment_of, Leads}
 use Rattle.cf_run.specs.Headline.{Gets, RunsSequentially, StopsAt}
 use Rattle.cf_run.specs.Made.{Made, moves_of}
-use Rattle.cf_run.specs.Moving.{Place, Does}
+use Rattle.cf_run.specs.Moving.{RunPlace, MoveDoes}
 use Rattle.cf_run.specs.Policies.{IsOpened, most_moves}
 use Rattle.cf_run.specs.Reaching.{GoesOn, IsOver, Reaches, no_tally}
 use Rattle.cf_run.proofs.Arrived.{begins}
@@ -46,7 +46,7 @@ use Rattle.cf_rounds.specs.declared.answer.Fired.TheVariants as fault
 use Rattle.cf_rounds.specs.Firing.{FiresAll, Fires, MakesAll, input_fired, output_fired, paced_by}
 use Rattle.cf_rounds.specs.Rounds.{AreCandidates, IsRound, round_of}
 use Rattle.cf_rounds.specs.Running.{InRounds, FailsThere, RunsRounds, StopsRounds, all_of, ran_of, state_after}
-use Rattle.cf_rounds.specs.Turns.{IsOffered, Turns, finish_with, input_turned, output_turned}
+use Rattle.cf_rounds.specs.RoundTurns.{IsOffered, RoundTurns, finish_with, input_turned, output_turned}
 use Rattle.cf_rounds.proofs.Level.{round-level}
 use Rattle.cf_rounds.proofs.Making.{leaves, falls, left_first}
 use Rattle.cf_rounds.proofs.Pacing.{rounds_paced}
@@ -74,21 +74,21 @@ rounds_more plan limit count s [] held end made (held_is, end_is) goes is =
 rounds_more plan limit count s (first ∷ rounds) held end made (goes_on, first_is, h) goes is = (goes_on, first_is, rounds_more plan limit (paced_by count first) (state_after s first) rounds held end made h goes is)
 
 -- the state after the moves
-state_there : (trace : List Made) (now new : Place) → MakesAll trace now new → state_after now.core.state trace ≡ new.core.state
+state_there : (trace : List Made) (now new : RunPlace) → MakesAll trace now new → state_after now.core.state trace ≡ new.core.state
 unfolding MakesAll
-state_there [] now new h = ap (λ (p : Place). p.core.state) (sym h)
+state_there [] now new h = ap (λ (p : RunPlace). p.core.state) (sym h)
 state_there (made ∷ trace) now new (there, one, is, h) = ap (λ (s : State). state_after s trace) is ∙ state_there trace there new h
 
 -- the moves of a round after those of a run
-record Reached (limit : ℕ) (start new : Place) (before trace : List Made) : Type 0 where
+record Reached (limit : ℕ) (start new : RunPlace) (before trace : List Made) : Type 0 where
   reached : Reaches (limit + 1) show.Report start new
   all : reached.trace ≡ before ++ trace
   within : new.core.state.retired ≤ limit
 
-reach_all : (limit : ℕ) (start now new : Place) (trace : List Made) (h : Reaches (limit + 1) show.Report start now) → MakesAll trace now new → now.core.state.retired + leaves (moves_of trace) ≤ limit → Reached limit start new h.trace trace
+reach_all : (limit : ℕ) (start now new : RunPlace) (trace : List Made) (h : Reaches (limit + 1) show.Report start now) → MakesAll trace now new → now.core.state.retired + leaves (moves_of trace) ≤ limit → Reached limit start new h.trace trace
 unfolding MakesAll
 reach_all limit start now new [] h all low =
-    subst (λ (p : Place). Reached limit start p h.trace []) (sym all) (record { reached = h; all = sym (append-nil h.trace); within = omega (arith, low) })
+    subst (λ (p : RunPlace). Reached limit start p h.trace []) (sym all) (record { reached = h; all = sym (append-nil h.trace); within = omega (arith, low) })
 reach_all limit start now new (made ∷ trace) h (there, one, is, all) low =
     let below : now.core.state.retired < limit + 1 = omega (arith, low) in
     let made_there : Made = record { move = made.move; event = made.event; state = there.core.state } in
@@ -107,7 +107,7 @@ reach_all limit start now new (made ∷ trace) h (there, one, is, all) low =
     }
 
 -- the rounds so far lead from one place to another
-pub record Comes (limit : ℕ) (start now : Place) (pace : Count) (number : ℕ) : Type 0 where
+pub record Comes (limit : ℕ) (start now : RunPlace) (pace : PaceCount) (number : ℕ) : Type 0 where
   pub reached : Reaches (limit + 1) show.Report start now
   pub rounds : List (List Made)
   pub are : reached.trace ≡ all_of rounds
@@ -119,7 +119,7 @@ pub record Comes (limit : ℕ) (start now : Place) (pace : Count) (number : ℕ)
   pub within : now.core.state.retired ≤ limit
   pub over : Over start.core.plan limit now.core.state
 
-pub comes-first : (limit : ℕ) (start : Place) (pace : Count) (number : ℕ) → start.tally ≡ no_tally → HasCounted start.core.plan.stages 0 pace → number ≡ 0 → start.core.state.retired ≤ limit → Over start.core.plan limit start.core.state → Comes limit start start pace number
+pub comes-first : (limit : ℕ) (start : RunPlace) (pace : PaceCount) (number : ℕ) → start.tally ≡ no_tally → HasCounted start.core.plan.stages 0 pace → number ≡ 0 → start.core.state.retired ≤ limit → Over start.core.plan limit start.core.state → Comes limit start start pace number
 unfolding InRounds
 comes-first limit start pace number none paced zero_rounds within over = record {
   reached = reached-none (limit + 1) show.Report start none;
@@ -135,10 +135,10 @@ comes-first limit start pace number none paced zero_rounds within over = record 
 }
 
 -- the layout stays
-pub same_plan : (limit : ℕ) (start now : Place) (pace : Count) (number : ℕ) → Comes limit start now pace number → now.core.plan ≡ start.core.plan
+pub same_plan : (limit : ℕ) (start now : RunPlace) (pace : PaceCount) (number : ℕ) → Comes limit start now pace number → now.core.plan ≡ start.core.plan
 same_plan limit start now pace number c = ap (λ (p : Processor). p.plan) c.reached.core
 
-chosen_here : (limit : ℕ) (start now : Place) (pace : Count) (number : ℕ) (moves round : List Move) → (c : Comes limit start now pace number) → IsOffered now pace moves round → round ≡ round_of start.core.plan now.core.state (offered start.core.plan c.held now.core.state)
+chosen_here : (limit : ℕ) (start now : RunPlace) (pace : PaceCount) (number : ℕ) (moves round : List Move) → (c : Comes limit start now pace number) → IsOffered now pace moves round → round ≡ round_of start.core.plan now.core.state (offered start.core.plan c.held now.core.state)
 chosen_here limit start now pace number moves round c o =
     let plan : now.core.plan ≡ start.core.plan = same_plan limit start now pace number c in
     let counted : HasCounted now.core.plan.stages c.held pace = subst (λ (l : Plan). HasCounted l.stages c.held pace) (sym plan) c.paced in
@@ -146,9 +146,9 @@ chosen_here limit start now pace number moves round c o =
     ∙ ap (λ (l : Plan). round_of l now.core.state (offered l c.held now.core.state)) plan
 
 -- how many moves were counted
-count_all : (trace : List Made) (now new : Place) → MakesAll trace now new → new.tally.moves ≡ now.tally.moves + length trace
+count_all : (trace : List Made) (now new : RunPlace) → MakesAll trace now new → new.tally.moves ≡ now.tally.moves + length trace
 unfolding MakesAll
-count_all [] now new h = omega (arith, ap (λ (p : Place). p.tally.moves) h)
+count_all [] now new h = omega (arith, ap (λ (p : RunPlace). p.tally.moves) h)
 count_all (made ∷ trace) now new (there, one, is, h) = omega (arith, count_all trace there new h, ap (λ (t : Tally). t.moves) one.makes.tally)
 
 moves_length : (trace : List Made) → length (moves_of trace) ≡ length trace
@@ -156,7 +156,7 @@ moves_length [] = refl
 moves_length (made ∷ trace) = ap suc (moves_length trace)
 
 -- one more round
-pub comes-more : (limit : ℕ) (start now new : Place) (pace later : Count) (number : ℕ) (moves round : List Move) (fired : Fired) → Comes limit start now pace number → GoesOn limit now.core.state → IsOffered now pace moves round → FiresAll round now new pace later fired → Comes limit start new later (number + 1)
+pub comes-more : (limit : ℕ) (start now new : RunPlace) (pace later : PaceCount) (number : ℕ) (moves round : List Move) (fired : Fired) → Comes limit start now pace number → GoesOn limit now.core.state → IsOffered now pace moves round → FiresAll round now new pace later fired → Comes limit start new later (number + 1)
 comes-more limit start now new pace later number moves round fired c goes o f =
     let plan : Plan = start.core.plan in
     let same : now.core.plan ≡ plan = same_plan limit start now pace number c in
@@ -182,7 +182,7 @@ comes-more limit start now new pace later number moves round fired c goes o f =
     }
 
 -- the rounds so far are a run under the hold rule
-comes_paced : (limit : ℕ) (start now : Place) (pace : Count) (number : ℕ) → IsAccepted start.core.plan → length start.core.state.regs ≡ 32 → (o : IsOpened start.core) → (c : Comes limit start now pace number)
+comes_paced : (limit : ℕ) (start now : RunPlace) (pace : PaceCount) (number : ℕ) → IsAccepted start.core.plan → length start.core.state.regs ≡ 32 → (o : IsOpened start.core) → (c : Comes limit start now pace number)
     → (written : List Line) × PacesTo start.core.plan 0 (start_on start.core.plan (machine_of start.core o c.reached.rest)) (moves_of c.reached.trace) c.reached.last written
 comes_paced limit start now pace number accepted wide o c =
     let plan : Plan = start.core.plan in
@@ -196,32 +196,32 @@ comes_paced limit start now pace number accepted wide o c =
     (paces.0, subst (λ (t : List Made). PacesTo plan 0 (start_on plan x) (moves_of t) c.reached.last paces.0) (sym c.are) paces.1)
 
 -- so they have a bounded number of moves
-pub comes-bounded : (limit : ℕ) (start now : Place) (pace : Count) (number : ℕ) → IsAccepted start.core.plan → length start.core.state.regs ≡ 32 → IsOpened start.core → Comes limit start now pace number → now.tally.moves ≤ most_moves start.core.plan limit
+pub comes-bounded : (limit : ℕ) (start now : RunPlace) (pace : PaceCount) (number : ℕ) → IsAccepted start.core.plan → length start.core.state.regs ≡ 32 → IsOpened start.core → Comes limit start now pace number → now.tally.moves ≤ most_moves start.core.plan limit
 comes-bounded limit start now pace number accepted wide o c =
     let paces = comes_paced limit start now pace number accepted wide o c in
     let bound = paced-bounded (limit + 1) show.Report start now accepted wide o c.reached paces.0 paces.1 in
     let grows = bound_grows start.core.plan (now.core.state.retired - start.core.state.retired) limit (omega (arith, c.within)) in
     omega (arith, bound, grows)
 
-pub comes-small : (limit : ℕ) (start now : Place) (pace : Count) (number : ℕ) → IsAccepted start.core.plan → length start.core.state.regs ≡ 32 → IsOpened start.core → limit ≤ most_limit → Comes limit start now pace number → now.tally.moves + 1 < 2 ^ 63
+pub comes-small : (limit : ℕ) (start now : RunPlace) (pace : PaceCount) (number : ℕ) → IsAccepted start.core.plan → length start.core.state.regs ≡ 32 → IsOpened start.core → limit ≤ most_limit → Comes limit start now pace number → now.tally.moves + 1 < 2 ^ 63
 comes-small limit start now pace number accepted wide o few c =
     let bound = comes-bounded limit start now pace number accepted wide o c in
     let small = bound_small start.core.plan limit accepted few in
     omega (arith, bound, small)
 
 -- and while the program goes on there is a candidate
-pub comes-offered : (limit : ℕ) (start now : Place) (pace : Count) (number : ℕ) → IsAccepted start.core.plan → length start.core.state.regs ≡ 32 → IsOpened start.core → Comes limit start now pace number → now.core.state.ending ≡ None → (count : ℕ) → 0 < length (offered now.core.plan count now.core.state)
+pub comes-offered : (limit : ℕ) (start now : RunPlace) (pace : PaceCount) (number : ℕ) → IsAccepted start.core.plan → length start.core.state.regs ≡ 32 → IsOpened start.core → Comes limit start now pace number → now.core.state.ending ≡ None → (count : ℕ) → 0 < length (offered now.core.plan count now.core.state)
 comes-offered limit start now pace number accepted wide o c unended count =
     let paces = comes_paced limit start now pace number accepted wide o c in
     omega (arith, paced-offered (limit + 1) show.Report start now accepted wide o c.reached paces.0 paces.1 unended count)
 
 -- the pace has counted the Issue moves
-pub comes-counted : (limit : ℕ) (start now : Place) (pace : Count) (number : ℕ) → Comes limit start now pace number → (count : ℕ) × HasCounted now.core.plan.stages count pace
+pub comes-counted : (limit : ℕ) (start now : RunPlace) (pace : PaceCount) (number : ℕ) → Comes limit start now pace number → (count : ℕ) × HasCounted now.core.plan.stages count pace
 comes-counted limit start now pace number c =
     (c.held, subst (λ (l : Plan). HasCounted l.stages c.held pace) (sym (same_plan limit start now pace number c)) c.paced)
 
 -- each round has a move, so fewer are left
-pub comes-nearer : (limit : ℕ) (start now new : Place) (pace later : Count) (number : ℕ) (moves round : List Move) (fired : Fired) → IsAccepted start.core.plan → length start.core.state.regs ≡ 32 → IsOpened start.core → Comes limit start now pace number → GoesOn limit now.core.state → IsOffered now pace moves round → FiresAll round now new pace later fired
+pub comes-nearer : (limit : ℕ) (start now new : RunPlace) (pace later : PaceCount) (number : ℕ) (moves round : List Move) (fired : Fired) → IsAccepted start.core.plan → length start.core.state.regs ≡ 32 → IsOpened start.core → Comes limit start now pace number → GoesOn limit now.core.state → IsOffered now pace moves round → FiresAll round now new pace later fired
     → most_moves start.core.plan limit - new.tally.moves < most_moves start.core.plan limit - now.tally.moves
 comes-nearer limit start now new pace later number moves round fired accepted wide o c goes offer f =
     let bound = comes-bounded limit start new later (number + 1) accepted wide o (comes-more limit start now new pace later number moves round fired c goes offer f) in
@@ -231,7 +231,7 @@ comes-nearer limit start now new pace later number moves round fired accepted wi
     less most now new n e some h = omega (arith, e, some, h)
 
 -- the run stops where it has arrived
-pub comes-runs : (limit : ℕ) (start now new : Place) (pace : Count) (number : ℕ) (answer : Clocked) → (c : Comes limit start now pace number) → StopsRounds limit c.held now new answer → RunsRounds limit start new number answer
+pub comes-runs : (limit : ℕ) (start now new : RunPlace) (pace : PaceCount) (number : ℕ) (answer : Clocked) → (c : Comes limit start now pace number) → StopsRounds limit c.held now new answer → RunsRounds limit start new number answer
 comes-runs limit start now new pace number answer c stops = record {
   now = now;
   reaches = c.reached;
@@ -244,7 +244,7 @@ comes-runs limit start now new pace number answer c stops = record {
 }
 
 -- the call of the next round failed
-pub fails-there : (limit : ℕ) (start now new : Place) (pace : Count) (number : ℕ) (moves round : List Move) (answer : Answer) → (c : Comes limit start now pace number) → GoesOn limit now.core.state → IsOffered now pace moves round → round ≡ Serve ∷ [] → Does show.Report Serve now new (Err answer)
+pub fails-there : (limit : ℕ) (start now new : RunPlace) (pace : PaceCount) (number : ℕ) (moves round : List Move) (answer : Answer) → (c : Comes limit start now pace number) → GoesOn limit now.core.state → IsOffered now pace moves round → round ≡ Serve ∷ [] → MoveDoes show.Report Serve now new (Err answer)
     → FailsThere limit c.held now new answer
 fails-there limit start now new pace number moves round answer c goes o serves does =
     let plan : now.core.plan ≡ start.core.plan = same_plan limit start now pace number c in
@@ -255,7 +255,7 @@ fails-there limit start now new pace number moves round answer c goes o serves d
     }
 
 -- and the run is a run of the sequential machine
-rounds_come : (limit : ℕ) (start new : Place) (number : ℕ) (answer : Clocked) → IsAccepted start.core.plan → (r : RunsRounds limit start new number answer) → ComesTo (limit + 1) show.Report start (moves_of r.reaches.trace) new (Ran (ran_of answer))
+rounds_come : (limit : ℕ) (start new : RunPlace) (number : ℕ) (answer : Clocked) → IsAccepted start.core.plan → (r : RunsRounds limit start new number answer) → ComesTo (limit + 1) show.Report start (moves_of r.reaches.trace) new (Ran (ran_of answer))
 unfolding StopsAt Gets
 rounds_come limit start new number (Exit status) accepted r = comes_over (limit + 1) show.Report start r.now new (ran.Exit status) r.reaches r.stops.0 r.stops.1
 rounds_come limit start new number (Trap cause pc detail) accepted r = comes_over (limit + 1) show.Report start r.now new (ran.Trap cause pc detail) r.reaches r.stops.0 r.stops.1
@@ -263,24 +263,24 @@ rounds_come limit start new number Limit accepted r = comes_here (limit + 1) sho
 rounds_come limit start new number ReadFault accepted r = comes_unread (limit + 1) show.Report start r.now new Serve r.reaches r.stops.does
 rounds_come limit start new number WriteFault accepted r = comes_unwritten (limit + 1) show.Report start r.now new Serve accepted r.reaches r.stops.does
 
-pub rounds-sequential : (limit : ℕ) (start new : Place) (number : ℕ) (answer : Clocked) → IsAccepted start.core.plan → length start.core.state.regs ≡ 32 → (r : RunsRounds limit start new number answer) → RunsSequentially show.Report (moves_of r.reaches.trace) start new (Ran (ran_of answer))
+pub rounds-sequential : (limit : ℕ) (start new : RunPlace) (number : ℕ) (answer : Clocked) → IsAccepted start.core.plan → length start.core.state.regs ≡ 32 → (r : RunsRounds limit start new number answer) → RunsSequentially show.Report (moves_of r.reaches.trace) start new (Ran (ran_of answer))
 rounds-sequential limit start new number answer accepted wide r =
     comes_sequentially (limit + 1) show.Report start new (moves_of r.reaches.trace) (Ran (ran_of answer)) accepted wide (rounds_come limit start new number answer accepted r)
 
 -- what is offered, and its round
-pub offers : (now : Place) (pace : Count) (moves round : List Move) → IsProcessor now.core.plan now.core.state → ((count : ℕ) → HasCounted now.core.plan.stages count pace → moves ≡ offered now.core.plan count now.core.state) → round ≡ round_of now.core.plan now.core.state moves → IsRound now.core.plan now.core.state round → 0 < length round → IsOffered now pace moves round
+pub offers : (now : RunPlace) (pace : PaceCount) (moves round : List Move) → IsProcessor now.core.plan now.core.state → ((count : ℕ) → HasCounted now.core.plan.stages count pace → moves ≡ offered now.core.plan count now.core.state) → round ≡ round_of now.core.plan now.core.state moves → IsRound now.core.plan now.core.state round → 0 < length round → IsOffered now pace moves round
 offers now pace moves round p are is round_is some = record { moves_are = are; round_is = is; is_round = round_is; sidings = has_sidings now.core.plan now.core.state p; some = some }
 
 -- so its moves are candidates, and there is one
-pub offered-candidates : (plan : Plan) (s : State) (pace : Count) (moves : List Move) → (count : ℕ) × HasCounted plan.stages count pace → ((count : ℕ) → HasCounted plan.stages count pace → moves ≡ offered plan count s) → AreCandidates plan s moves
+pub offered-candidates : (plan : Plan) (s : State) (pace : PaceCount) (moves : List Move) → (count : ℕ) × HasCounted plan.stages count pace → ((count : ℕ) → HasCounted plan.stages count pace → moves ≡ offered plan count s) → AreCandidates plan s moves
 offered-candidates plan s pace moves counted are = subst (AreCandidates plan s) (sym (are counted.0 counted.1)) (offered_are plan counted.0 s)
 
-pub offered-some : (plan : Plan) (s : State) (pace : Count) (moves : List Move) → (count : ℕ) × HasCounted plan.stages count pace → ((count : ℕ) → HasCounted plan.stages count pace → moves ≡ offered plan count s) → ((count : ℕ) → 0 < length (offered plan count s)) → 0 < length moves
+pub offered-some : (plan : Plan) (s : State) (pace : PaceCount) (moves : List Move) → (count : ℕ) × HasCounted plan.stages count pace → ((count : ℕ) → HasCounted plan.stages count pace → moves ≡ offered plan count s) → ((count : ℕ) → 0 < length (offered plan count s)) → 0 < length moves
 offered-some plan s pace moves counted are some = omega (arith, some counted.0, ap length (are counted.0 counted.1))
 
 -- the run is over before the round
-pub turned-over : (limit : ℕ) (now : Place) (pace : Count) (answer : Clocked) → IsOver limit now.core.state (ran_of answer) → Turns limit now now pace pace (Some answer)
-unfolding Turns
+pub turned-over : (limit : ℕ) (now : RunPlace) (pace : PaceCount) (answer : Clocked) → IsOver limit now.core.state (ran_of answer) → RoundTurns limit now now pace pace (Some answer)
+unfolding RoundTurns
 turned-over limit now pace (Exit status) over = (over, refl)
 turned-over limit now pace (Trap cause pc detail) over = (over, refl)
 turned-over limit now pace Limit over = (over, refl)
@@ -317,11 +317,11 @@ turned-written (Ended end) = refl
 turned-written fault.ReadFault = refl
 turned-written fault.WriteFault = refl
 
-pub turned : (limit : ℕ) (now new : Place) (pace later : Count) (moves round : List Move) (fired : Fired) (turn : Option Clocked) → GoesOn limit now.core.state → IsOffered now pace moves round → Fires round now new pace later fired → turn ≡ finish_with fired → Turns limit now new pace later turn
-unfolding Turns Fires
-turned limit now new pace later moves round fired turn goes o f is = subst (λ (t : Option Clocked). Turns limit now new pace later t) (sym is) (by fired f)
+pub turned : (limit : ℕ) (now new : RunPlace) (pace later : PaceCount) (moves round : List Move) (fired : Fired) (turn : Option Clocked) → GoesOn limit now.core.state → IsOffered now pace moves round → Fires round now new pace later fired → turn ≡ finish_with fired → RoundTurns limit now new pace later turn
+unfolding RoundTurns Fires
+turned limit now new pace later moves round fired turn goes o f is = subst (λ (t : Option Clocked). RoundTurns limit now new pace later t) (sym is) (by fired f)
   where
-    by : (fired : Fired) → Fires round now new pace later fired → Turns limit now new pace later (finish_with fired)
+    by : (fired : Fired) → Fires round now new pace later fired → RoundTurns limit now new pace later (finish_with fired)
     by Plain f = record { goes = goes; moves = moves; round = round; offer = o; fired = Plain; fires = f }
     by (Retired line) f = record { goes = goes; moves = moves; round = round; offer = o; fired = Retired line; fires = f }
     by (Ended end) f = record { goes = goes; moves = moves; round = round; offer = o; fired = Ended end; fires = f }
@@ -329,18 +329,18 @@ turned limit now new pace later moves round fired turn goes o f is = subst (λ (
     by fault.WriteFault f = record { goes = goes; moves = moves; round = round; offer = o; serves = f.0; does = f.1 }
 
 -- a turn that goes on
-pub comes-on : (limit : ℕ) (start now new : Place) (pace later : Count) (number : ℕ) → Comes limit start now pace number → Turns limit now new pace later None → Comes limit start new later (number + 1)
-unfolding Turns
+pub comes-on : (limit : ℕ) (start now new : RunPlace) (pace later : PaceCount) (number : ℕ) → Comes limit start now pace number → RoundTurns limit now new pace later None → Comes limit start new later (number + 1)
+unfolding RoundTurns
 comes-on limit start now new pace later number c t = comes-more limit start now new pace later number t.moves t.round t.fired c t.goes t.offer t.fires
 
-pub comes-closer : (limit : ℕ) (start now new : Place) (pace later : Count) (number : ℕ) → IsAccepted start.core.plan → length start.core.state.regs ≡ 32 → IsOpened start.core → Comes limit start now pace number → Turns limit now new pace later None
+pub comes-closer : (limit : ℕ) (start now new : RunPlace) (pace later : PaceCount) (number : ℕ) → IsAccepted start.core.plan → length start.core.state.regs ≡ 32 → IsOpened start.core → Comes limit start now pace number → RoundTurns limit now new pace later None
     → most_moves start.core.plan limit - new.tally.moves < most_moves start.core.plan limit - now.tally.moves
-unfolding Turns
+unfolding RoundTurns
 comes-closer limit start now new pace later number accepted wide o c t = comes-nearer limit start now new pace later number t.moves t.round t.fired accepted wide o c t.goes t.offer t.fires
 
 -- a turn that ends the run
-pub comes-end : (limit : ℕ) (start now new : Place) (pace later : Count) (number : ℕ) (answer : Clocked) → Comes limit start now pace number → Turns limit now new pace later (Some answer) → RunsRounds limit start new number answer
-unfolding Turns
+pub comes-end : (limit : ℕ) (start now new : RunPlace) (pace later : PaceCount) (number : ℕ) (answer : Clocked) → Comes limit start now pace number → RoundTurns limit now new pace later (Some answer) → RunsRounds limit start new number answer
+unfolding RoundTurns
 comes-end limit start now new pace later number (Exit status) c t = comes-runs limit start now new pace number (Exit status) c t
 comes-end limit start now new pace later number (Trap cause pc detail) c t = comes-runs limit start now new pace number (Trap cause pc detail) c t
 comes-end limit start now new pace later number Limit c t = comes-runs limit start now new pace number Limit c t
@@ -348,28 +348,28 @@ comes-end limit start now new pace later number ReadFault c t = comes-runs limit
 comes-end limit start now new pace later number WriteFault c t = comes-runs limit start now new pace number WriteFault c (fails-there limit start now new pace number t.moves t.round ran.WriteFault c t.goes t.offer t.serves t.does)
 
 -- no move was counted where the run stops but those of the rounds
-pub end-bounded : (limit : ℕ) (start now new : Place) (pace later : Count) (number : ℕ) (answer : Clocked) → IsAccepted start.core.plan → length start.core.state.regs ≡ 32 → IsOpened start.core → Comes limit start now pace number → Turns limit now new pace later (Some answer)
+pub end-bounded : (limit : ℕ) (start now new : RunPlace) (pace later : PaceCount) (number : ℕ) (answer : Clocked) → IsAccepted start.core.plan → length start.core.state.regs ≡ 32 → IsOpened start.core → Comes limit start now pace number → RoundTurns limit now new pace later (Some answer)
     → new.tally.moves ≤ most_moves start.core.plan limit
-unfolding Turns Does
+unfolding RoundTurns MoveDoes
 end-bounded limit start now new pace later number answer accepted wide o c t = omega (arith, comes-bounded limit start now pace number accepted wide o c, same answer t)
   where
-    same : (answer : Clocked) → Turns limit now new pace later (Some answer) → new.tally.moves ≡ now.tally.moves
-    same (Exit status) t = ap (λ (p : Place). p.tally.moves) t.1
-    same (Trap cause pc detail) t = ap (λ (p : Place). p.tally.moves) t.1
-    same Limit t = ap (λ (p : Place). p.tally.moves) t.1
+    same : (answer : Clocked) → RoundTurns limit now new pace later (Some answer) → new.tally.moves ≡ now.tally.moves
+    same (Exit status) t = ap (λ (p : RunPlace). p.tally.moves) t.1
+    same (Trap cause pc detail) t = ap (λ (p : RunPlace). p.tally.moves) t.1
+    same Limit t = ap (λ (p : RunPlace). p.tally.moves) t.1
     same ReadFault t = ap (λ (a : Tally). a.moves) t.does.0.tally
     same WriteFault t = ap (λ (a : Tally). a.moves) t.does.0.tally
 
 -- and ends as that machine does
-pub rounds-end : (limit : ℕ) (start now new : Place) (pace later : Count) (number : ℕ) (answer : Clocked) → IsAccepted start.core.plan → length start.core.state.regs ≡ 32 → Comes limit start now pace number → Turns limit now new pace later (Some answer) → EndsSequentially limit start new (Ran (ran_of answer))
-unfolding EndsSequentially Turns
+pub rounds-end : (limit : ℕ) (start now new : RunPlace) (pace later : PaceCount) (number : ℕ) (answer : Clocked) → IsAccepted start.core.plan → length start.core.state.regs ≡ 32 → Comes limit start now pace number → RoundTurns limit now new pace later (Some answer) → EndsSequentially limit start new (Ran (ran_of answer))
+unfolding EndsSequentially RoundTurns
 rounds-end limit start now new pace later number answer accepted wide c turns plan hart opens = by answer turns
   where
     ends : (end : Answer) → new ≡ now → IsOver limit now.core.state end → EndsAsMachine limit hart start new end
     ends end same over = same_place limit hart start now new end same
         (ends-level (limit + 1) limit show.Report start now hart end accepted (ap length (sym (opened_regs start.core plan hart opens)) ∙ wide) (opened_here start.core plan hart opens) c.reached c.over over)
 
-    by : (answer : Clocked) → Turns limit now new pace later (Some answer) → EndsAlike limit hart start new (Ran (ran_of answer))
+    by : (answer : Clocked) → RoundTurns limit now new pace later (Some answer) → EndsAlike limit hart start new (Ran (ran_of answer))
     by (Exit status) t = ends (ran.Exit status) t.1 t.0
     by (Trap cause pc detail) t = ends (ran.Trap cause pc detail) t.1 t.0
     by Limit t = ends ran.Limit t.1 t.0

@@ -8,18 +8,18 @@ use Rattle.cf_semantics.specs.declared.event.Event.{Event}
 use Rattle.cf_semantics.specs.declared.event.Event.TheVariants as event
 use Rattle.cf_semantics.specs.state.Drained.{is_drained}
 use Rattle.cf_semantics.specs.moves.Holding.{paced}
-use Rattle.cf_sched.specs.Paces.{Count, HasCounted}
+use Rattle.cf_sched.specs.Paces.{PaceCount, HasCounted}
 use Rattle.cf_run.specs.declared.answer.Ran.TheVariants as ran
 use Rattle.cf_run.specs.Made.{Made, moves_of}
-use Rattle.cf_run.specs.Moving.{Place, MakesAndShows, Does}
+use Rattle.cf_run.specs.Moving.{RunPlace, MakesAndShows, MoveDoes}
 use Rattle.cf_rounds.specs.declared.answer.Fired.{Fired}
 use Rattle.cf_rounds.specs.declared.answer.Fired.TheVariants.{Plain, Retired, Ended, ReadFault, WriteFault}
 
 -- the moves were made one after the other, each with its event, and led from one place to another
-unfoldable pub MakesAll : List Made → (now new : Place) → Type 0
+unfoldable pub MakesAll : List Made → (now new : RunPlace) → Type 0
 MakesAll [] now new = new ≡ now
 MakesAll (made ∷ trace) now new =
-    (next : Place) × MakesAndShows show.Report made.move made.event now next × (made.state ≡ next.core.state)
+    (next : RunPlace) × MakesAndShows show.Report made.move made.event now next × (made.state ≡ next.core.state)
     × MakesAll trace next new
 
 -- the count of Issue moves after these
@@ -53,7 +53,7 @@ seen fired (event.Ended end) = Ended end
 seen fired e = fired
 
 -- all moves of the round were made
-pub record FiresAll (round : List Move) (now new : Place) (pace later : Count) (answer : Fired) : Type 0 where
+pub record FiresAll (round : List Move) (now new : RunPlace) (pace later : PaceCount) (answer : Fired) : Type 0 where
   pub trace : List Made
   pub moves : moves_of trace ≡ round
   pub makes : MakesAll trace now new
@@ -61,11 +61,11 @@ pub record FiresAll (round : List Move) (now new : Place) (pace later : Count) (
   pub paced : (stages count : ℕ) → HasCounted stages count pace → HasCounted stages (paced_by count trace) later
 
 -- the round was made; or it is Serve alone, and the input or the output failed its call
-unfoldable pub Fires : List Move → (now new : Place) → (pace later : Count) → Fired → Type 0
+unfoldable pub Fires : List Move → (now new : RunPlace) → (pace later : PaceCount) → Fired → Type 0
 Fires round now new pace later ReadFault =
-    (round ≡ Serve ∷ []) × Does show.Report Serve now new (Err ran.ReadFault) × (later ≡ pace)
+    (round ≡ Serve ∷ []) × MoveDoes show.Report Serve now new (Err ran.ReadFault) × (later ≡ pace)
 Fires round now new pace later WriteFault =
-    (round ≡ Serve ∷ []) × Does show.Report Serve now new (Err ran.WriteFault) × (later ≡ pace)
+    (round ≡ Serve ∷ []) × MoveDoes show.Report Serve now new (Err ran.WriteFault) × (later ≡ pace)
 Fires round now new pace later answer = FiresAll round now new pace later answer
 
 -- an error where the input failed the round

@@ -10,7 +10,7 @@ use Rattle.cf_run.specs.declared.answer.Ran.TheVariants as ran
 use Rattle.cf_run.specs.declared.answer.Scripted.TheVariants.{Ran}
 use Rattle.cf_run.specs.Headline.{RunsSequentially}
 use Rattle.cf_run.specs.Made.{Made, moves_of}
-use Rattle.cf_run.specs.Moving.{Place, Does}
+use Rattle.cf_run.specs.Moving.{RunPlace, MoveDoes}
 use Rattle.cf_run.specs.Reaching.{GoesOn, IsOver, Reaches}
 use Rattle.cf_rounds.specs.declared.answer.Clocked.{Clocked}
 use Rattle.cf_rounds.specs.declared.answer.Clocked.TheVariants.{Exit, Trap, Limit, ReadFault, WriteFault}
@@ -35,13 +35,13 @@ InRounds plan limit count s (made ∷ rounds) last end =
     × InRounds plan limit (paced_by count made) (state_after s made) rounds last end
 
 -- the round there is Serve alone, whose call failed
-pub record FailsThere (limit count : ℕ) (now new : Place) (answer : Answer) : Type 0 where
+pub record FailsThere (limit count : ℕ) (now new : RunPlace) (answer : Answer) : Type 0 where
   pub goes : GoesOn limit now.core.state
   pub serves : round_of now.core.plan now.core.state (offered now.core.plan count now.core.state) ≡ Serve ∷ []
-  pub does : Does show.Report Serve now new (Err answer)
+  pub does : MoveDoes show.Report Serve now new (Err answer)
 
 -- the run stops here: it is over, and all stays; or the call of its next round failed
-abbrev pub StopsRounds : (limit count : ℕ) → (now new : Place) → Clocked → Type 0
+abbrev pub StopsRounds : (limit count : ℕ) → (now new : RunPlace) → Clocked → Type 0
 StopsRounds limit count now new (Exit status) = IsOver limit now.core.state (ran.Exit status) × (new ≡ now)
 StopsRounds limit count now new (Trap cause pc detail) = IsOver limit now.core.state (ran.Trap cause pc detail) × (new ≡ now)
 StopsRounds limit count now new Limit = IsOver limit now.core.state ran.Limit × (new ≡ now)
@@ -49,8 +49,8 @@ StopsRounds limit count now new ReadFault = FailsThere limit count now new ran.R
 StopsRounds limit count now new WriteFault = FailsThere limit count now new ran.WriteFault
 
 -- the run makes this many rounds, and stops after them with this answer. After the Leave with which the limit is reached a round may have another move
-pub record RunsRounds (limit : ℕ) (start new : Place) (number : ℕ) (answer : Clocked) : Type 0 where
-  pub now : Place
+pub record RunsRounds (limit : ℕ) (start new : RunPlace) (number : ℕ) (answer : Clocked) : Type 0 where
+  pub now : RunPlace
   pub reaches : Reaches (limit + 1) show.Report start now
   pub rounds : List (List Made)
   pub are : reaches.trace ≡ all_of rounds
@@ -68,6 +68,6 @@ ran_of ReadFault = ran.ReadFault
 ran_of WriteFault = ran.WriteFault
 
 -- the run in rounds, and it is a run of the sequential machine
-pub record RunsRight (limit : ℕ) (start new : Place) (number : ℕ) (answer : Clocked) : Type 0 where
+pub record RoundsRunRight (limit : ℕ) (start new : RunPlace) (number : ℕ) (answer : Clocked) : Type 0 where
   pub runs : RunsRounds limit start new number answer
   pub sequential : RunsSequentially show.Report (moves_of runs.reaches.trace) start new (Ran (ran_of answer))

@@ -5,10 +5,10 @@ use Rattle.cf_bind.specs.declared.moves.Move.{Move}
 use Rattle.cf_bind.specs.declared.moves.Move.TheVariants.{Serve}
 use Rattle.cf_semantics.specs.moves.Holding.{offered}
 use Rattle.cf_index.specs.Alone.{HasSidings}
-use Rattle.cf_sched.specs.Paces.{Count, HasCounted}
+use Rattle.cf_sched.specs.Paces.{PaceCount, HasCounted}
 use Rattle.cf_run.specs.declared.answer.Ran.{Ran as Answer}
 use Rattle.cf_run.specs.declared.answer.Ran.TheVariants as ran
-use Rattle.cf_run.specs.Moving.{Place, Does}
+use Rattle.cf_run.specs.Moving.{RunPlace, MoveDoes}
 use Rattle.cf_run.specs.Reaching.{GoesOn, IsOver}
 use Rattle.cf_rounds.specs.declared.answer.Clocked.{Clocked}
 use Rattle.cf_rounds.specs.declared.answer.Clocked.TheVariants.{Exit, Trap, Limit, ReadFault, WriteFault}
@@ -18,7 +18,7 @@ use Rattle.cf_rounds.specs.Firing.{FiresAll}
 use Rattle.cf_rounds.specs.Rounds.{IsRound, round_of}
 
 -- these candidates are offered there, by whatever count of Issue moves the pace has, and this is their round
-pub record IsOffered (now : Place) (pace : Count) (moves round : List Move) : Type 0 where
+pub record IsOffered (now : RunPlace) (pace : PaceCount) (moves round : List Move) : Type 0 where
   pub moves_are : (count : ℕ) → HasCounted now.core.plan.stages count pace → moves ≡ offered now.core.plan count now.core.state
   pub round_is : round ≡ round_of now.core.plan now.core.state moves
   pub is_round : IsRound now.core.plan now.core.state round
@@ -26,7 +26,7 @@ pub record IsOffered (now : Place) (pace : Count) (moves round : List Move) : Ty
   pub some : 0 < length round
 
 -- the run goes on, and the round is made
-pub record GoesRound (limit : ℕ) (now new : Place) (pace later : Count) : Type 0 where
+pub record GoesRound (limit : ℕ) (now new : RunPlace) (pace later : PaceCount) : Type 0 where
   pub goes : GoesOn limit now.core.state
   pub moves : List Move
   pub round : List Move
@@ -35,22 +35,22 @@ pub record GoesRound (limit : ℕ) (now new : Place) (pace later : Count) : Type
   pub fires : FiresAll round now new pace later fired
 
 -- the run goes on, and the round is Serve, whose call fails
-pub record FailsRound (limit : ℕ) (now new : Place) (pace : Count) (answer : Answer) : Type 0 where
+pub record FailsRound (limit : ℕ) (now new : RunPlace) (pace : PaceCount) (answer : Answer) : Type 0 where
   pub goes : GoesOn limit now.core.state
   pub moves : List Move
   pub round : List Move
   pub offer : IsOffered now pace moves round
   pub serves : round ≡ Serve ∷ []
-  pub does : Does show.Report Serve now new (Err answer)
+  pub does : MoveDoes show.Report Serve now new (Err answer)
 
 -- one turn
-unfoldable pub Turns : ℕ → (now new : Place) → (pace later : Count) → Option Clocked → Type 0
-Turns limit now new pace later None = GoesRound limit now new pace later
-Turns limit now new pace later (Some (Exit status)) = IsOver limit now.core.state (ran.Exit status) × (new ≡ now)
-Turns limit now new pace later (Some (Trap cause pc detail)) = IsOver limit now.core.state (ran.Trap cause pc detail) × (new ≡ now)
-Turns limit now new pace later (Some Limit) = IsOver limit now.core.state ran.Limit × (new ≡ now)
-Turns limit now new pace later (Some ReadFault) = FailsRound limit now new pace ran.ReadFault
-Turns limit now new pace later (Some WriteFault) = FailsRound limit now new pace ran.WriteFault
+unfoldable pub RoundTurns : ℕ → (now new : RunPlace) → (pace later : PaceCount) → Option Clocked → Type 0
+RoundTurns limit now new pace later None = GoesRound limit now new pace later
+RoundTurns limit now new pace later (Some (Exit status)) = IsOver limit now.core.state (ran.Exit status) × (new ≡ now)
+RoundTurns limit now new pace later (Some (Trap cause pc detail)) = IsOver limit now.core.state (ran.Trap cause pc detail) × (new ≡ now)
+RoundTurns limit now new pace later (Some Limit) = IsOver limit now.core.state ran.Limit × (new ≡ now)
+RoundTurns limit now new pace later (Some ReadFault) = FailsRound limit now new pace ran.ReadFault
+RoundTurns limit now new pace later (Some WriteFault) = FailsRound limit now new pace ran.WriteFault
 
 -- how the run finishes with the round of which this is seen, if it does
 abbrev pub finish_with : Fired → Option Clocked

@@ -3,7 +3,7 @@
 ghost use Rattle.std.specs.Prelude.{◌≡◌, ◌<◌, ◌++◌, ◌∷◌, [], length, if◌then◌else◌};
 ghost use Rattle.std.specs.List.{AllByRecursion, find};
 ghost use Rattle.cf_semantics.specs.moves.Sites.{ends_there as ends_there_of};
-ghost use Rattle.cf_index.specs.Sites.{AreThere};
+ghost use Rattle.cf_index.specs.Sites.{HasSites};
 ghost use Rattle.cf_index.specs.Alone.{stands_alone};
 ghost use Rattle.cf_rounds.specs.Rounds.{AreCandidates, IsFull, IsRound, round_of, shares_any, taken};
 
@@ -51,8 +51,8 @@ fn alone(core: &Core, c: &Candidates) -> Option<Move>
 /// Whether the move shares a place with one of the round.
 #[tactic(auto, using(crate::proofs::InOrder::any_next, crate::proofs::InOrder::any_here, crate::proofs::InOrder::any_past))]
 fn shares_any(core: &Core, set: &RoundSet, mv: Move) -> bool
-    requires there { AreThere core.now.plan mv }
-    requires others { AllByRecursion (AreThere core.now.plan) set.now }
+    requires there { HasSites core.now.plan mv }
+    requires others { AllByRecursion (HasSites core.now.plan) set.now }
     ensures { result ≡ shares_any core.now.plan set.now mv }
 {
     for place in 0..set.len() {
@@ -65,8 +65,8 @@ fn shares_any(core: &Core, set: &RoundSet, mv: Move) -> bool
 
 /// Takes the move, unless it shares a place with one that is taken.
 fn take(core: &Core, set: &mut RoundSet, mv: Move)
-    requires there { AreThere core.now.plan mv }
-    requires others { AllByRecursion (AreThere core.now.plan) set.old }
+    requires there { HasSites core.now.plan mv }
+    requires others { AllByRecursion (HasSites core.now.plan) set.old }
     requires few { length set.old < 128 }
     ensures { set.new ≡ (if shares_any core.now.plan set.old mv then set.old else set.old ++ mv ∷ []) }
 {

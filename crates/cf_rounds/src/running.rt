@@ -1,5 +1,5 @@
 //! A run in rounds.
-#![tactic(auto, unfolding(crate::specs::Turns::Turns, crate::specs::Firing::Fires))]
+#![tactic(auto, unfolding(crate::specs::RoundTurns::RoundTurns, crate::specs::Firing::Fires))]
 
 ghost use Rattle.std.specs.Prelude.{◌≡◌, ℕ, ◌+◌, ◌<◌, ◌≤◌, ◌^◌, MatchOption, None, Some, length};
 ghost use Rattle.run_options.specs.Limits.{most_limit};
@@ -12,8 +12,8 @@ ghost use Rattle.cf_run.specs.Ending.{EndsSequentially};
 ghost use Rattle.cf_run.specs.Moving.{place_of};
 ghost use Rattle.cf_run.specs.Policies.{IsOpened, most_moves};
 ghost use Rattle.cf_run.specs.Reaching.{GoesOn, IsOver, no_tally};
-ghost use Rattle.cf_rounds.specs.Running.{RunsRight, ran_of};
-ghost use Rattle.cf_rounds.specs.Turns.{Turns, finish_with, input_turned, output_turned};
+ghost use Rattle.cf_rounds.specs.Running.{RoundsRunRight, ran_of};
+ghost use Rattle.cf_rounds.specs.RoundTurns.{RoundTurns, finish_with, input_turned, output_turned};
 
 use crate::answer::{Clocked, Fired};
 use crate::choosing::choose;
@@ -74,7 +74,7 @@ fn advance<S: Source, K: Sink>(
     requires meets { tally.old.meets < 2 ^ 63 }
     requires kills { tally.old.kills < 2 ^ 63 }
     requires dead { tally.old.dead < 2 ^ 63 }
-    ensures turns { Turns limit
+    ensures turns { RoundTurns limit
         (place_of core.old (streams_of (S.left input.old) (K.written output.old)) None tally.old)
         (place_of core.new (streams_of (S.left input.new) (K.written output.new)) None tally.new)
         pace.old pace.new result }
@@ -113,7 +113,7 @@ pub fn run_rounds<S: Source, K: Sink>(
     requires opened { IsOpened core.old }
     requires tally { tally.old ≡ no_tally }
     requires rounds { rounds.old ≡ 0 }
-    ensures run { RunsRight limit
+    ensures run { RoundsRunRight limit
         (place_of core.old (streams_of (S.left input.old) (K.written output.old)) None tally.old)
         (place_of core.new (streams_of (S.left input.new) (K.written output.new)) None tally.new)
         rounds.new result }

@@ -18,14 +18,14 @@ use Rattle.cf_core.specs.Processors.{Processor, in_state, opened}
 use Rattle.cf_run.specs.Going.{moment_of, Leads}
 use Rattle.cf_run.specs.Headline.{machine_on, moment_after, lines_after, IsRight, AreTexts}
 use Rattle.cf_run.specs.Made.{Made, moves_of, all_shown}
-use Rattle.cf_run.specs.Moving.{Place}
+use Rattle.cf_run.specs.Moving.{RunPlace}
 use Rattle.cf_run.specs.Reaching.{Reaches}
 use Rattle.cf_run.proofs.Retirements.{shown-lines}
 use Rattle.cf_run.proofs.Runs.{leads-run}
 use Rattle.cf_run.proofs.Settling.{IsKept, kept-run, settles}
 
 -- a run has reached a moment at which what every move keeps holds over a machine, with these lines, numbered from n on
-pub record Arrives (shows : Show) (x : Machine) (m : Moment) (n : ℕ) (written : List Line) (begin now : Place) : Type 0 where
+pub record Arrives (shows : Show) (x : Machine) (m : Moment) (n : ℕ) (written : List Line) (begin now : RunPlace) : Type 0 where
   pub kept : IsKept begin.core.plan x m
   pub core : now.core ≡ in_state begin.core m.state
   pub streams : Leaves begin.streams now.streams m.rest m.output
@@ -54,12 +54,12 @@ right plan x moves accepted wide allowed = record {
 }
 
 -- where a run has arrived by some moves that started on the machine
-pub record ArrivesBy (shows : Show) (x : Machine) (moves : List Move) (begin now : Place) : Type 0 where
+pub record ArrivesBy (shows : Show) (x : Machine) (moves : List Move) (begin now : RunPlace) : Type 0 where
   pub right : IsRight begin.core.plan x moves
   pub arrives : Arrives shows x (moment_after begin.core.plan x moves) (x.hart.retired + 1) (lines_after begin.core.plan x moves) begin now
 
 -- a run that leads to a moment has arrived there
-arrived : (limit : ℕ) (shows : Show) (hart : Hart) (rest left : List ℕ) (begin now : Place) (trace : List Made) (last : Moment) → IsAccepted begin.core.plan → length hart.regs ≡ 32 → begin.core ≡ opened begin.core.plan hart → begin.streams.input ≡ Some rest
+arrived : (limit : ℕ) (shows : Show) (hart : Hart) (rest left : List ℕ) (begin now : RunPlace) (trace : List Made) (last : Moment) → IsAccepted begin.core.plan → length hart.regs ≡ 32 → begin.core ≡ opened begin.core.plan hart → begin.streams.input ≡ Some rest
     → IsTold begin.streams.input left → Leads begin.core.plan limit begin.streams.input (moment_of begin.core left) trace last → now.core ≡ in_state begin.core last.state → Leaves begin.streams now.streams last.rest last.output
     → Writes begin.report now.report (all_shown shows begin.core.plan 1 trace) → ArrivesBy shows (machine_on hart rest) (moves_of trace) begin now
 arrived limit shows hart rest left begin now trace last accepted wide opens tells told leads core streams report =
@@ -84,7 +84,7 @@ arrived limit shows hart rest left begin now trace last accepted wide opens tell
     }
 
 -- so has a run that has reached a place
-pub arrives-by : (limit : ℕ) (shows : Show) (hart : Hart) (rest : List ℕ) (begin now : Place) → IsAccepted begin.core.plan → length hart.regs ≡ 32 → begin.core ≡ opened begin.core.plan hart → begin.streams.input ≡ Some rest → (h : Reaches limit shows begin now)
+pub arrives-by : (limit : ℕ) (shows : Show) (hart : Hart) (rest : List ℕ) (begin now : RunPlace) → IsAccepted begin.core.plan → length hart.regs ≡ 32 → begin.core ≡ opened begin.core.plan hart → begin.streams.input ≡ Some rest → (h : Reaches limit shows begin now)
     → ArrivesBy shows (machine_on hart rest) (moves_of h.trace) begin now
 arrives-by limit shows hart rest begin now accepted wide opens tells h =
     arrived limit shows hart rest h.rest begin now h.trace h.last accepted wide opens tells h.told h.leads h.core h.streams h.report

@@ -10,9 +10,9 @@ use Rattle.cf_core.specs.Processors.{Processor}
 use Rattle.run_scripts.specs.Scripts.{next_of}
 use Rattle.cf_run.specs.Made.{Made}
 use Rattle.cf_run.specs.Going.{moment_of, Leads}
-use Rattle.cf_run.specs.Moving.{Place}
+use Rattle.cf_run.specs.Moving.{RunPlace}
 use Rattle.cf_run.specs.Reaching.{Reaches}
-use Rattle.cf_run.specs.Scripts.{Stand, Follows, Tries}
+use Rattle.cf_run.specs.Scripts.{ScriptRun, Follows, ScriptTries}
 use Rattle.cf_run.specs.Asking.{SomeAsks, NextAsks}
 use Rattle.cf_run.proofs.Runs.{followed-more, followed-trace}
 
@@ -31,7 +31,7 @@ some-last asks plan limit told m (first ∷ trace) last made (rest, finds, is, h
     inr (subst (λ (s : State). SomeAsks asks plan s (trace ++ made ∷ [])) (sym is.state) (some-last asks plan limit told (next plan (record m { rest = rest }) first.move) trace last made h k))
 
 -- what the moves that were made ask, or the next one asks, the moves with that one ask
-pub one-more : (asks : Processor → Move → Type 0) (limit : ℕ) (show : Show) (start now : Place) (h : Reaches limit show start now) (made : Made) → SomeAsks asks start.core.plan start.core.state h.trace ⊎ asks now.core made.move
+pub one-more : (asks : Processor → Move → Type 0) (limit : ℕ) (show : Show) (start now : RunPlace) (h : Reaches limit show start now) (made : Made) → SomeAsks asks start.core.plan start.core.state h.trace ⊎ asks now.core made.move
     → SomeAsks asks start.core.plan start.core.state (h.trace ++ made ∷ [])
 one-more asks limit show start now h made (inl some) = some-first asks start.core.plan start.core.state h.trace (made ∷ []) some
 one-more asks limit show start now h made (inr next) =
@@ -44,12 +44,12 @@ same_next answer line other mv last e f =
     ap (λ (next : ℕ × Move). next.1) same
 
 -- the next move of the script is the one that asks
-next_asked : (asks : Processor → Move → Type 0) (limit : ℕ) (show : Show) (now new : Stand) (t : Tries limit show now new None) (made : Made) → made.move ≡ t.move → NextAsks asks limit now.place.core now.script → asks now.place.core made.move
+next_asked : (asks : Processor → Move → Type 0) (limit : ℕ) (show : Show) (now new : ScriptRun) (t : ScriptTries limit show now new None) (made : Made) → made.move ≡ t.move → NextAsks asks limit now.place.core now.script → asks now.place.core made.move
 next_asked asks limit show now new t made same next =
     subst (asks now.place.core) (same_next (next_of now.script) next.line t.line next.move t.move next.next t.next ∙ sym same) next.asked
 
 -- the same of a run with one more move
-asked-more : (asks : Processor → Move → Type 0) (limit : ℕ) (show : Show) (start now new : Stand) (f : Follows limit show start now) (t : Tries limit show now new None) → SomeAsks asks start.place.core.plan start.place.core.state f.reaches.trace ⊎ NextAsks asks limit now.place.core now.script
+asked-more : (asks : Processor → Move → Type 0) (limit : ℕ) (show : Show) (start now new : ScriptRun) (f : Follows limit show start now) (t : ScriptTries limit show now new None) → SomeAsks asks start.place.core.plan start.place.core.state f.reaches.trace ⊎ NextAsks asks limit now.place.core now.script
     → SomeAsks asks start.place.core.plan start.place.core.state (followed-more limit show start now new f t).reaches.trace
 asked-more asks limit show start now new f t asked =
     let made = followed-trace limit show start now new f t in
@@ -61,7 +61,7 @@ asked-more asks limit show start now new f t asked =
     here (inr next) = let made = followed-trace limit show start now new f t in inr (next_asked asks limit show now new t made.0 made.1 next)
 
 -- what no move asked has stayed as it was, with one more move
-pub unasked-more : {T : Type 0} (asks : Processor → Move → Type 0) (limit : ℕ) (show : Show) (start now new : Stand) (f : Follows limit show start now) (t : Tries limit show now new None) (first between last : T) → ((SomeAsks asks start.place.core.plan start.place.core.state f.reaches.trace → ⊥) → between ≡ first) → ((NextAsks asks limit now.place.core now.script → ⊥) → last ≡ between)
+pub unasked-more : {T : Type 0} (asks : Processor → Move → Type 0) (limit : ℕ) (show : Show) (start now new : ScriptRun) (f : Follows limit show start now) (t : ScriptTries limit show now new None) (first between last : T) → ((SomeAsks asks start.place.core.plan start.place.core.state f.reaches.trace → ⊥) → between ≡ first) → ((NextAsks asks limit now.place.core now.script → ⊥) → last ≡ between)
     → (SomeAsks asks start.place.core.plan start.place.core.state (followed-more limit show start now new f t).reaches.trace → ⊥) → last ≡ first
 unasked-more asks limit show start now new f t first between last before one unasked =
     one (λ next. unasked (asked-more asks limit show start now new f t (inr next))) ∙ before (λ some. unasked (asked-more asks limit show start now new f t (inl some)))

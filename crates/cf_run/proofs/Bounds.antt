@@ -23,7 +23,7 @@ use Rattle.cf_core.specs.Processors.{Processor, in_state, opened}
 use Rattle.cf_run.specs.Going.{moment_of, Leads}
 use Rattle.cf_run.specs.Headline.{machine_on}
 use Rattle.cf_run.specs.Made.{Made, moves_of, tally_of}
-use Rattle.cf_run.specs.Moving.{Place}
+use Rattle.cf_run.specs.Moving.{RunPlace}
 use Rattle.cf_run.specs.Policies.{IsOpened, Chooser, fresh, Picks, most_moves}
 use Rattle.cf_run.specs.Reaching.{Reaches}
 use Rattle.cf_run.proofs.Arrived.{begins}
@@ -43,7 +43,7 @@ abbrev pub machine_of : (core : Processor) → IsOpened core → List ℕ → Ma
 machine_of core o rest = machine_on o.hart rest
 
 -- the picks of a policy on an opened processor are a run under the hold rule
-reached-paced : {P : Type 0} (picked : P → List Move → ℕ) (onward : P → List Move → P) (limit : ℕ) (shows : Show) (begin now : Place) (policy : P) (at : Chooser P) → IsAccepted begin.core.plan → length begin.core.state.regs ≡ 32 → (o : IsOpened begin.core) → (h : Reaches limit shows begin now) → Picks picked onward begin.core.plan (fresh policy) begin.core.state h.trace at
+reached-paced : {P : Type 0} (picked : P → List Move → ℕ) (onward : P → List Move → P) (limit : ℕ) (shows : Show) (begin now : RunPlace) (policy : P) (at : Chooser P) → IsAccepted begin.core.plan → length begin.core.state.regs ≡ 32 → (o : IsOpened begin.core) → (h : Reaches limit shows begin now) → Picks picked onward begin.core.plan (fresh policy) begin.core.state h.trace at
     → (written : List Line) × PacesTo begin.core.plan 0 (start_on begin.core.plan (machine_of begin.core o h.rest)) (moves_of h.trace) h.last written
 reached-paced {P} picked onward limit shows begin now policy at accepted wide o h picks =
     let plan : Plan = begin.core.plan in
@@ -59,7 +59,7 @@ counted-moves : (trace : List Made) → (tally_of trace).moves ≡ length (moves
 unfolding tally_of
 counted-moves trace = sym (length-map trace (λ made. made.move))
 
-pub paced-bounded : (limit : ℕ) (shows : Show) (begin now : Place) → IsAccepted begin.core.plan → length begin.core.state.regs ≡ 32 → (o : IsOpened begin.core) → (h : Reaches limit shows begin now) (written : List Line) → PacesTo begin.core.plan 0 (start_on begin.core.plan (machine_of begin.core o h.rest)) (moves_of h.trace) h.last written
+pub paced-bounded : (limit : ℕ) (shows : Show) (begin now : RunPlace) → IsAccepted begin.core.plan → length begin.core.state.regs ≡ 32 → (o : IsOpened begin.core) → (h : Reaches limit shows begin now) (written : List Line) → PacesTo begin.core.plan 0 (start_on begin.core.plan (machine_of begin.core o h.rest)) (moves_of h.trace) h.last written
     → now.tally.moves ≤ most_moves begin.core.plan (now.core.state.retired - begin.core.state.retired)
 paced-bounded limit shows begin now accepted wide o h written paces =
     let plan : Plan = begin.core.plan in
@@ -72,7 +72,7 @@ paced-bounded limit shows begin now accepted wide o h written paces =
     (subst (λ (r : ℕ). length (moves_of h.trace) ≤ most_moves plan r) grown bound)
 
 -- and while it goes on a move is offered
-pub paced-offered : (limit : ℕ) (shows : Show) (begin now : Place) → IsAccepted begin.core.plan → length begin.core.state.regs ≡ 32 → (o : IsOpened begin.core) → (h : Reaches limit shows begin now) (written : List Line) → PacesTo begin.core.plan 0 (start_on begin.core.plan (machine_of begin.core o h.rest)) (moves_of h.trace) h.last written
+pub paced-offered : (limit : ℕ) (shows : Show) (begin now : RunPlace) → IsAccepted begin.core.plan → length begin.core.state.regs ≡ 32 → (o : IsOpened begin.core) → (h : Reaches limit shows begin now) (written : List Line) → PacesTo begin.core.plan 0 (start_on begin.core.plan (machine_of begin.core o h.rest)) (moves_of h.trace) h.last written
     → now.core.state.ending ≡ None → (count : ℕ) → 1 ≤ length (offered now.core.plan count now.core.state)
 paced-offered limit shows begin now accepted wide o h written paces unended count =
     let plan : Plan = begin.core.plan in
@@ -83,13 +83,13 @@ paced-offered limit shows begin now accepted wide o h written paces unended coun
     subst P (sym h.core) there unended
 
 -- so the picks of a policy are bounded in number
-pub reached-bounded : {P : Type 0} (picked : P → List Move → ℕ) (onward : P → List Move → P) (limit : ℕ) (shows : Show) (begin now : Place) (policy : P) (at : Chooser P) → IsAccepted begin.core.plan → length begin.core.state.regs ≡ 32 → IsOpened begin.core → (h : Reaches limit shows begin now) → Picks picked onward begin.core.plan (fresh policy) begin.core.state h.trace at
+pub reached-bounded : {P : Type 0} (picked : P → List Move → ℕ) (onward : P → List Move → P) (limit : ℕ) (shows : Show) (begin now : RunPlace) (policy : P) (at : Chooser P) → IsAccepted begin.core.plan → length begin.core.state.regs ≡ 32 → IsOpened begin.core → (h : Reaches limit shows begin now) → Picks picked onward begin.core.plan (fresh policy) begin.core.state h.trace at
     → now.tally.moves ≤ most_moves begin.core.plan (now.core.state.retired - begin.core.state.retired)
 reached-bounded {P} picked onward limit shows begin now policy at accepted wide o h picks =
     let paces = reached-paced picked onward limit shows begin now policy at accepted wide o h picks in
     paced-bounded limit shows begin now accepted wide o h paces.0 paces.1
 
-pub reached-offered : {P : Type 0} (picked : P → List Move → ℕ) (onward : P → List Move → P) (limit : ℕ) (shows : Show) (begin now : Place) (policy : P) (at : Chooser P) → IsAccepted begin.core.plan → length begin.core.state.regs ≡ 32 → IsOpened begin.core → (h : Reaches limit shows begin now) → Picks picked onward begin.core.plan (fresh policy) begin.core.state h.trace at
+pub reached-offered : {P : Type 0} (picked : P → List Move → ℕ) (onward : P → List Move → P) (limit : ℕ) (shows : Show) (begin now : RunPlace) (policy : P) (at : Chooser P) → IsAccepted begin.core.plan → length begin.core.state.regs ≡ 32 → IsOpened begin.core → (h : Reaches limit shows begin now) → Picks picked onward begin.core.plan (fresh policy) begin.core.state h.trace at
     → now.core.state.ending ≡ None → (count : ℕ) → 1 ≤ length (offered now.core.plan count now.core.state)
 reached-offered {P} picked onward limit shows begin now policy at accepted wide o h picks =
     let paces = reached-paced picked onward limit shows begin now policy at accepted wide o h picks in

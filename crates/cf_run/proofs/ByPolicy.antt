@@ -15,8 +15,8 @@ use Rattle.cf_run.specs.Asking.{SomeAsks}
 use Rattle.cf_run.specs.Going.{moment_of}
 use Rattle.cf_run.specs.Headline.{RunsSequentially}
 use Rattle.cf_run.specs.Made.{Made, moves_of}
-use Rattle.cf_run.specs.Moving.{Place, Does, shown_of}
-use Rattle.cf_run.specs.Policies.{IsOpened, Chooser, fresh, choice, offered_to, after_choice, Picks, Takes, StopsPolicy, RunsPolicy, ChoiceAsks, most_moves}
+use Rattle.cf_run.specs.Moving.{RunPlace, MoveDoes, shown_of}
+use Rattle.cf_run.specs.Policies.{IsOpened, Chooser, fresh, choice, offered_to, after_choice, Picks, TakesPick, StopsPolicy, RunsPolicy, ChoiceAsks, most_moves}
 use Rattle.cf_run.specs.Reaching.{Reaches, GoesOn, IsOver}
 use Rattle.cf_run.proofs.Asked.{one-more}
 use Rattle.cf_run.proofs.Bounds.{reached-bounded}
@@ -26,21 +26,21 @@ use Rattle.cf_run.proofs.Runs.{reached-more, reached-trace}
 use Rattle.cf_run.proofs.Stopping.{ComesTo, comes_over, comes_unread, comes_unwritten, comes_unshown, filled, shown_too}
 
 -- the picks that lead here are picks of the policy
-abbrev pub PicksTo : {P : Type 0} → (picked : P → List Move → ℕ) → (onward : P → List Move → P) → (begin : Place) → P → List Made → Chooser P → Type 0
+abbrev pub PicksTo : {P : Type 0} → (picked : P → List Move → ℕ) → (onward : P → List Move → P) → (begin : RunPlace) → P → List Made → Chooser P → Type 0
 PicksTo picked onward begin policy trace at = Picks picked onward begin.core.plan (fresh policy) begin.core.state trace at
 
 -- the move that was taken
-abbrev pub taken : {P : Type 0} (picked : P → List Move → ℕ) (limit : ℕ) (shows : Show) (at : Chooser P) (now new : Place) → Takes picked limit shows at now new → Made
+abbrev pub taken : {P : Type 0} (picked : P → List Move → ℕ) (limit : ℕ) (shows : Show) (at : Chooser P) (now new : RunPlace) → TakesPick picked limit shows at now new → Made
 taken picked limit shows at now new t = record { move = t.move; event = t.event; state = new.core.state }
 
 -- the policy after it
-abbrev pub chooser_after : {P : Type 0} (picked : P → List Move → ℕ) (onward : P → List Move → P) (limit : ℕ) (shows : Show) (at : Chooser P) (now new : Place) → Takes picked limit shows at now new → Chooser P
+abbrev pub chooser_after : {P : Type 0} (picked : P → List Move → ℕ) (onward : P → List Move → P) (limit : ℕ) (shows : Show) (at : Chooser P) (now new : RunPlace) → TakesPick picked limit shows at now new → Chooser P
 chooser_after picked onward limit shows at now new t = after_choice onward now.core.plan at now.core.state (taken picked limit shows at now new t)
 
 -- a turn whose move stops the run
-pub chosen-stops : {P : Type 0} (picked : P → List Move → ℕ) (onward : P → List Move → P) (limit : ℕ) (shows : Show) (at : Chooser P) (now new : Place) (later : P) (mv : Move) (answer : Answer) → GoesOn limit now.core.state → choice picked now.core.plan at now.core.state ≡ Some mv → later ≡ onward at.policy (offered_to now.core.plan at now.core.state) → Does shows mv now new (Err answer)
+pub chosen-stops : {P : Type 0} (picked : P → List Move → ℕ) (onward : P → List Move → P) (limit : ℕ) (shows : Show) (at : Chooser P) (now new : RunPlace) (later : P) (mv : Move) (answer : Answer) → GoesOn limit now.core.state → choice picked now.core.plan at now.core.state ≡ Some mv → later ≡ onward at.policy (offered_to now.core.plan at now.core.state) → MoveDoes shows mv now new (Err answer)
     → StopsPolicy picked onward limit shows at now new later answer
-unfolding Does
+unfolding MoveDoes
 chosen-stops picked onward limit shows at now new later mv ran.ReadFault goes chosen on does = record { goes = goes; move = mv; choice_is = chosen; later_is = on; does = does }
 chosen-stops picked onward limit shows at now new later mv ran.WriteFault goes chosen on does = record { goes = goes; move = mv; choice_is = chosen; later_is = on; does = does }
 chosen-stops picked onward limit shows at now new later mv ran.ReportFault goes chosen on does = record { goes = goes; move = mv; choice_is = chosen; later_is = on; does = does }
@@ -49,7 +49,7 @@ chosen-stops picked onward limit shows at now new later mv (ran.Trap cause pc de
 chosen-stops picked onward limit shows at now new later mv ran.Limit goes chosen on does = absurd does
 
 -- a turn before which the run is over
-pub over-stops : {P : Type 0} (picked : P → List Move → ℕ) (onward : P → List Move → P) (limit : ℕ) (shows : Show) (at : Chooser P) (now : Place) (answer : Answer) → IsOver limit now.core.state answer → StopsPolicy picked onward limit shows at now now at.policy answer
+pub over-stops : {P : Type 0} (picked : P → List Move → ℕ) (onward : P → List Move → P) (limit : ℕ) (shows : Show) (at : Chooser P) (now : RunPlace) (answer : Answer) → IsOver limit now.core.state answer → StopsPolicy picked onward limit shows at now now at.policy answer
 over-stops picked onward limit shows at now (ran.Exit status) over = (over, refl, refl)
 over-stops picked onward limit shows at now (ran.Trap cause pc detail) over = (over, refl, refl)
 over-stops picked onward limit shows at now ran.Limit over = (over, refl, refl)
@@ -58,15 +58,15 @@ over-stops picked onward limit shows at now ran.WriteFault over = absurd over
 over-stops picked onward limit shows at now ran.ReportFault over = absurd over
 
 -- one more turn
-pub turned-more : {P : Type 0} (picked : P → List Move → ℕ) (limit : ℕ) (shows : Show) (begin now new : Place) (at : Chooser P) → Reaches limit shows begin now → Takes picked limit shows at now new → Reaches limit shows begin new
-unfolding Does
+pub turned-more : {P : Type 0} (picked : P → List Move → ℕ) (limit : ℕ) (shows : Show) (begin now new : RunPlace) (at : Chooser P) → Reaches limit shows begin now → TakesPick picked limit shows at now new → Reaches limit shows begin new
+unfolding MoveDoes
 turned-more picked limit shows begin now new at h t = reached-more limit shows begin now new t.move t.event h t.goes.below t.does
 
-pub turned-trace : {P : Type 0} (picked : P → List Move → ℕ) (limit : ℕ) (shows : Show) (begin now new : Place) (at : Chooser P) (h : Reaches limit shows begin now) (t : Takes picked limit shows at now new) → (turned-more picked limit shows begin now new at h t).trace ≡ h.trace ++ taken picked limit shows at now new t ∷ []
-unfolding Does turned-more
+pub turned-trace : {P : Type 0} (picked : P → List Move → ℕ) (limit : ℕ) (shows : Show) (begin now new : RunPlace) (at : Chooser P) (h : Reaches limit shows begin now) (t : TakesPick picked limit shows at now new) → (turned-more picked limit shows begin now new at h t).trace ≡ h.trace ++ taken picked limit shows at now new t ∷ []
+unfolding MoveDoes turned-more
 turned-trace picked limit shows begin now new at h t = reached-trace limit shows begin now new t.move t.event h t.goes.below t.does
 
-pub turned-picks : {P : Type 0} (picked : P → List Move → ℕ) (onward : P → List Move → P) (limit : ℕ) (shows : Show) (begin now new : Place) (policy : P) (at : Chooser P) (h : Reaches limit shows begin now) (t : Takes picked limit shows at now new) → PicksTo picked onward begin policy h.trace at
+pub turned-picks : {P : Type 0} (picked : P → List Move → ℕ) (onward : P → List Move → P) (limit : ℕ) (shows : Show) (begin now new : RunPlace) (policy : P) (at : Chooser P) (h : Reaches limit shows begin now) (t : TakesPick picked limit shows at now new) → PicksTo picked onward begin policy h.trace at
     → PicksTo picked onward begin policy (turned-more picked limit shows begin now new at h t).trace (chooser_after picked onward limit shows at now new t)
 turned-picks {P} picked onward limit shows begin now new policy at h t picks =
     let plan : Plan = begin.core.plan in
@@ -83,7 +83,7 @@ turned-picks {P} picked onward limit shows begin now new policy at h t picks =
 same_choice : (chosen : Option Move) (mv last : Move) → chosen ≡ Some mv → chosen ≡ Some last → mv ≡ last
 same_choice chosen mv last e f = cc
 
-pub unasked-turn : {P T : Type 0} (picked : P → List Move → ℕ) (asks : Processor → Move → Type 0) (limit : ℕ) (shows : Show) (begin now new : Place) (at : Chooser P) (h : Reaches limit shows begin now) (t : Takes picked limit shows at now new) (first between last : T)
+pub unasked-turn : {P T : Type 0} (picked : P → List Move → ℕ) (asks : Processor → Move → Type 0) (limit : ℕ) (shows : Show) (begin now new : RunPlace) (at : Chooser P) (h : Reaches limit shows begin now) (t : TakesPick picked limit shows at now new) (first between last : T)
     → ((SomeAsks asks begin.core.plan begin.core.state h.trace → ⊥) → between ≡ first) → ((ChoiceAsks asks picked limit at now.core → ⊥) → last ≡ between)
     → (SomeAsks asks begin.core.plan begin.core.state (turned-more picked limit shows begin now new at h t).trace → ⊥) → last ≡ first
 unasked-turn {P} {T} picked asks limit shows begin now new at h t first between last before one unasked =
@@ -98,7 +98,7 @@ nothing_last : (moves before : List Move) → moves ≡ before ++ [] → before 
 nothing_last moves before e = sym (e ∙ append-nil before)
 
 -- whatever stops it, the run of a policy reached some place by the moves that it made and stopped there
-pub policy-comes : {P : Type 0} (picked : P → List Move → ℕ) (onward : P → List Move → P) (limit : ℕ) (shows : Show) (begin new : Place) (policy later : P) (moves : List Move) (answer : Answer) → IsAccepted begin.core.plan → RunsPolicy picked onward limit shows begin new policy later moves answer → ComesTo limit shows begin moves new (Ran answer)
+pub policy-comes : {P : Type 0} (picked : P → List Move → ℕ) (onward : P → List Move → P) (limit : ℕ) (shows : Show) (begin new : RunPlace) (policy later : P) (moves : List Move) (answer : Answer) → IsAccepted begin.core.plan → RunsPolicy picked onward limit shows begin new policy later moves answer → ComesTo limit shows begin moves new (Ran answer)
 policy-comes picked onward limit shows begin new policy later moves (ran.Exit status) accepted r =
     subst (λ (m : List Move). ComesTo limit shows begin m new (Ran (ran.Exit status))) (nothing_last moves (moves_of r.reaches.trace) r.made) (comes_over limit shows begin r.now new (ran.Exit status) r.reaches r.stops.0 r.stops.1)
 policy-comes picked onward limit shows begin new policy later moves (ran.Trap cause pc detail) accepted r =
@@ -113,28 +113,28 @@ policy-comes picked onward limit shows begin new policy later moves ran.ReportFa
     subst (λ (m : List Move). ComesTo limit shows begin m new (Ran ran.ReportFault)) (sym r.made) (comes_unshown limit shows begin r.now new r.stops.move r.reaches r.stops.goes.below r.stops.does)
 
 -- so it is a run of the sequential machine
-pub policy-sequential : {P : Type 0} (picked : P → List Move → ℕ) (onward : P → List Move → P) (limit : ℕ) (shows : Show) (begin new : Place) (policy later : P) (moves : List Move) (answer : Answer) → IsAccepted begin.core.plan → length begin.core.state.regs ≡ 32 → RunsPolicy picked onward limit shows begin new policy later moves answer → RunsSequentially shows moves begin new (Ran answer)
+pub policy-sequential : {P : Type 0} (picked : P → List Move → ℕ) (onward : P → List Move → P) (limit : ℕ) (shows : Show) (begin new : RunPlace) (policy later : P) (moves : List Move) (answer : Answer) → IsAccepted begin.core.plan → length begin.core.state.regs ≡ 32 → RunsPolicy picked onward limit shows begin new policy later moves answer → RunsSequentially shows moves begin new (Ran answer)
 policy-sequential picked onward limit shows begin new policy later moves answer accepted wide r =
     comes_sequentially limit shows begin new moves (Ran answer) accepted wide (policy-comes picked onward limit shows begin new policy later moves answer accepted r)
 
 -- the place of a run whose report failed, as if it had not failed
-abbrev unfailed : (shows : Show) (now new : Place) → Move → Event → Place
+abbrev unfailed : (shows : Show) (now new : RunPlace) → Move → Event → RunPlace
 unfailed shows now new mv e = record new { report = filled now.report (shown_of shows mv e now new) }
 
 -- it has a bounded number of moves
-pub policy-bounded : {P : Type 0} (picked : P → List Move → ℕ) (onward : P → List Move → P) (limit : ℕ) (shows : Show) (begin new : Place) (policy later : P) (moves : List Move) (answer : Answer) → IsAccepted begin.core.plan → length begin.core.state.regs ≡ 32 → IsOpened begin.core → RunsPolicy picked onward limit shows begin new policy later moves answer
+pub policy-bounded : {P : Type 0} (picked : P → List Move → ℕ) (onward : P → List Move → P) (limit : ℕ) (shows : Show) (begin new : RunPlace) (policy later : P) (moves : List Move) (answer : Answer) → IsAccepted begin.core.plan → length begin.core.state.regs ≡ 32 → IsOpened begin.core → RunsPolicy picked onward limit shows begin new policy later moves answer
     → new.tally.moves ≤ most_moves begin.core.plan (new.core.state.retired - begin.core.state.retired)
-unfolding Does
+unfolding MoveDoes
 policy-bounded {P} picked onward limit shows begin new policy later moves answer accepted wide o r = go answer r.stops
   where
-    Within : Place → Type 0
+    Within : RunPlace → Type 0
     Within place = place.tally.moves ≤ most_moves begin.core.plan (place.core.state.retired - begin.core.state.retired)
 
     here : Within r.now
     here = reached-bounded picked onward limit shows begin r.now policy r.at accepted wide o r.reaches r.picks
 
     -- a call that fails counts nothing and retires nothing
-    failed : (place : Place) → place.tally ≡ r.now.tally → place.core.state.retired ≡ r.now.core.state.retired → Within place
+    failed : (place : RunPlace) → place.tally ≡ r.now.tally → place.core.state.retired ≡ r.now.core.state.retired → Within place
     failed place tally retired =
         subst (λ (n : ℕ). place.tally.moves ≤ most_moves begin.core.plan (n - begin.core.state.retired)) (sym retired)
         (subst (λ (n : ℕ). n ≤ most_moves begin.core.plan (r.now.core.state.retired - begin.core.state.retired)) (sym (ap (λ (t : Tally). t.moves) tally)) here)
@@ -146,6 +146,6 @@ policy-bounded {P} picked onward limit shows begin new policy later moves answer
     go ran.ReadFault stops = failed new stops.does.0.tally (ap (λ (p : Processor). p.state.retired) stops.does.1.processor)
     go ran.WriteFault stops = failed new stops.does.0.tally (ap (λ (p : Processor). p.state.retired) stops.does.1.processor)
     go ran.ReportFault stops =
-        let full : Place = unfailed shows r.now new stops.move stops.does.0 in
-        let t : Takes picked limit shows r.at r.now full = record { goes = stops.goes; move = stops.move; choice_is = stops.choice_is; event = stops.does.0; does = shown_too shows stops.move stops.does.0 r.now new stops.does.1.makes } in
+        let full : RunPlace = unfailed shows r.now new stops.move stops.does.0 in
+        let t : TakesPick picked limit shows r.at r.now full = record { goes = stops.goes; move = stops.move; choice_is = stops.choice_is; event = stops.does.0; does = shown_too shows stops.move stops.does.0 r.now new stops.does.1.makes } in
         reached-bounded picked onward limit shows begin full policy (chooser_after picked onward limit shows r.at r.now full t) accepted wide o (turned-more picked limit shows begin r.now full r.at r.reaches t) (turned-picks picked onward limit shows begin r.now full policy r.at r.reaches t r.picks)

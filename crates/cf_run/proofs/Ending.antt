@@ -29,7 +29,7 @@ use Rattle.theory_confluence.proofs.drains.Counted.{after_counts}
 use Rattle.theory_confluence.proofs.drains.Rested.{drained_is}
 use Rattle.theory_refinement.proofs.claims.Level.{retired_unserved}
 use Rattle.theory_refinement.proofs.Theorems.{run_refines}
-use Rattle.theory_unknown_input.specs.Anew.{finding, GoesTo}
+use Rattle.theory_unknown_input.specs.UnknownInput.{finding, GoesTo}
 use Rattle.theory_unknown_input.proofs.Invariant.{HoldsAnew}
 use Rattle.theory_unknown_input.proofs.Theorems.{holds_anew, refines_held}
 use Rattle.cf_core.specs.Processors.{Processor, in_state, opened}
@@ -37,19 +37,19 @@ use Rattle.cf_run.specs.declared.answer.Ran.{Ran as Answer}
 use Rattle.cf_run.specs.declared.answer.Ran.TheVariants as ran
 use Rattle.cf_run.specs.declared.answer.Scripted.{Scripted}
 use Rattle.cf_run.specs.declared.answer.Scripted.TheVariants.{Ran, ScriptEnd, BadScript, BarredAt}
-use Rattle.cf_run.specs.Ending.{IsAfter, Ends, EndsAsMachine, EndsAlike, EndsSequentially}
+use Rattle.cf_run.specs.Ending.{IsAfterSteps, EndsUnderLimit, EndsAsMachine, EndsAlike, EndsSequentially}
 use Rattle.cf_run.specs.Going.{moment_of, Leads}
 use Rattle.cf_run.specs.Headline.{machine_on}
 use Rattle.cf_run.specs.Made.{Made, moves_of}
-use Rattle.cf_run.specs.Moving.{Place}
+use Rattle.cf_run.specs.Moving.{RunPlace}
 use Rattle.cf_run.specs.Policies.{RunsPolicy}
 use Rattle.cf_run.specs.Reaching.{Reaches, IsOver}
-use Rattle.cf_run.specs.Scripts.{Stand, RunsScript, Stops as ScriptStops}
+use Rattle.cf_run.specs.Scripts.{ScriptRun, RunsScript, ScriptStops}
 use Rattle.cf_run.proofs.Arrived.{begins}
 use Rattle.cf_run.proofs.Headline.{opened_here, opened_regs}
 use Rattle.cf_run.proofs.Retirements.{ended-kept}
 use Rattle.cf_run.proofs.Runs.{leads-run}
-use Rattle.cf_run.proofs.Untold.{LeadsAnew, leads-anew, goes-anew, left-untold}
+use Rattle.cf_run.proofs.UnknownInput.{LeadsAnew, leads-anew, goes-anew, left-untold}
 
 -- where a run has arrived, it is level with the count at the limit, and the program ends below that
 pub record Over (plan : Plan) (limit : ℕ) (s : State) : Type 0 where
@@ -88,8 +88,8 @@ traps (outcome.Trap other at with) cause pc detail e = cc
 traps (outcome.Exit other) cause pc detail e = absurd (cc)
 
 -- what is seen of a moment that is level with the count
-record Level (plan : Plan) (limit : ℕ) (begin new : Place) (m : Moment) (answer : Answer) (at : Machine) : Type 0 where
-  ends : Ends (isa_of plan) limit at answer
+record Level (plan : Plan) (limit : ℕ) (begin new : RunPlace) (m : Moment) (answer : Answer) (at : Machine) : Type 0 where
+  ends : EndsUnderLimit (isa_of plan) limit at answer
   retired : new.core.state.retired ≡ at.hart.retired
   regs : new.core.state.regs ≡ at.hart.regs
   streams : Leaves begin.streams new.streams at.rest at.output
@@ -103,7 +103,7 @@ unserved plan limit x written m ran.ReadFault r full over = absurd over
 unserved plan limit x written m ran.WriteFault r full over = absurd over
 unserved plan limit x written m ran.ReportFault r full over = absurd over
 
-over_ends : (plan : Plan) (limit : ℕ) (x : Machine) (written : List Line) (m : Moment) (answer : Answer) (r : Refines plan x written m) → r.at.hart.retired ≡ m.state.retired → ((e : End) → m.state.ending ≡ Some e → m.state.retired < limit) → IsOver limit m.state answer → Ends (isa_of plan) limit r.at answer
+over_ends : (plan : Plan) (limit : ℕ) (x : Machine) (written : List Line) (m : Moment) (answer : Answer) (r : Refines plan x written m) → r.at.hart.retired ≡ m.state.retired → ((e : End) → m.state.ending ≡ Some e → m.state.retired < limit) → IsOver limit m.state answer → EndsUnderLimit (isa_of plan) limit r.at answer
 over_ends plan limit x written m (ran.Exit status) r count below over =
     (subst (λ (n : ℕ). n < limit) (sym count) (below (ending.Exit status) over), exits (step (isa_of plan) r.at) status (step_ends (isa_of plan) r.at (ending.Exit status) (r.ends (ending.Exit status) over)))
 over_ends plan limit x written m (ran.Trap cause pc detail) r count below over =
@@ -117,7 +117,7 @@ over_ends plan limit x written m ran.ReportFault r count below over = absurd ove
 one_after : (o : Option Machine) (a b : Machine) → o ≡ Some a → o ≡ Some b → a ≡ b
 one_after o a b e f = cc
 
-leveled : (plan : Plan) (limit : ℕ) (x : Machine) (written : List Line) (begin new : Place) (m : Moment) (answer : Answer) (r : Refines plan x written m) → r.at.hart.retired ≡ m.state.retired → (m.state.retired ≡ limit → served_count plan m.state ≡ 0) → ((e : End) → m.state.ending ≡ Some e → m.state.retired < limit)
+leveled : (plan : Plan) (limit : ℕ) (x : Machine) (written : List Line) (begin new : RunPlace) (m : Moment) (answer : Answer) (r : Refines plan x written m) → r.at.hart.retired ≡ m.state.retired → (m.state.retired ≡ limit → served_count plan m.state ≡ 0) → ((e : End) → m.state.ending ≡ Some e → m.state.retired < limit)
     → new.core ≡ in_state begin.core m.state → Leaves begin.streams new.streams m.rest m.output → IsOver limit m.state answer → Level plan limit begin new m answer r.at
 leveled plan limit x written begin new m answer r count full below core streams over =
     let none : served_count plan m.state ≡ 0 = unserved plan limit x written m answer r full over in
@@ -158,13 +158,13 @@ over-opened limit core hart accepted wide opens =
     subst (Over core.plan limit) (sym (ap (λ (p : Processor). p.state) opens)) (over-started core.plan limit (machine_on hart []) accepted wide)
 
 -- and where a run leads to
-over-reached : (limit : ℕ) (shows : Show) (begin now : Place) (hart : Hart) → IsAccepted begin.core.plan → length hart.regs ≡ 32 → begin.core ≡ opened begin.core.plan hart → Reaches limit shows begin now → Over begin.core.plan limit now.core.state
+over-reached : (limit : ℕ) (shows : Show) (begin now : RunPlace) (hart : Hart) → IsAccepted begin.core.plan → length hart.regs ≡ 32 → begin.core ≡ opened begin.core.plan hart → Reaches limit shows begin now → Over begin.core.plan limit now.core.state
 over-reached limit shows begin now hart accepted wide opens h =
     subst (Over begin.core.plan limit) (sym (ap (λ (p : Processor). p.state) h.core))
     (over-led begin.core.plan limit begin.streams.input (moment_of begin.core h.rest) h.trace h.last (over-opened limit begin.core hart accepted wide opens) h.leads)
 
 -- over an input that tells
-ends_told : (bound limit : ℕ) (shows : Show) (begin now : Place) (hart : Hart) (rest : List ℕ) (answer : Answer) → IsAccepted begin.core.plan → length hart.regs ≡ 32 → begin.core ≡ opened begin.core.plan hart → begin.streams.input ≡ Some rest → Reaches bound shows begin now → Over begin.core.plan limit now.core.state → IsOver limit now.core.state answer
+ends_told : (bound limit : ℕ) (shows : Show) (begin now : RunPlace) (hart : Hart) (rest : List ℕ) (answer : Answer) → IsAccepted begin.core.plan → length hart.regs ≡ 32 → begin.core ≡ opened begin.core.plan hart → begin.streams.input ≡ Some rest → Reaches bound shows begin now → Over begin.core.plan limit now.core.state → IsOver limit now.core.state answer
     → (at : Machine) × (after (isa_of begin.core.plan) (machine_on hart rest) (now.core.state.retired - hart.retired) ≡ Some at) × Level begin.core.plan limit begin now (record { state = now.core.state; rest = at.rest; output = at.output }) answer at
 ends_told bound limit shows begin now hart rest answer accepted wide opens tells h level over =
     let plan : Plan = begin.core.plan in
@@ -182,7 +182,7 @@ ends_told bound limit shows begin now hart rest answer accepted wide opens tells
     (r.at, subst (λ (s : State). after (isa_of plan) x (s.retired - hart.retired) ≡ Some r.at) (sym state) r.count, record { ends = l.ends; retired = l.retired; regs = l.regs; streams = l.streams })
 
 -- over an input that does not
-ends_untold : (bound limit : ℕ) (shows : Show) (begin now : Place) (hart : Hart) (answer : Answer) → IsAccepted begin.core.plan → length hart.regs ≡ 32 → begin.core ≡ opened begin.core.plan hart → begin.streams.input ≡ None → Reaches bound shows begin now → Over begin.core.plan limit now.core.state → IsOver limit now.core.state answer
+ends_untold : (bound limit : ℕ) (shows : Show) (begin now : RunPlace) (hart : Hart) (answer : Answer) → IsAccepted begin.core.plan → length hart.regs ≡ 32 → begin.core ≡ opened begin.core.plan hart → begin.streams.input ≡ None → Reaches bound shows begin now → Over begin.core.plan limit now.core.state → IsOver limit now.core.state answer
     → (at : Machine) × ((written : List Line) × GoesTo (isa_of begin.core.plan) (machine_on hart []) (now.core.state.retired - hart.retired) at written) × Level begin.core.plan limit begin now (record { state = now.core.state; rest = at.rest; output = at.output }) answer at
 unfolding after
 ends_untold bound limit shows begin now hart answer accepted wide opens none h level over =
@@ -206,7 +206,7 @@ ends_untold bound limit shows begin now hart answer accepted wide opens none h l
     (r.at, (leads.written, subst (λ (s : State). GoesTo (isa_of plan) (machine_on hart []) (s.retired - hart.retired) r.at leads.written) (sym state) goes), record { ends = l.ends; retired = l.retired; regs = l.regs; streams = l.streams })
 
 -- a run that is over where it is level ends as the machine does
-pub ends-level : (bound limit : ℕ) (shows : Show) (begin now : Place) (hart : Hart) (answer : Answer) → IsAccepted begin.core.plan → length hart.regs ≡ 32 → begin.core ≡ opened begin.core.plan hart → Reaches bound shows begin now → Over begin.core.plan limit now.core.state → IsOver limit now.core.state answer → EndsAsMachine limit hart begin now answer
+pub ends-level : (bound limit : ℕ) (shows : Show) (begin now : RunPlace) (hart : Hart) (answer : Answer) → IsAccepted begin.core.plan → length hart.regs ≡ 32 → begin.core ≡ opened begin.core.plan hart → Reaches bound shows begin now → Over begin.core.plan limit now.core.state → IsOver limit now.core.state answer → EndsAsMachine limit hart begin now answer
 ends-level bound limit shows begin now hart answer accepted wide opens h level over = go begin.streams.input refl
   where
     go : (o : Option (List ℕ)) → begin.streams.input ≡ o → EndsAsMachine limit hart begin now answer
@@ -214,7 +214,7 @@ ends-level bound limit shows begin now hart answer accepted wide opens h level o
         let e = ends_told bound limit shows begin now hart rest answer accepted wide opens tells h level over in
         record {
           at = e.0;
-          comes = subst (λ (o : Option (List ℕ)). IsAfter (isa_of begin.core.plan) o hart (now.core.state.retired - hart.retired) e.0) (sym tells) e.1;
+          comes = subst (λ (o : Option (List ℕ)). IsAfterSteps (isa_of begin.core.plan) o hart (now.core.state.retired - hart.retired) e.0) (sym tells) e.1;
           ends = e.2.ends;
           retired = e.2.retired;
           regs = e.2.regs;
@@ -224,7 +224,7 @@ ends-level bound limit shows begin now hart answer accepted wide opens h level o
         let e = ends_untold bound limit shows begin now hart answer accepted wide opens none h level over in
         record {
           at = e.0;
-          comes = subst (λ (o : Option (List ℕ)). IsAfter (isa_of begin.core.plan) o hart (now.core.state.retired - hart.retired) e.0) (sym none) e.1;
+          comes = subst (λ (o : Option (List ℕ)). IsAfterSteps (isa_of begin.core.plan) o hart (now.core.state.retired - hart.retired) e.0) (sym none) e.1;
           ends = e.2.ends;
           retired = e.2.retired;
           regs = e.2.regs;
@@ -232,20 +232,20 @@ ends-level bound limit shows begin now hart answer accepted wide opens h level o
         }
 
 -- so does a run whose moves were all made below the limit
-pub ends-sequentially : (limit : ℕ) (shows : Show) (begin now : Place) (hart : Hart) (answer : Answer) → IsAccepted begin.core.plan → length hart.regs ≡ 32 → begin.core ≡ opened begin.core.plan hart → Reaches limit shows begin now → IsOver limit now.core.state answer → EndsAsMachine limit hart begin now answer
+pub ends-sequentially : (limit : ℕ) (shows : Show) (begin now : RunPlace) (hart : Hart) (answer : Answer) → IsAccepted begin.core.plan → length hart.regs ≡ 32 → begin.core ≡ opened begin.core.plan hart → Reaches limit shows begin now → IsOver limit now.core.state answer → EndsAsMachine limit hart begin now answer
 ends-sequentially limit shows begin now hart answer accepted wide opens h over =
     ends-level limit limit shows begin now hart answer accepted wide opens h (over-reached limit shows begin now hart accepted wide opens h) over
 
 -- the same of a run whose last place is that one
-pub same_place : (limit : ℕ) (hart : Hart) (begin now new : Place) (answer : Answer) → new ≡ now → EndsAsMachine limit hart begin now answer → EndsAsMachine limit hart begin new answer
-same_place limit hart begin now new answer same e = subst (λ (p : Place). EndsAsMachine limit hart begin p answer) (sym same) e
+pub same_place : (limit : ℕ) (hart : Hart) (begin now new : RunPlace) (answer : Answer) → new ≡ now → EndsAsMachine limit hart begin now answer → EndsAsMachine limit hart begin new answer
+same_place limit hart begin now new answer same e = subst (λ (p : RunPlace). EndsAsMachine limit hart begin p answer) (sym same) e
 
 -- so does the run of a script
-pub script-ends : (limit : ℕ) (shows : Show) (begin new : Stand) (hart : Hart) (answer : Scripted) → IsAccepted begin.place.core.plan → length hart.regs ≡ 32 → begin.place.core ≡ opened begin.place.core.plan hart → RunsScript limit shows begin new answer → EndsAlike limit hart begin.place new.place answer
+pub script-ends : (limit : ℕ) (shows : Show) (begin new : ScriptRun) (hart : Hart) (answer : Scripted) → IsAccepted begin.place.core.plan → length hart.regs ≡ 32 → begin.place.core ≡ opened begin.place.core.plan hart → RunsScript limit shows begin new answer → EndsAlike limit hart begin.place new.place answer
 unfolding ScriptStops
-script-ends limit shows begin new hart (Ran (ran.Exit status)) accepted wide opens r = same_place limit hart begin.place r.now.place new.place (ran.Exit status) (ap (λ (s : Stand). s.place) r.stops.1) (ends-sequentially limit shows begin.place r.now.place hart (ran.Exit status) accepted wide opens r.follows.reaches r.stops.0)
-script-ends limit shows begin new hart (Ran (ran.Trap cause pc detail)) accepted wide opens r = same_place limit hart begin.place r.now.place new.place (ran.Trap cause pc detail) (ap (λ (s : Stand). s.place) r.stops.1) (ends-sequentially limit shows begin.place r.now.place hart (ran.Trap cause pc detail) accepted wide opens r.follows.reaches r.stops.0)
-script-ends limit shows begin new hart (Ran ran.Limit) accepted wide opens r = same_place limit hart begin.place r.now.place new.place ran.Limit (ap (λ (s : Stand). s.place) r.stops.1) (ends-sequentially limit shows begin.place r.now.place hart ran.Limit accepted wide opens r.follows.reaches r.stops.0)
+script-ends limit shows begin new hart (Ran (ran.Exit status)) accepted wide opens r = same_place limit hart begin.place r.now.place new.place (ran.Exit status) (ap (λ (s : ScriptRun). s.place) r.stops.1) (ends-sequentially limit shows begin.place r.now.place hart (ran.Exit status) accepted wide opens r.follows.reaches r.stops.0)
+script-ends limit shows begin new hart (Ran (ran.Trap cause pc detail)) accepted wide opens r = same_place limit hart begin.place r.now.place new.place (ran.Trap cause pc detail) (ap (λ (s : ScriptRun). s.place) r.stops.1) (ends-sequentially limit shows begin.place r.now.place hart (ran.Trap cause pc detail) accepted wide opens r.follows.reaches r.stops.0)
+script-ends limit shows begin new hart (Ran ran.Limit) accepted wide opens r = same_place limit hart begin.place r.now.place new.place ran.Limit (ap (λ (s : ScriptRun). s.place) r.stops.1) (ends-sequentially limit shows begin.place r.now.place hart ran.Limit accepted wide opens r.follows.reaches r.stops.0)
 script-ends limit shows begin new hart (Ran ran.ReadFault) accepted wide opens r = tt
 script-ends limit shows begin new hart (Ran ran.WriteFault) accepted wide opens r = tt
 script-ends limit shows begin new hart (Ran ran.ReportFault) accepted wide opens r = tt
@@ -254,7 +254,7 @@ script-ends limit shows begin new hart (BadScript refusal) accepted wide opens r
 script-ends limit shows begin new hart (BarredAt line bar) accepted wide opens r = tt
 
 -- and of a policy
-pub policy-ends : {P : Type 0} (picked : P → List Move → ℕ) (onward : P → List Move → P) (limit : ℕ) (shows : Show) (begin new : Place) (policy later : P) (moves : List Move) (hart : Hart) (answer : Answer) → IsAccepted begin.core.plan → length hart.regs ≡ 32 → begin.core ≡ opened begin.core.plan hart → RunsPolicy picked onward limit shows begin new policy later moves answer → EndsAlike limit hart begin new (Ran answer)
+pub policy-ends : {P : Type 0} (picked : P → List Move → ℕ) (onward : P → List Move → P) (limit : ℕ) (shows : Show) (begin new : RunPlace) (policy later : P) (moves : List Move) (hart : Hart) (answer : Answer) → IsAccepted begin.core.plan → length hart.regs ≡ 32 → begin.core ≡ opened begin.core.plan hart → RunsPolicy picked onward limit shows begin new policy later moves answer → EndsAlike limit hart begin new (Ran answer)
 policy-ends picked onward limit shows begin new policy later moves hart (ran.Exit status) accepted wide opens r = same_place limit hart begin r.now new (ran.Exit status) r.stops.1 (ends-sequentially limit shows begin r.now hart (ran.Exit status) accepted wide opens r.reaches r.stops.0)
 policy-ends picked onward limit shows begin new policy later moves hart (ran.Trap cause pc detail) accepted wide opens r = same_place limit hart begin r.now new (ran.Trap cause pc detail) r.stops.1 (ends-sequentially limit shows begin r.now hart (ran.Trap cause pc detail) accepted wide opens r.reaches r.stops.0)
 policy-ends picked onward limit shows begin new policy later moves hart ran.Limit accepted wide opens r = same_place limit hart begin r.now new ran.Limit r.stops.1 (ends-sequentially limit shows begin r.now hart ran.Limit accepted wide opens r.reaches r.stops.0)
@@ -263,12 +263,12 @@ policy-ends picked onward limit shows begin new policy later moves hart ran.Writ
 policy-ends picked onward limit shows begin new policy later moves hart ran.ReportFault accepted wide opens r = tt
 
 -- on whatever hart the processor was opened
-pub script-ends-sequentially : (limit : ℕ) (shows : Show) (begin new : Stand) (answer : Scripted) → IsAccepted begin.place.core.plan → length begin.place.core.state.regs ≡ 32 → RunsScript limit shows begin new answer → EndsSequentially limit begin.place new.place answer
+pub script-ends-sequentially : (limit : ℕ) (shows : Show) (begin new : ScriptRun) (answer : Scripted) → IsAccepted begin.place.core.plan → length begin.place.core.state.regs ≡ 32 → RunsScript limit shows begin new answer → EndsSequentially limit begin.place new.place answer
 unfolding EndsSequentially
 script-ends-sequentially limit shows begin new answer accepted wide r plan hart opens =
     script-ends limit shows begin new hart answer accepted (ap length (sym (opened_regs begin.place.core plan hart opens)) ∙ wide) (opened_here begin.place.core plan hart opens) r
 
-pub policy-ends-sequentially : {P : Type 0} (picked : P → List Move → ℕ) (onward : P → List Move → P) (limit : ℕ) (shows : Show) (begin new : Place) (policy later : P) (moves : List Move) (answer : Answer) → IsAccepted begin.core.plan → length begin.core.state.regs ≡ 32 → RunsPolicy picked onward limit shows begin new policy later moves answer → EndsSequentially limit begin new (Ran answer)
+pub policy-ends-sequentially : {P : Type 0} (picked : P → List Move → ℕ) (onward : P → List Move → P) (limit : ℕ) (shows : Show) (begin new : RunPlace) (policy later : P) (moves : List Move) (answer : Answer) → IsAccepted begin.core.plan → length begin.core.state.regs ≡ 32 → RunsPolicy picked onward limit shows begin new policy later moves answer → EndsSequentially limit begin new (Ran answer)
 unfolding EndsSequentially
 policy-ends-sequentially picked onward limit shows begin new policy later moves answer accepted wide r plan hart opens =
     policy-ends picked onward limit shows begin new policy later moves hart answer accepted (ap length (sym (opened_regs begin.core plan hart opens)) ∙ wide) (opened_here begin.core plan hart opens) r

@@ -8,7 +8,7 @@ use Rattle.rv_inst.specs.declared.isa.Isa.{Isa}
 use Rattle.rv_inst.specs.declared.instruction.Instr.{Instr}
 use Rattle.rv_inst.specs.declared.instruction.Instr.TheVariants.{Ecall}
 use Rattle.rv_machine.specs.After.{after}
-use Rattle.rv_machine.specs.Call.{Answer, call, write, asks_output, second_argument, third_argument}
+use Rattle.rv_machine.specs.Call.{CallAnswer, call, write, asks_output, second_argument, third_argument}
 use Rattle.rv_machine.specs.Call as called
 use Rattle.rv_machine.specs.Machine.{Machine}
 use Rattle.cf_layout.specs.Layout.{Plan}
@@ -78,7 +78,7 @@ wrote : (plan : Plan) (m : Moment) (bytes : List ℕ) (r : Serves plan m.state) 
     → IsTrue (asks_output m.state.regs m.state.mem) → range_of m.state.mem (second_argument m.state.regs) (third_argument m.state.regs) ≡ Some bytes → Wrote plan m bytes
 wrote plan m bytes r unended calls asks is =
     let ecall : instruction r.who ≡ Ecall = calls_there m.state.cells plan.stages r.here r.who r.at_here r.sits calls in
-    let a : Answer = record { value = third_argument m.state.regs; mem = m.state.mem; rest = m.rest; output = bytes } in
+    let a : CallAnswer = record { value = third_argument m.state.regs; mem = m.state.mem; rest = m.rest; output = bytes } in
     let answer : serve_of (instruction r.who) m.state.regs m.state.mem m.rest ≡ called.Value a = serve_ecall (instruction r.who) m.state.regs m.state.mem m.rest ecall ∙ asked_bytes m.state.regs m.state.mem m.rest bytes asks is in
     let to : next plan m Serve ≡ served m plan.stages r.here r.who (called.Value a) = next_serve plan m r.here r.who (called.Value a) r.at_here r.sits answer in
     record {

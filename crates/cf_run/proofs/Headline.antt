@@ -10,18 +10,18 @@ use Rattle.cf_semantics.specs.runs.Runs.{opened as opened_on}
 use Rattle.cf_core.specs.Processors.{Processor, opened}
 use Rattle.theory_unknown_input.proofs.Theorems.{refines_held}
 use Rattle.cf_run.specs.declared.answer.Scripted.{Scripted}
-use Rattle.cf_run.specs.Headline.{machine_on, moment_after, lines_after, RunsAs, RunsAnew, RunsOver, RunsSequentially}
-use Rattle.cf_run.specs.Moving.{Place}
+use Rattle.cf_run.specs.Headline.{machine_on, moment_after, lines_after, RunsAs, RunsOverUnknownInput, RunsOver, RunsSequentially}
+use Rattle.cf_run.specs.Moving.{RunPlace}
 use Rattle.cf_run.specs.Made.{moves_of}
-use Rattle.cf_run.specs.Scripts.{Stand, RunsScript, first_moves}
+use Rattle.cf_run.specs.Scripts.{ScriptRun, RunsScript, first_moves}
 use Rattle.cf_run.proofs.Arrived.{ArrivesBy, arrives-by}
 use Rattle.cf_run.proofs.Settling.{settles}
 use Rattle.cf_run.proofs.ByScript.{comes-to}
 use Rattle.cf_run.proofs.Stopping.{IsStopped, ComesTo}
-use Rattle.cf_run.proofs.Untold.{ArrivesAnew, arrives-anew}
+use Rattle.cf_run.proofs.UnknownInput.{ArrivesAnew, arrives-anew}
 
 -- a run on an opened processor, over an input that tells
-run-told : (limit : ℕ) (shows : Show) (hart : Hart) (rest : List ℕ) (begin new : Place) (moves : List Move) (answer : Scripted) → IsAccepted begin.core.plan → length hart.regs ≡ 32 → begin.core ≡ opened begin.core.plan hart → begin.streams.input ≡ Some rest
+run-told : (limit : ℕ) (shows : Show) (hart : Hart) (rest : List ℕ) (begin new : RunPlace) (moves : List Move) (answer : Scripted) → IsAccepted begin.core.plan → length hart.regs ≡ 32 → begin.core ≡ opened begin.core.plan hart → begin.streams.input ≡ Some rest
     → ComesTo limit shows begin moves new answer → RunsAs shows (machine_on hart rest) moves begin new answer
 run-told limit shows hart rest begin new moves answer accepted wide opens tells c =
     let plan : Plan = begin.core.plan in
@@ -32,8 +32,8 @@ run-told limit shows hart rest begin new moves answer accepted wide opens tells 
     subst (λ (moves : List Move). RunsAs shows x moves begin new answer) c.moves_are (record { right = a.right; stops = h.stops; report = h.report })
 
 -- and over one that does not tell
-run-untold : (limit : ℕ) (shows : Show) (hart : Hart) (begin new : Place) (moves : List Move) (answer : Scripted) → IsAccepted begin.core.plan → length hart.regs ≡ 32 → begin.core ≡ opened begin.core.plan hart → begin.streams.input ≡ None
-    → ComesTo limit shows begin moves new answer → RunsAnew shows hart begin new answer
+run-untold : (limit : ℕ) (shows : Show) (hart : Hart) (begin new : RunPlace) (moves : List Move) (answer : Scripted) → IsAccepted begin.core.plan → length hart.regs ≡ 32 → begin.core ≡ opened begin.core.plan hart → begin.streams.input ≡ None
+    → ComesTo limit shows begin moves new answer → RunsOverUnknownInput shows hart begin new answer
 run-untold limit shows hart begin new moves answer accepted wide opens none c =
     let plan : Plan = begin.core.plan in
     let a : ArrivesAnew shows hart begin c.now = arrives-anew limit shows hart begin c.now accepted wide opens none c.reaches in
@@ -62,7 +62,7 @@ unfolding opened opened_on
 opened_regs core plan hart is = ap (λ (p : Processor). p.state.regs) is
 
 -- a run that reached some place is a run of that machine
-runs_over : (limit : ℕ) (shows : Show) (hart : Hart) (begin new : Place) (moves : List Move) (answer : Scripted) → IsAccepted begin.core.plan → length hart.regs ≡ 32 → begin.core ≡ opened begin.core.plan hart
+runs_over : (limit : ℕ) (shows : Show) (hart : Hart) (begin new : RunPlace) (moves : List Move) (answer : Scripted) → IsAccepted begin.core.plan → length hart.regs ≡ 32 → begin.core ≡ opened begin.core.plan hart
     → ComesTo limit shows begin moves new answer → RunsOver begin.streams.input shows hart moves begin new answer
 runs_over limit shows hart begin new moves answer accepted wide opens c = over begin.streams.input refl
   where
@@ -71,12 +71,12 @@ runs_over limit shows hart begin new moves answer accepted wide opens c = over b
     over None tells = run-untold limit shows hart begin new moves answer accepted wide opens tells c
 
 -- the headline
-pub comes_sequentially : (limit : ℕ) (shows : Show) (begin new : Place) (moves : List Move) (answer : Scripted) → IsAccepted begin.core.plan → length begin.core.state.regs ≡ 32 → ComesTo limit shows begin moves new answer → RunsSequentially shows moves begin new answer
+pub comes_sequentially : (limit : ℕ) (shows : Show) (begin new : RunPlace) (moves : List Move) (answer : Scripted) → IsAccepted begin.core.plan → length begin.core.state.regs ≡ 32 → ComesTo limit shows begin moves new answer → RunsSequentially shows moves begin new answer
 unfolding RunsSequentially
 comes_sequentially limit shows begin new moves answer accepted wide c plan hart opens =
     runs_over limit shows hart begin new moves answer accepted (ap length (sym (opened_regs begin.core plan hart opens)) ∙ wide) (opened_here begin.core plan hart opens) c
 
 -- of a script
-pub runs-sequentially : (limit : ℕ) (shows : Show) (begin new : Stand) (answer : Scripted) → IsAccepted begin.place.core.plan → length begin.place.core.state.regs ≡ 32 → RunsScript limit shows begin new answer → RunsSequentially shows (first_moves begin.script new.place.tally) begin.place new.place answer
+pub runs-sequentially : (limit : ℕ) (shows : Show) (begin new : ScriptRun) (answer : Scripted) → IsAccepted begin.place.core.plan → length begin.place.core.state.regs ≡ 32 → RunsScript limit shows begin new answer → RunsSequentially shows (first_moves begin.script new.place.tally) begin.place new.place answer
 runs-sequentially limit shows begin new answer accepted wide r =
     comes_sequentially limit shows begin.place new.place (first_moves begin.script new.place.tally) answer accepted wide (comes-to limit shows begin r.now new answer accepted r.follows r.stops)

@@ -7,7 +7,7 @@ pub mod Retirements
 pub mod Fronts
 pub mod Settling
 pub mod Arrived
-pub mod Untold
+pub mod UnknownInput
 pub mod Stopping
 pub mod ByScript
 pub mod Picking

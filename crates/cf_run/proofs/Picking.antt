@@ -12,7 +12,7 @@ use Rattle.cf_semantics.specs.state.State.{State, Moment}
 use Rattle.cf_semantics.specs.claims.Weight.{is_issue}
 use Rattle.theory_refinement.proofs.layouts.Accepted.{accepted_suits}
 use Rattle.theory_refinement.proofs.claims.Runs.{going}
-use Rattle.theory_unknown_input.specs.Anew.{finding}
+use Rattle.theory_unknown_input.specs.UnknownInput.{finding}
 use Rattle.theory_unknown_input.proofs.Invariant.{HoldsAnew}
 use Rattle.theory_unknown_input.specs.Paced.{PacesTo}
 use Rattle.theory_unknown_input.proofs.Offered.{anew_shape, offered_held}

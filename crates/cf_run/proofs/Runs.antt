@@ -7,7 +7,7 @@ use Rattle.run_options.specs.declared.show.Show.{Show}
 use Rattle.cf_io.specs.Puts.{Writes}
 use Rattle.cf_io.proofs.Owing.{writes-nothing, writes-again}
 use Rattle.rv_machine.specs.Streams.{Streams, IsTold, Becomes, Leaves}
-use Rattle.rv_machine.proofs.Told.{rest-told, stays, leaves-again}
+use Rattle.rv_machine.proofs.InputKnown.{rest-told, stays, leaves-again}
 use Rattle.cf_layout.specs.Layout.{Plan}
 use Rattle.cf_bind.specs.declared.moves.Move.{Move}
 use Rattle.cf_semantics.specs.declared.event.Event.{Event}
@@ -19,13 +19,13 @@ use Rattle.cf_semantics.specs.state.State.{State, Moment}
 use Rattle.cf_core.specs.Processors.{Processor, in_state}
 use Rattle.cf_core.specs.Stepping.{Makes}
 use Rattle.cf_report.specs.declared.tally.Tally.{Tally}
-use Rattle.run_scripts.specs.Scripts.{Told, next_of, first_of, after_next}
+use Rattle.run_scripts.specs.Scripts.{ScriptLines, next_of, first_of, after_next}
 use Rattle.run_scripts.specs.declared.refusal.ScriptErr.{ScriptErr}
 use Rattle.cf_run.specs.Made.{Made, moves_of, is_meeting, is_killed, is_died, tally_of, raised_if, counted, CanCount, shown, all_shown}
 use Rattle.cf_run.specs.Going.{moment_of, Finds, IsMade, Leads, RunsTo}
-use Rattle.cf_run.specs.Moving.{Place, MakesOne, MakesAndShows, Does}
+use Rattle.cf_run.specs.Moving.{RunPlace, MakesMove, MakesAndShows, MoveDoes}
 use Rattle.cf_run.specs.Reaching.{no_tally, Reaches}
-use Rattle.cf_run.specs.Scripts.{Stand, Follows, DoesLine, Tries}
+use Rattle.cf_run.specs.Scripts.{ScriptRun, Follows, DoesLine, ScriptTries}
 use Rattle.cf_run.proofs.AfterOutput.{next-after, next-retired}
 
 -- one more move
@@ -53,7 +53,7 @@ runs-to plan limit None m trace last h = tt
 runs-to plan limit (Some told) m trace last h = leads-run plan limit told m trace last h
 
 -- before the first move
-pub reached-none : (limit : ℕ) (show : Show) (start : Place) → start.tally ≡ no_tally → Reaches limit show start start
+pub reached-none : (limit : ℕ) (show : Show) (start : RunPlace) → start.tally ≡ no_tally → Reaches limit show start start
 unfolding Leads tally_of all_shown
 reached-none limit show start none =
     let told : Option (List ℕ) = start.streams.input in
@@ -72,11 +72,11 @@ reached-none limit show start none =
       report = writes-nothing start.report;
     }
 
-pub none-trace : (limit : ℕ) (show : Show) (start : Place) (none : start.tally ≡ no_tally) → (reached-none limit show start none).trace ≡ []
+pub none-trace : (limit : ℕ) (show : Show) (start : RunPlace) (none : start.tally ≡ no_tally) → (reached-none limit show start none).trace ≡ []
 unfolding reached-none
 none-trace limit show start none = refl
 
-pub followed-none : (limit : ℕ) (show : Show) (start : Stand) → start.place.tally ≡ no_tally → Follows limit show start start
+pub followed-none : (limit : ℕ) (show : Show) (start : ScriptRun) → start.place.tally ≡ no_tally → Follows limit show start start
 unfolding reached-none
 followed-none limit show start none = record { reaches = reached-none limit show start.place none; moves = refl; script = refl }
 
@@ -174,9 +174,9 @@ unfolding tally_of
 moves-counted trace now new mv e same counts = rw (counts, same) (omega arith)
 
 -- one more move
-pub reached-more : (limit : ℕ) (show : Show) (start now new : Place) (mv : Move) (e : Event) → Reaches limit show start now → now.core.state.retired < limit → MakesAndShows show mv e now new → Reaches limit show start new
+pub reached-more : (limit : ℕ) (show : Show) (start now new : RunPlace) (mv : Move) (e : Event) → Reaches limit show start now → now.core.state.retired < limit → MakesAndShows show mv e now new → Reaches limit show start new
 reached-more limit show start now new mv e h below d =
-    let o : MakesOne mv e now new = d.makes in
+    let o : MakesMove mv e now new = d.makes in
     let made : Made = record { move = mv; event = e; state = new.core.state } in
     let trace : List Made = h.trace ++ made ∷ [] in
     let l : Led start.core.plan limit start.streams.input (moment_of start.core h.rest) trace start.core new.core start.streams new.streams =
@@ -199,25 +199,25 @@ reached-more limit show start now new mv e h below d =
     }
 
 -- the moves that led here, and that one
-pub reached-trace : (limit : ℕ) (show : Show) (start now new : Place) (mv : Move) (e : Event) (h : Reaches limit show start now) (below : now.core.state.retired < limit) (d : MakesAndShows show mv e now new)
+pub reached-trace : (limit : ℕ) (show : Show) (start now new : RunPlace) (mv : Move) (e : Event) (h : Reaches limit show start now) (below : now.core.state.retired < limit) (d : MakesAndShows show mv e now new)
     → (reached-more limit show start now new mv e h below d).trace ≡ h.trace ++ record { move = mv; event = e; state = new.core.state } ∷ []
 unfolding reached-more
 reached-trace limit show start now new mv e h below d = refl
 
 -- and the input that they found
-pub reached-rest : (limit : ℕ) (show : Show) (start now new : Place) (mv : Move) (e : Event) (h : Reaches limit show start now) (below : now.core.state.retired < limit) (d : MakesAndShows show mv e now new)
+pub reached-rest : (limit : ℕ) (show : Show) (start now new : RunPlace) (mv : Move) (e : Event) (h : Reaches limit show start now) (below : now.core.state.retired < limit) (d : MakesAndShows show mv e now new)
     → (reached-more limit show start now new mv e h below d).rest ≡ h.rest
 unfolding reached-more
 reached-rest limit show start now new mv e h below d = refl
 
-pub followed-more : (limit : ℕ) (show : Show) (start now new : Stand) → Follows limit show start now → Tries limit show now new None → Follows limit show start new
-unfolding DoesLine Does reached-more
+pub followed-more : (limit : ℕ) (show : Show) (start now new : ScriptRun) → Follows limit show start now → ScriptTries limit show now new None → Follows limit show start new
+unfolding DoesLine MoveDoes reached-more
 followed-more limit show start now new f t =
     let h : Reaches limit show start.place now.place = f.reaches in
     let e : Event = t.does.0 in
     let d : MakesAndShows show t.move e now.place new.place = t.does.1 in
     let made : Made = record { move = t.move; event = e; state = new.place.core.state } in
-    let P : Told → Type 0 = λ told. next_of told ≡ Ok (Some (t.line, t.move)) in
+    let P : ScriptLines → Type 0 = λ told. next_of told ≡ Ok (Some (t.line, t.move)) in
     let next : first_of (drop (length h.trace) start.script.moves) start.script.refused ≡ Ok (Some (t.line, t.move)) = subst P f.script t.next in
     let size : length (h.trace ++ made ∷ []) ≡ suc (length h.trace) = length-more h.trace made ∙ add-one (length h.trace) in
     record {
@@ -227,8 +227,8 @@ followed-more limit show start now new f t =
     }
 
 -- the moves that led here, and that one
-pub followed-trace : (limit : ℕ) (show : Show) (start now new : Stand) (f : Follows limit show start now) (t : Tries limit show now new None) → (made : Made) × (made.move ≡ t.move) × ((followed-more limit show start now new f t).reaches.trace ≡ f.reaches.trace ++ made ∷ [])
-unfolding DoesLine Does followed-more reached-more
+pub followed-trace : (limit : ℕ) (show : Show) (start now new : ScriptRun) (f : Follows limit show start now) (t : ScriptTries limit show now new None) → (made : Made) × (made.move ≡ t.move) × ((followed-more limit show start now new f t).reaches.trace ≡ f.reaches.trace ++ made ∷ [])
+unfolding DoesLine MoveDoes followed-more reached-more
 followed-trace limit show start now new f t = (record { move = t.move; event = t.does.0; state = new.place.core.state }, refl, refl)
 
 -- no more instructions than the limit have retired
@@ -237,11 +237,11 @@ retired-within limit old new mv before after below makes =
     let m : Moment = record { state = old.state; rest = makes.rest; output = [] } in
     omega (arith, next-retired old.plan m mv, ap (λ (q : Moment). q.state.retired) makes.is)
 
-pub made-within : (limit : ℕ) (show : Show) (now new : Place) (mv : Move) (e : Event) → now.core.state.retired < limit → MakesAndShows show mv e now new → new.core.state.retired ≤ limit
+pub made-within : (limit : ℕ) (show : Show) (now new : RunPlace) (mv : Move) (e : Event) → now.core.state.retired < limit → MakesAndShows show mv e now new → new.core.state.retired ≤ limit
 made-within limit show now new mv e below d = retired-within limit now.core new.core mv now.streams new.streams below d.makes.makes
 
-pub tried-within : (limit : ℕ) (show : Show) (now new : Stand) → Tries limit show now new None → new.place.core.state.retired ≤ limit
-unfolding DoesLine Does
+pub tried-within : (limit : ℕ) (show : Show) (now new : ScriptRun) → ScriptTries limit show now new None → new.place.core.state.retired ≤ limit
+unfolding DoesLine MoveDoes
 tried-within limit show now new t = made-within limit show now.place new.place t.move t.does.0 t.goes.below t.does.1
 
 -- a script has one move less for each that is counted
@@ -249,21 +249,21 @@ lengths : (moves : List (ℕ × Move)) (refused : Option ScriptErr) (line : ℕ)
 lengths [] refused line mv e = absurd (nothing-next refused line mv e)
 lengths (first ∷ moves) refused line mv e = add-one (length moves)
 
-pub tried-left : (limit : ℕ) (show : Show) (now new : Stand) → Tries limit show now new None → length new.script.moves + 1 ≡ length now.script.moves
+pub tried-left : (limit : ℕ) (show : Show) (now new : ScriptRun) → ScriptTries limit show now new None → length new.script.moves + 1 ≡ length now.script.moves
 tried-left limit show now new t = rw t.script (lengths now.script.moves now.script.refused t.line t.move t.next)
 
-pub tried-counted : (limit : ℕ) (show : Show) (now new : Stand) → Tries limit show now new None → new.place.tally.moves ≡ now.place.tally.moves + 1
-unfolding DoesLine Does
+pub tried-counted : (limit : ℕ) (show : Show) (now new : ScriptRun) → ScriptTries limit show now new None → new.place.tally.moves ≡ now.place.tally.moves + 1
+unfolding DoesLine MoveDoes
 tried-counted limit show now new t = ap (λ (tally : Tally). tally.moves) t.does.1.makes.tally
 
 -- no count is greater than that of the moves
-pub counts-within : (limit : ℕ) (show : Show) (start now : Place) → Reaches limit show start now → (now.tally.meets ≤ now.tally.moves) × (now.tally.kills ≤ now.tally.moves) × (now.tally.dead ≤ now.tally.moves)
+pub counts-within : (limit : ℕ) (show : Show) (start now : RunPlace) → Reaches limit show start now → (now.tally.meets ≤ now.tally.moves) × (now.tally.kills ≤ now.tally.moves) × (now.tally.dead ≤ now.tally.moves)
 unfolding tally_of
 counts-within limit show start now h =
     rw h.tally (count_by-le-length (λ made. is_meeting made.move) h.trace, count_by-le-length (λ made. is_killed made.event) h.trace, count_by-le-length (λ made. is_died made.event) h.trace)
 
 -- so all can be counted on where the moves can
-pub can-count : (limit : ℕ) (show : Show) (start now : Place) → Reaches limit show start now → now.tally.moves + 1 < 2 ^ 64 → CanCount now.tally
+pub can-count : (limit : ℕ) (show : Show) (start now : RunPlace) → Reaches limit show start now → now.tally.moves + 1 < 2 ^ 64 → CanCount now.tally
 can-count limit show start now h few =
     let within = counts-within limit show start now h in
     record { moves = few; meets = omega (arith, few, within.0); kills = omega (arith, few, within.1); dead = omega (arith, few, within.2) }

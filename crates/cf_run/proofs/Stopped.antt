@@ -9,7 +9,7 @@ use Rattle.cf_semantics.specs.moves.Holding.{is_held, is_retirement, offered, pa
 use Rattle.cf_semantics.specs.state.State.{State}
 use Rattle.cf_semantics.specs.claims.Weight.{is_issue}
 use Rattle.cf_semantics.specs.moves.Candidates.{candidates, held_back}
-use Rattle.cf_sched.specs.Paces.{Count, offers, stopped}
+use Rattle.cf_sched.specs.Paces.{PaceCount, offers, stopped}
 
 held_stopped : (plan : Plan) (count : ℕ) → is_held plan (stopped plan.stages count) ≡ is_held plan count
 held_stopped plan count = grind (arith, nat_tests)
@@ -30,7 +30,7 @@ paced-stopped stages count mv e drained = go (is_retirement e || drained) (is_is
     go false false = grind (arith, nat_tests)
 
 -- by the count that stops the same is offered as by a count, beside the stages of the layout
-pub offers-offered : (c : Count) (plan : Plan) (s : State) → c.stages ≡ plan.stages → offers c plan s ≡ offered plan c.count s
+pub offers-offered : (c : PaceCount) (plan : Plan) (s : State) → c.stages ≡ plan.stages → offers c plan s ≡ offered plan c.count s
 unfolding offered offers
 offers-offered c plan s beside = ap (λ (n : ℕ). if nat_le (2 * n) c.count then held_back (candidates plan s) else candidates plan s) beside
 

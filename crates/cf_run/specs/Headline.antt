@@ -21,7 +21,7 @@ use Rattle.cf_semantics.specs.claims.Refines.{Refines, gained}
 use Rattle.cf_semantics.specs.runs.Runs.{IsRun, run, start as start_on}
 use Rattle.cf_semantics.specs.state.State.{State, Moment}
 use Rattle.cf_semantics.specs.claims.Weight.{issues, weight}
-use Rattle.theory_unknown_input.specs.Anew.{GoesTo, LeadsTo}
+use Rattle.theory_unknown_input.specs.UnknownInput.{GoesTo, LeadsTo}
 use Rattle.cf_core.specs.Processors.{in_state, opened}
 use Rattle.cf_core.specs.Stepping.{FailsToRead, FailsToWrite}
 use Rattle.cf_report.specs.Lines.{retired_line}
@@ -29,7 +29,7 @@ use Rattle.cf_run.specs.declared.answer.Ran.TheVariants as ran
 use Rattle.cf_run.specs.declared.answer.Scripted.{Scripted}
 use Rattle.cf_run.specs.declared.answer.Scripted.TheVariants.{Ran}
 use Rattle.cf_run.specs.Made.{Made, all_shown}
-use Rattle.cf_run.specs.Moving.{Place}
+use Rattle.cf_run.specs.Moving.{RunPlace}
 
 -- The sequential machine as a run begins: the hart on which the processor was opened, with this input before it and nothing written.
 abbrev pub machine_on : Hart → List ℕ → Machine
@@ -61,7 +61,7 @@ pub record IsRight (plan : Plan) (x : Machine) (moves : List Move) : Type 0 wher
   pub settles : Settles plan x (moment_after plan x moves)
 
 -- The processor stands at the moment: what is left of the input and what was written to the output are the moment's.
-pub record StandsAt (m : Moment) (begin new : Place) : Type 0 where
+pub record StandsAt (m : Moment) (begin new : RunPlace) : Type 0 where
   pub core : new.core ≡ in_state begin.core m.state
   pub streams : Leaves begin.streams new.streams m.rest m.output
 
@@ -72,7 +72,7 @@ pub record IsUnmoved (m : Moment) (s : State) : Type 0 where
   pub ending : s.ending ≡ m.state.ending
 
 -- The input failed the call that was to be served at the moment: registers, count and ending are those before the call, and the output is the moment's.
-pub record FailsInput (m : Moment) (begin new : Place) : Type 0 where
+pub record FailsInput (m : Moment) (begin new : RunPlace) : Type 0 where
   pub allowed : bar begin.core.plan m.state Serve ≡ None
   pub before : Streams
   pub reached : Leaves begin.streams before m.rest m.output
@@ -88,7 +88,7 @@ pub record IsFrontAfter (isa : Isa) (x : Machine) (n : ℕ) (written : List ℕ)
   pub front : at.output ≡ written ++ more
 
 -- The output failed the call that was to be served at the moment: registers, count and ending are those before the call, and what was written is a front of what the sequential machine has written after its next step, which is the call.
-pub record FailsOutput (x : Machine) (m : Moment) (begin new : Place) : Type 0 where
+pub record FailsOutput (x : Machine) (m : Moment) (begin new : RunPlace) : Type 0 where
   pub allowed : bar begin.core.plan m.state Serve ≡ None
   pub before : Streams
   pub reached : Leaves begin.streams before m.rest m.output
@@ -99,7 +99,7 @@ pub record FailsOutput (x : Machine) (m : Moment) (begin new : Place) : Type 0 w
   pub front : IsFrontAfter (isa_of begin.core.plan) x (gained x m.state + 1) written
 
 -- Where the run stops: at the moment, or where a call failed that was to be served there.
-unfoldable pub StopsAt : Machine → Moment → (begin new : Place) → Scripted → Type 0
+unfoldable pub StopsAt : Machine → Moment → (begin new : RunPlace) → Scripted → Type 0
 StopsAt x m begin new (Ran ran.ReadFault) = FailsInput m begin new
 StopsAt x m begin new (Ran ran.WriteFault) = FailsOutput x m begin new
 StopsAt x m begin new answer = StandsAt m begin new
@@ -116,7 +116,7 @@ Gets before after (Ran ran.ReportFault) text = WritesFront before after text
 Gets before after answer text = Writes before after text
 
 -- What the report got of these instructions: where retirements alone are shown, their lines; where moves are shown, a group for each move, and the lines of retirement in these groups are theirs.
-abbrev pub ReportsLines : Show → ℕ → List Line → (begin new : Place) → Scripted → Type 0
+abbrev pub ReportsLines : Show → ℕ → List Line → (begin new : RunPlace) → Scripted → Type 0
 ReportsLines show.Retired n written begin new answer =
     (text : List ℕ) × AreTexts n written text × Gets begin.report new.report answer text
 ReportsLines show.Moves n written begin new answer =
@@ -125,13 +125,13 @@ ReportsLines show.Moves n written begin new answer =
 ReportsLines show.Report n written begin new answer = Unit {0}
 
 -- The run is a run of this machine, by these moves: they are right, it stops at the moment to which they lead, and the instructions that it reports are those that the machine retires, numbered by the machine's count.
-pub record RunsAs (shows : Show) (x : Machine) (moves : List Move) (begin new : Place) (answer : Scripted) : Type 0 where
+pub record RunsAs (shows : Show) (x : Machine) (moves : List Move) (begin new : RunPlace) (answer : Scripted) : Type 0 where
   pub right : IsRight begin.core.plan x moves
   pub stops : StopsAt x (moment_after begin.core.plan x moves) begin new answer
   pub report : ReportsLines shows (x.hart.retired + 1) (lines_after begin.core.plan x moves) begin new answer
 
 -- The run is a run of the machine that starts on this hart, over an input that does not tell what it has left: as many steps as have retired, each of which finds some input, lead to a machine, with these lines; and with some input left, what is seen of the moment where the run stops is what that machine does, and from there the processor drains.
-pub record RunsAnew (shows : Show) (hart : Hart) (begin new : Place) (answer : Scripted) : Type 0 where
+pub record RunsOverUnknownInput (shows : Show) (hart : Hart) (begin new : RunPlace) (answer : Scripted) : Type 0 where
   pub at : Machine
   pub written : List Line
   pub last : Moment
@@ -145,11 +145,11 @@ pub record RunsAnew (shows : Show) (hart : Hart) (begin new : Place) (answer : S
   pub report : ReportsLines shows (hart.retired + 1) written begin new answer
 
 -- The run is a run of the machine that starts on this hart with what the input tells, by these moves; where the input does not tell that, of the machine each of whose calls finds some input.
-abbrev pub RunsOver : Option (List ℕ) → Show → Hart → List Move → (begin new : Place) → Scripted → Type 0
+abbrev pub RunsOver : Option (List ℕ) → Show → Hart → List Move → (begin new : RunPlace) → Scripted → Type 0
 RunsOver (Some rest) shows hart moves begin new answer = RunsAs shows (machine_on hart rest) moves begin new answer
-RunsOver None shows hart moves begin new answer = RunsAnew shows hart begin new answer
+RunsOver None shows hart moves begin new answer = RunsOverUnknownInput shows hart begin new answer
 
 -- The headline, of a run that made these moves, whatever chose them: on whatever hart the processor was opened, and whatever the input tells or does not tell, the run is a run of the machine that starts on that hart.
-unfoldable pub RunsSequentially : Show → List Move → (begin new : Place) → Scripted → Type 0
+unfoldable pub RunsSequentially : Show → List Move → (begin new : RunPlace) → Scripted → Type 0
 RunsSequentially shows moves begin new answer =
     (plan : Plan) (hart : Hart) → begin.core ≡ opened plan hart → RunsOver begin.streams.input shows hart moves begin new answer

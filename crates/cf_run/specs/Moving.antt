@@ -16,62 +16,62 @@ use Rattle.cf_run.specs.declared.answer.Ran.TheVariants as ran
 use Rattle.cf_run.specs.Made.{counted, shown}
 
 -- where a run has arrived: the processor, what input and output tell, what the report tells, and what was counted
-pub record Place : Type 0 where
+pub record RunPlace : Type 0 where
   pub core : Processor
   pub streams : Streams
   pub report : Option (List ℕ)
   pub tally : Tally
 
 -- the place with these
-abbrev pub place_of : Processor → Streams → Option (List ℕ) → Tally → Place
+abbrev pub place_of : Processor → Streams → Option (List ℕ) → Tally → RunPlace
 place_of core streams report tally = record { core = core; streams = streams; report = report; tally = tally }
 
 -- the place with what these objects tell, given what a source and two sinks tell
 abbrev pub place_by : {S K R : Type 0} → (S → Option (List ℕ)) → (K → Option (List ℕ)) → (R → Option (List ℕ)) →
-    Processor → S → K → R → Tally → Place
+    Processor → S → K → R → Tally → RunPlace
 place_by unread written reported core input output report tally =
     place_of core (streams_of (unread input) (written output)) (reported report) tally
 
 -- nothing barred the move; it was made and counted, with this event
-pub record MakesOne (mv : Move) (event : Event) (now new : Place) : Type 0 where
+pub record MakesMove (mv : Move) (event : Event) (now new : RunPlace) : Type 0 where
   pub allowed : first_bar now.core.plan now.core.state mv ≡ None
   pub makes : Makes now.core new.core mv now.streams new.streams
   pub is_event : IsEvent now.core.plan now.core.state mv event
   pub tally : new.tally ≡ counted now.tally mv event
 
 -- what a report shows of it
-abbrev pub shown_of : Show → (mv : Move) → Event → (now new : Place) → List ℕ
+abbrev pub shown_of : Show → (mv : Move) → Event → (now new : RunPlace) → List ℕ
 shown_of show mv e now new =
     shown show now.core.plan new.tally.moves (record { move = mv; event = e; state = new.core.state })
 
 -- it was made and shown
-pub record MakesAndShows (show : Show) (mv : Move) (event : Event) (now new : Place) : Type 0 where
-  pub makes : MakesOne mv event now new
+pub record MakesAndShows (show : Show) (mv : Move) (event : Event) (now new : RunPlace) : Type 0 where
+  pub makes : MakesMove mv event now new
   pub report : Writes now.report new.report (shown_of show mv event now new)
 
 -- it was made, and the report failed after a front of what is shown of it, before it had all
-pub record MakesUnshown (show : Show) (mv : Move) (event : Event) (now new : Place) : Type 0 where
-  pub makes : MakesOne mv event now new
+pub record MakesUnshown (show : Show) (mv : Move) (event : Event) (now new : RunPlace) : Type 0 where
+  pub makes : MakesMove mv event now new
   pub report : WritesFront now.report new.report (shown_of show mv event now new)
 
 -- what else holds where the input or the output fails a call: nothing barred the move, it was Serve, and nothing was counted or shown
-pub record FailsOutside (mv : Move) (now new : Place) : Type 0 where
+pub record FailsOutside (mv : Move) (now new : RunPlace) : Type 0 where
   pub allowed : first_bar now.core.plan now.core.state mv ≡ None
   pub serves : mv ≡ Serve
   pub report : new.report ≡ now.report
   pub tally : new.tally ≡ now.tally
 
 -- what the move does: it is made with this event, or the answer of the run says why it stops
-unfoldable pub Does : Show → Move → (now new : Place) → Result Event Answer → Type 0
-Does show mv now new (Ok event) = MakesAndShows show mv event now new
-Does show mv now new (Err ran.ReadFault) =
+unfoldable pub MoveDoes : Show → Move → (now new : RunPlace) → Result Event Answer → Type 0
+MoveDoes show mv now new (Ok event) = MakesAndShows show mv event now new
+MoveDoes show mv now new (Err ran.ReadFault) =
     FailsOutside mv now new × FailsToRead now.core new.core now.streams new.streams
-Does show mv now new (Err ran.WriteFault) =
+MoveDoes show mv now new (Err ran.WriteFault) =
     FailsOutside mv now new × FailsToWrite now.core new.core now.streams new.streams
-Does show mv now new (Err ran.ReportFault) = (event : Event) × MakesUnshown show mv event now new
-Does show mv now new (Err (ran.Exit status)) = ⊥
-Does show mv now new (Err (ran.Trap cause pc detail)) = ⊥
-Does show mv now new (Err ran.Limit) = ⊥
+MoveDoes show mv now new (Err ran.ReportFault) = (event : Event) × MakesUnshown show mv event now new
+MoveDoes show mv now new (Err (ran.Exit status)) = ⊥
+MoveDoes show mv now new (Err (ran.Trap cause pc detail)) = ⊥
+MoveDoes show mv now new (Err ran.Limit) = ⊥
 
 -- an error where the input failed the run
 abbrev pub input_done : Result Event Answer → Result (Unit {0}) (Unit {0})

@@ -11,14 +11,14 @@ use Rattle.cf_run.specs.declared.answer.Ran.{Ran as Answer}
 use Rattle.cf_run.specs.declared.answer.Ran.TheVariants as ran
 use Rattle.cf_run.specs.Made.{Made, tally_of, all_shown}
 use Rattle.cf_run.specs.Going.{moment_of, Leads, RunsTo}
-use Rattle.cf_run.specs.Moving.{Place}
+use Rattle.cf_run.specs.Moving.{RunPlace}
 
 -- nothing has been counted yet
 abbrev pub no_tally : Tally
 no_tally = record { moves = 0; meets = 0; kills = 0; dead = 0 }
 
 -- moves lead from one place to another: they were counted, and shown after what the report told
-pub record Reaches (limit : ℕ) (show : Show) (start now : Place) : Type 0 where
+pub record Reaches (limit : ℕ) (show : Show) (start now : RunPlace) : Type 0 where
   -- these moves were made, from a moment whose input agrees with what is told to another
   pub trace : List Made
   pub rest : List ℕ

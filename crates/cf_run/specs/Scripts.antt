@@ -5,45 +5,45 @@ use Rattle.cf_bind.specs.declared.moves.Move.{Move}
 use Rattle.cf_semantics.specs.declared.event.Event.{Event}
 use Rattle.cf_semantics.specs.moves.Bars.{bar as first_bar}
 use Rattle.cf_report.specs.declared.tally.Tally.{Tally}
-use Rattle.run_scripts.specs.Scripts.{Told, next_of, after_next}
+use Rattle.run_scripts.specs.Scripts.{ScriptLines, next_of, after_next}
 use Rattle.cf_run.specs.declared.answer.Ran.TheVariants as ran
 use Rattle.cf_run.specs.declared.answer.Scripted.{Scripted}
 use Rattle.cf_run.specs.declared.answer.Scripted.TheVariants.{Ran, ScriptEnd, BadScript, BarredAt}
 use Rattle.cf_run.specs.Made.{moves_of}
-use Rattle.cf_run.specs.Moving.{Place, Does}
+use Rattle.cf_run.specs.Moving.{RunPlace, MoveDoes}
 use Rattle.cf_run.specs.Reaching.{Reaches, GoesOn, IsOver}
 
 -- where the run of a script stands: the place that it has reached, and what is left of the script
-pub record Stand : Type 0 where
-  pub place : Place
-  pub script : Told
+pub record ScriptRun : Type 0 where
+  pub place : RunPlace
+  pub script : ScriptLines
 
 -- the stand with these
-abbrev pub stand_of : Place → Told → Stand
+abbrev pub stand_of : RunPlace → ScriptLines → ScriptRun
 stand_of place script = record { place = place; script = script }
 
 -- the first moves of a script, as many as were counted
-abbrev pub first_moves : Told → Tally → List Move
+abbrev pub first_moves : ScriptLines → Tally → List Move
 first_moves script tally = map (λ line. line.1) (take tally.moves script.moves)
 
 -- the run has followed the script from one stand to another
-pub record Follows (limit : ℕ) (show : Show) (start now : Stand) : Type 0 where
+pub record Follows (limit : ℕ) (show : Show) (start now : ScriptRun) : Type 0 where
   pub reaches : Reaches limit show start.place now.place
   -- its moves are the first of the script, and the others are left of it
   pub moves : moves_of reaches.trace ≡ map (λ line. line.1) (take (length reaches.trace) start.script.moves)
   pub script : now.script ≡ record start.script { moves = drop (length reaches.trace) start.script.moves }
 
 -- what the move of this line does: it is made, or its first bar or another answer says why the run stops
-unfoldable pub DoesLine : Show → ℕ → Move → (now new : Place) → Option Scripted → Type 0
-DoesLine show line mv now new None = (event : Event) × Does show mv now new (Ok event)
-DoesLine show line mv now new (Some (Ran answer)) = Does show mv now new (Err answer)
+unfoldable pub DoesLine : Show → ℕ → Move → (now new : RunPlace) → Option Scripted → Type 0
+DoesLine show line mv now new None = (event : Event) × MoveDoes show mv now new (Ok event)
+DoesLine show line mv now new (Some (Ran answer)) = MoveDoes show mv now new (Err answer)
 DoesLine show line mv now new (Some (BarredAt at bar)) =
     (at ≡ line) × (first_bar now.core.plan now.core.state mv ≡ Some bar) × (new ≡ now)
 DoesLine show line mv now new (Some ScriptEnd) = ⊥
 DoesLine show line mv now new (Some (BadScript refusal)) = ⊥
 
 -- the run goes on to the next move of the script, which does this
-pub record Tries (limit : ℕ) (show : Show) (now new : Stand) (answer : Option Scripted) : Type 0 where
+pub record ScriptTries (limit : ℕ) (show : Show) (now new : ScriptRun) (answer : Option Scripted) : Type 0 where
   pub goes : GoesOn limit now.place.core.state
   pub line : ℕ
   pub move : Move
@@ -52,27 +52,27 @@ pub record Tries (limit : ℕ) (show : Show) (now new : Stand) (answer : Option 
   pub does : DoesLine show line move now.place new.place answer
 
 -- the run stops here: it is over, or the script has no further move or a line that is no move, and all stays; or its next move is the last that it tries
-unfoldable pub Stops : ℕ → Show → (now new : Stand) → Scripted → Type 0
-Stops limit show now new ScriptEnd =
+unfoldable pub ScriptStops : ℕ → Show → (now new : ScriptRun) → Scripted → Type 0
+ScriptStops limit show now new ScriptEnd =
     GoesOn limit now.place.core.state × (next_of now.script ≡ Ok None) × (new ≡ now)
-Stops limit show now new (BadScript refusal) =
+ScriptStops limit show now new (BadScript refusal) =
     GoesOn limit now.place.core.state × (next_of now.script ≡ Err refusal) × (new ≡ now)
-Stops limit show now new (BarredAt line bar) = Tries limit show now new (Some (BarredAt line bar))
-Stops limit show now new (Ran ran.ReadFault) = Tries limit show now new (Some (Ran ran.ReadFault))
-Stops limit show now new (Ran ran.WriteFault) = Tries limit show now new (Some (Ran ran.WriteFault))
-Stops limit show now new (Ran ran.ReportFault) = Tries limit show now new (Some (Ran ran.ReportFault))
-Stops limit show now new (Ran answer) = IsOver limit now.place.core.state answer × (new ≡ now)
+ScriptStops limit show now new (BarredAt line bar) = ScriptTries limit show now new (Some (BarredAt line bar))
+ScriptStops limit show now new (Ran ran.ReadFault) = ScriptTries limit show now new (Some (Ran ran.ReadFault))
+ScriptStops limit show now new (Ran ran.WriteFault) = ScriptTries limit show now new (Some (Ran ran.WriteFault))
+ScriptStops limit show now new (Ran ran.ReportFault) = ScriptTries limit show now new (Some (Ran ran.ReportFault))
+ScriptStops limit show now new (Ran answer) = IsOver limit now.place.core.state answer × (new ≡ now)
 
 -- the run makes the first moves of the script, and stops after them with this answer
-pub record RunsScript (limit : ℕ) (show : Show) (start new : Stand) (answer : Scripted) : Type 0 where
-  pub now : Stand
+pub record RunsScript (limit : ℕ) (show : Show) (start new : ScriptRun) (answer : Scripted) : Type 0 where
+  pub now : ScriptRun
   pub follows : Follows limit show start now
-  pub stops : Stops limit show now new answer
+  pub stops : ScriptStops limit show now new answer
 
 -- one turn of a run: the next move of the script is made, or the run stops
-abbrev pub Turns : ℕ → Show → (now new : Stand) → Option Scripted → Type 0
-Turns limit show now new None = Tries limit show now new None
-Turns limit show now new (Some answer) = Stops limit show now new answer
+abbrev pub ScriptTurns : ℕ → Show → (now new : ScriptRun) → Option Scripted → Type 0
+ScriptTurns limit show now new None = ScriptTries limit show now new None
+ScriptTurns limit show now new (Some answer) = ScriptStops limit show now new answer
 
 -- an error where the input failed the run
 abbrev pub input_scripted : Option Scripted → Result (Unit {0}) (Unit {0})

@@ -15,19 +15,19 @@ ghost use Rattle.cf_run.specs.declared.answer.Scripted.{Scripted};
 ghost use Rattle.cf_run.specs.declared.answer.Scripted.TheVariants.{Ran};
 ghost use Rattle.cf_run.specs.Ending.{EndsAlike};
 ghost use Rattle.cf_run.specs.Headline.{RunsSequentially};
-ghost use Rattle.cf_run.specs.Moving.{Place};
+ghost use Rattle.cf_run.specs.Moving.{RunPlace};
 ghost use Rattle.cf_run.specs.Policies.{IsOpened, Chooser, Picks, RunsPolicy, first_pick, fresh, later_picks, most_moves, offered_to};
 ghost use Rattle.cf_run.specs.Reaching.{GoesOn, Reaches};
-ghost use Rattle.cf_run.specs.Scripts.{Stand, RunsScript, first_moves};
+ghost use Rattle.cf_run.specs.Scripts.{ScriptRun, RunsScript, first_moves};
 
 /// The run of a script or of a policy on an opened processor is a run of the sequential machine: retired instructions,
 /// registers and ending are those after as many instructions, input, output and memory those after the instructions that
 /// were served or have passed the memory port.
 pub fn t4_2()
-    ensures scripts { (limit : ℕ) (show : Show) (start new : Stand) (answer : Scripted) → IsAccepted start.place.core.plan →
+    ensures scripts { (limit : ℕ) (show : Show) (start new : ScriptRun) (answer : Scripted) → IsAccepted start.place.core.plan →
         length start.place.core.state.regs ≡ 32 → RunsScript limit show start new answer →
         RunsSequentially show (first_moves start.script new.place.tally) start.place new.place answer }
-    ensures policies { (limit : ℕ) (show : Show) (start new : Place) (picks later : List ℕ) (moves : List Move) (answer : Answer) →
+    ensures policies { (limit : ℕ) (show : Show) (start new : RunPlace) (picks later : List ℕ) (moves : List Move) (answer : Answer) →
         IsAccepted start.core.plan → length start.core.state.regs ≡ 32 →
         RunsPolicy first_pick later_picks limit show start new picks later moves answer →
         RunsSequentially show moves start new (Ran answer) }
@@ -36,10 +36,10 @@ pub fn t4_2()
 /// Where the run of a script or of a policy ends with Exit, Trap or Limit, its ending, the retired count, the registers and
 /// what was taken of the input and written to the output are those of the sequential machine under the same limit.
 pub fn t4_5()
-    ensures scripts { (limit : ℕ) (show : Show) (start new : Stand) (hart : Hart) (answer : Scripted) →
+    ensures scripts { (limit : ℕ) (show : Show) (start new : ScriptRun) (hart : Hart) (answer : Scripted) →
         IsAccepted start.place.core.plan → length hart.regs ≡ 32 → start.place.core ≡ opened start.place.core.plan hart →
         RunsScript limit show start new answer → EndsAlike limit hart start.place new.place answer }
-    ensures policies { (limit : ℕ) (show : Show) (start new : Place) (picks later : List ℕ) (moves : List Move) (hart : Hart)
+    ensures policies { (limit : ℕ) (show : Show) (start new : RunPlace) (picks later : List ℕ) (moves : List Move) (hart : Hart)
         (answer : Answer) → IsAccepted start.core.plan → length hart.regs ≡ 32 → start.core ≡ opened start.core.plan hart →
         RunsPolicy first_pick later_picks limit show start new picks later moves answer →
         EndsAlike limit hart start new (Ran answer) }
@@ -48,11 +48,11 @@ pub fn t4_5()
 /// The run of a policy on an opened processor has at most 4 N K (r + 1) moves, where r instructions retire in it, whatever
 /// the policy picks and whatever the input tells; and until it is over a move is offered, so it ends.
 pub fn t5_6()
-    ensures bounded { (limit : ℕ) (show : Show) (start new : Place) (picks later : List ℕ) (moves : List Move)
+    ensures bounded { (limit : ℕ) (show : Show) (start new : RunPlace) (picks later : List ℕ) (moves : List Move)
         (answer : Answer) → IsAccepted start.core.plan → length start.core.state.regs ≡ 32 → IsOpened start.core →
         RunsPolicy first_pick later_picks limit show start new picks later moves answer →
         new.tally.moves ≤ most_moves start.core.plan (new.core.state.retired - start.core.state.retired) }
-    ensures offered { (limit : ℕ) (show : Show) (start now : Place) (picks : List ℕ) (at : Chooser (List ℕ)) →
+    ensures offered { (limit : ℕ) (show : Show) (start now : RunPlace) (picks : List ℕ) (at : Chooser (List ℕ)) →
         IsAccepted start.core.plan → length start.core.state.regs ≡ 32 → IsOpened start.core →
         (reached : Reaches limit show start now) →
         Picks first_pick later_picks start.core.plan (fresh picks) start.core.state reached.trace at →

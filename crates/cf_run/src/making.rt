@@ -1,12 +1,12 @@
 //! One move of a run.
-#![tactic(auto, unfolding(crate::specs::Moving::Does))]
+#![tactic(auto, unfolding(crate::specs::Moving::MoveDoes))]
 
 ghost use Rattle.std.specs.Prelude.{◌≡◌, ◌+◌, ◌<◌, ◌^◌, None};
 ghost use Rattle.cf_io.specs.Causes.{HasCause};
 ghost use Rattle.cf_semantics.specs.moves.Bars.{bar};
 ghost use Rattle.cf_core.specs.Asking.{AsksInput, AsksOutput};
 ghost use Rattle.cf_run.specs.Made.{CanCount};
-ghost use Rattle.cf_run.specs.Moving.{place_by, Does, input_done, output_done, report_done};
+ghost use Rattle.cf_run.specs.Moving.{place_by, MoveDoes, input_done, output_done, report_done};
 
 use crate::answer::Ran;
 use crate::counting::count;
@@ -31,7 +31,7 @@ pub fn make_and_show<S: Source, K: Sink, R: Sink>(
     requires allowed { bar core.old.plan core.old.state mv ≡ None }
     requires retired { core.old.state.retired + 1 < 2 ^ 64 }
     requires counts { CanCount tally.old }
-    ensures does { Does show mv
+    ensures does { MoveDoes show mv
         (place_by S.left K.written R.written core.old input.old output.old report.old tally.old)
         (place_by S.left K.written R.written core.new input.new output.new report.new tally.new)
         result }

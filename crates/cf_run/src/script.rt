@@ -1,5 +1,5 @@
 //! The run of a script.
-#![tactic(auto, unfolding(crate::specs::Scripts::Stops, crate::specs::Scripts::DoesLine))]
+#![tactic(auto, unfolding(crate::specs::Scripts::ScriptStops, crate::specs::Scripts::DoesLine))]
 
 ghost use Rattle.std.specs.Prelude.{◌≡◌, ◌+◌, ◌<◌, ◌≤◌, ◌^◌, IsNone, Some, false, length};
 ghost use Rattle.run_options.specs.Limits.{most_limit};
@@ -11,7 +11,7 @@ ghost use Rattle.cf_run.specs.Moving.{place_by};
 ghost use Rattle.cf_run.specs.Ending.{EndsSequentially};
 ghost use Rattle.cf_run.specs.Headline.{RunsSequentially};
 ghost use Rattle.cf_run.specs.Reaching.{no_tally};
-ghost use Rattle.cf_run.specs.Scripts.{stand_of, first_moves, RunsScript, Turns, input_scripted, output_scripted, report_scripted};
+ghost use Rattle.cf_run.specs.Scripts.{stand_of, first_moves, RunsScript, ScriptTurns, input_scripted, output_scripted, report_scripted};
 
 use crate::answer::Scripted;
 use crate::facts::known;
@@ -38,7 +38,7 @@ fn advance<S: Source, K: Sink, R: Sink>(
     requires limit { limit + 1 < 2 ^ 64 }
     requires retired { core.old.state.retired ≤ limit }
     requires counts { CanCount tally.old }
-    ensures turns { Turns limit show
+    ensures turns { ScriptTurns limit show
         (stand_of (place_by S.left K.written R.written core.old input.old output.old report.old tally.old) script.old)
         (stand_of (place_by S.left K.written R.written core.new input.new output.new report.new tally.new) script.new)
         result }

@@ -3,8 +3,8 @@ use Rattle.std.proofs.Common.{◌≡◌, ℕ, arith}
 use Rattle.std.proofs.lemmas.Bool.Decides.{nat_tests}
 use Rattle.cf_layout.specs.Layout.{Plan}
 use Rattle.cf_semantics.specs.moves.Holding.{is_held}
-use Rattle.cf_sched.specs.Paces.{Count, HasCounted, holds}
+use Rattle.cf_sched.specs.Paces.{PaceCount, HasCounted, holds}
 
 -- whether Issue is held back
-pub held_by : (c : Count) (plan : Plan) (count : ℕ) → HasCounted plan.stages count c → holds c ≡ is_held plan count
+pub held_by : (c : PaceCount) (plan : Plan) (count : ℕ) → HasCounted plan.stages count c → holds c ≡ is_held plan count
 held_by c plan count has = rw (has.0, has.1) (grind (arith, nat_tests))

@@ -8,7 +8,7 @@ use Rattle.cf_semantics.specs.moves.Candidates.{candidates, held_back}
 use Rattle.cf_semantics.specs.moves.Holding.{paced}
 
 -- how many stages there are, and the count, which stops at twice as many
-pub record Count : Type 0 where
+pub record PaceCount : Type 0 where
   pub stages : ℕ
   pub count : ℕ
 
@@ -17,17 +17,17 @@ abbrev pub stopped : ℕ → ℕ → ℕ
 stopped stages count = min count (2 * stages)
 
 -- a count of this many Issue moves, for this many stages
-abbrev pub HasCounted : ℕ → ℕ → Count → Type 0
+abbrev pub HasCounted : ℕ → ℕ → PaceCount → Type 0
 HasCounted stages count c = (c.stages ≡ stages) × (c.count ≡ stopped stages count)
 
 -- Issue is held back
-abbrev pub holds : Count → Bool
+abbrev pub holds : PaceCount → Bool
 holds c = nat_le (2 * c.stages) c.count
 
 -- the count after one more move
-abbrev pub saw : Count → Move → Event → Bool → Count
+abbrev pub saw : PaceCount → Move → Event → Bool → PaceCount
 saw c mv e drained = record c { count = stopped c.stages (paced c.count mv e drained) }
 
 -- what a policy is offered: the candidates, with Issue held back or not
-unfoldable pub offers : Count → Plan → State → List Move
+unfoldable pub offers : PaceCount → Plan → State → List Move
 offers c plan s = if holds c then held_back (candidates plan s) else candidates plan s

@@ -20,9 +20,9 @@ pub struct Pace {
 
 impl Model for Pace {
     ghost use Rattle.std.specs.Prelude.{◌≤◌, ◌*◌};
-    ghost use Rattle.cf_sched.specs.Paces.{Count};
+    ghost use Rattle.cf_sched.specs.Paces.{PaceCount};
 
-    ghost Value = { Count };
+    ghost Value = { PaceCount };
 
     ghost view = { λ p. record { stages = p.stages; count = p.count } };
 

@@ -8,6 +8,6 @@ pub mod Weight
 pub mod Determined
 pub mod Refines
 pub mod Stutters
-pub mod Heeds
+pub mod OnPath
 pub mod Soundness
 pub mod SoundAfter

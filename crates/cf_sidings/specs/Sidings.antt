@@ -32,14 +32,14 @@ unfoldable pub moved_on : List (Option Op) → ℕ → List (Option Op)
 moved_on cells c = on (slice_get cells c) cells (λ o. slice_set (slice_set cells c None) (c + 1) o)
 
 -- an operation that can be made now: a load or a store without an answer, which memory permits
-pub record IsReady (op : Op) (mem : Memory) : Type 0 where
+pub record IsReadyOperation (op : Op) (mem : Memory) : Type 0 where
   pub memory : class_of op.instr ≡ MemoryClass
   pub unanswered : op.answer ≡ None
   pub permitted : access_trap op.instr op.pc op.a (bounds_of mem) ≡ None
 
 -- there is an operation that can be made now
 abbrev pub CanAccess : Option Op → Memory → Type 0
-CanAccess o mem = Where o ⊥ (λ op. IsReady op mem)
+CanAccess o mem = Where o ⊥ (λ op. IsReadyOperation op mem)
 
 -- the operation with the answer of memory
 abbrev pub answered : Op → Memory → Op

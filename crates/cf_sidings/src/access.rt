@@ -2,7 +2,7 @@
 
 ghost use Rattle.std.specs.Prelude.{◌≡◌};
 ghost use Rattle.cf_semantics.specs.moves.Instructions.{answer_of, mem_after};
-ghost use Rattle.cf_sidings.specs.Sidings.{IsReady};
+ghost use Rattle.cf_sidings.specs.Sidings.{IsReadyOperation};
 
 use cf_bind::Op;
 use mem_regions::Regions;
@@ -13,7 +13,7 @@ use rv_inst::{access_of, extend};
 #[inline(always)]
 #[tactic(auto, using(crate::proofs::Permitted::permitted_access), unfolding(cf_semantics::specs::moves::Instructions::answer_of, cf_semantics::specs::moves::Instructions::mem_after))]
 pub(crate) fn make(op: Op, mem: &mut Regions) -> u32
-    requires { IsReady op mem.old }
+    requires { IsReadyOperation op mem.old }
     ensures answer { result ≡ answer_of op.instr op.a op.b mem.old }
     ensures memory { mem.new ≡ mem_after op.instr op.a op.b mem.old }
 {

@@ -15,11 +15,11 @@ use std::marker::Model;
 
 /// A siding, seen as the list of its cells from the one that operations enter by.
 #[derive(Drop)]
-pub(crate) struct Siding {
+pub(crate) struct SidingCells {
     cells: Vec<Option<Op>>,
 }
 
-impl Model for Siding {
+impl Model for SidingCells {
     ghost use Rattle.std.specs.Prelude.{List, Option};
     ghost use Rattle.cf_bind.specs.declared.cell.Op.{Op};
 
@@ -28,14 +28,14 @@ impl Model for Siding {
     ghost view = { λ s. s.cells.items };
 }
 
-impl Siding {
+impl SidingCells {
     /// A siding of this many empty cells.
-    pub(crate) fn new(alloc: Global, count: u32) -> Result<Siding, AllocError>
+    pub(crate) fn new(alloc: Global, count: u32) -> Result<SidingCells, AllocError>
         ensures { IfOk result (λ siding. siding ≡ replicate count None) }
     {
         let mut cells = Vec::new(alloc);
         cells.resize(count as usize, None)?;
-        Ok(Siding { cells })
+        Ok(SidingCells { cells })
     }
 
     /// The cells, from the one that operations enter by.

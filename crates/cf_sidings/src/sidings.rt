@@ -7,7 +7,7 @@ ghost use Rattle.cf_semantics.specs.moves.Bars.{is_taken};
 ghost use Rattle.cf_semantics.specs.moves.Moves.{set_last};
 ghost use Rattle.cf_sidings.specs.Sidings.{empty_sidings, cells_in, last_in, with_cells, moved_on, after_access, mem_after_access, CanAccess};
 
-use crate::siding::Siding;
+use crate::siding::SidingCells;
 use cf_bind::Op;
 use cf_layout::Layout;
 use mem_regions::Regions;
@@ -18,7 +18,7 @@ use std::marker::Model;
 /// takes memory.
 #[derive(Drop)]
 pub struct Sidings {
-    list: Vec<Siding>,
+    list: Vec<SidingCells>,
 }
 
 impl Model for Sidings {
@@ -38,7 +38,7 @@ impl Sidings {
     {
         let mut list = Vec::new(alloc);
         for k in 0..layout.siding_count() {
-            list.push(Siding::new(alloc, layout.cells_of(k))?)?;
+            list.push(SidingCells::new(alloc, layout.cells_of(k))?)?;
         }
         Ok(Sidings { list })
     }

@@ -10,14 +10,14 @@ use Rattle.cf_semantics.specs.state.State.{cell_at, put_cell}
 use Rattle.cf_semantics.specs.state.Column.{passenger_in, packet_in, in_order, items, column_from}
 use Rattle.cf_semantics.specs.moves.Moves.{without_passenger, without_packet}
 use Rattle.cf_stages.specs.Changes.{can_climb, can_fall, climbs, falls, climbed, fallen, with_new_passenger, with_new_packet}
-use Rattle.cf_stages.specs.Contents.{Content, content, contents}
+use Rattle.cf_stages.specs.Contents.{StageContent, content, contents}
 
 -- what stands in a stage, wherever that is
-abbrev inside : Cell → List Content
+abbrev inside : Cell → List StageContent
 inside c = map content (items 1 c)
 
 -- the contents, by recursion on the stages
-abbrev stacked : List Cell → List Content
+abbrev stacked : List Cell → List StageContent
 stacked [] = []
 stacked (c ∷ cells) = stacked cells ++ inside c
 
@@ -42,7 +42,7 @@ stacked-from i (c ∷ cells) =
 abbrev SamePair : Cell → Cell → Cell → Cell → Type 0
 SamePair c d c1 d1 = inside d1 ++ inside c1 ≡ inside d ++ inside c
 
-same_on_top : (xs : List Content) (c d c1 d1 : Cell) → SamePair c d c1 d1 → (xs ++ inside d1) ++ inside c1 ≡ (xs ++ inside d) ++ inside c
+same_on_top : (xs : List StageContent) (c d c1 d1 : Cell) → SamePair c d c1 d1 → (xs ++ inside d1) ++ inside c1 ≡ (xs ++ inside d) ++ inside c
 same_on_top xs c d c1 d1 e = rw (append_assoc xs (inside d1) (inside c1), append_assoc xs (inside d) (inside c), e) refl
 
 -- the lower one is changed first, or the upper one
@@ -59,7 +59,7 @@ pair-changed (x ∷ y ∷ cells) zero c d c1 d1 e f same =
     rw (g, h) (record { up = same_on_top (stacked cells) c d c1 d1 same; down = same_on_top (stacked cells) c d c1 d1 same })
 pair-changed (x ∷ cells) (suc k) c d c1 d1 e f same =
     let r = pair-changed cells k c d c1 d1 e f same in
-    record { up = ap (λ (l : List Content). l ++ inside x) r.up; down = ap (λ (l : List Content). l ++ inside x) r.down }
+    record { up = ap (λ (l : List StageContent). l ++ inside x) r.up; down = ap (λ (l : List StageContent). l ++ inside x) r.down }
 
 climb-pair : (c d : Cell) → IsTrue (can_climb c (Some d)) → SamePair c d (without_passenger c) (with_new_passenger c.passenger d)
 climb-pair c d h = grind arith

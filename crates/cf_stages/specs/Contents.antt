@@ -6,15 +6,15 @@ use Rattle.cf_bind.specs.declared.passenger.Passenger.{Passenger}
 use Rattle.cf_semantics.specs.state.Column.{Item, Up, Down, column_from}
 
 -- an instruction or a result
-pub data Content : Type 0 where
-  Instruction : Passenger → Content
-  Outcome : Packet → Content
+pub data StageContent : Type 0 where
+  Instruction : Passenger → StageContent
+  Outcome : Packet → StageContent
 
 -- an item of the column without the stage where it stands
-abbrev pub content : Item → Content
+abbrev pub content : Item → StageContent
 content (Up i p) = Instruction p
 content (Down i k) = Outcome k
 
 -- the column of the stages, from the top down, without the stages
-unfoldable pub contents : List Cell → List Content
+unfoldable pub contents : List Cell → List StageContent
 contents cells = map content (column_from 1 cells)

@@ -7,12 +7,12 @@ use Rattle.cf_layout.specs.Layout.{Plan}
 use Rattle.cf_layout.specs.Accepted.{IsAccepted}
 use Rattle.cf_bind.specs.declared.moves.Move.{Move}
 use Rattle.cf_semantics.specs.moves.Sites.{Site, Stage, SidingCell, Lane, Fetching, Memory, Code, among, same_site}
-use Rattle.cf_index.specs.Sites.{AreThere, IsPlace, shares, used, uses_place}
+use Rattle.cf_index.specs.Sites.{HasSites, LayoutHasSite, shares, used, uses_place}
 use Rattle.cf_index.proofs.SharedSites.{IsOne, is_other, same_site_is, used_ones}
 use Rattle.cf_index.proofs.SiteWords.{siding_within}
 use Rattle.cf_timed.specs.Delays.{delay}
 use Rattle.cf_timed.specs.Times.{Done, done_at, done_after, greatest, greatest_time, time_after, times, times_after}
-use Rattle.cf_timed.specs.Clocks.{SiteTimes, Tells, allowed, finish, made, made_all, number_at, put_time, put_times, row_at, stamped, started, time_at}
+use Rattle.cf_timed.specs.Clocks.{SiteTimes, ClockKnows, allowed, finish, made, made_all, number_at, put_time, put_times, row_at, stamped, started, time_at}
 use Rattle.cf_timed.proofs.SiteTimes.{at_start, put_delays, put_latest, put_same, same_times}
 use Rattle.cf_timed.proofs.Greatest.{greatest_where, where_any, where_more, where_none}
 
@@ -249,7 +249,7 @@ follows_start plan delays = record {
 }
 
 -- what the layout has, the clock has room for
-there_kept : (plan : Plan) (x : Site) → IsAccepted plan → is_other x ≡ false → IsPlace plan x → IsKept x
+there_kept : (plan : Plan) (x : Site) → IsAccepted plan → is_other x ≡ false → LayoutHasSite plan x → IsKept x
 there_kept plan (Stage i) a o h = omega (arith, a.stages.1, h.1)
 there_kept plan (SidingCell k c) a o h = let w = siding_within plan k a h.0 in (w.2, omega (arith, w.1, h.1))
 there_kept plan Lane a o h = tt
@@ -258,15 +258,15 @@ there_kept plan Memory a o h = tt
 there_kept plan Code a o h = tt
 there_kept plan _ a o h = absurd (cc)
 
-all_kept : (plan : Plan) (xs : List Site) → IsAccepted plan → AllByRecursion IsOne xs → AllByRecursion (IsPlace plan) xs → AllByRecursion IsKept xs
+all_kept : (plan : Plan) (xs : List Site) → IsAccepted plan → AllByRecursion IsOne xs → AllByRecursion (LayoutHasSite plan) xs → AllByRecursion IsKept xs
 all_kept plan [] a o h = tt
 all_kept plan (x ∷ xs) a o h = (there_kept plan x a o.0 h.0, all_kept plan xs a o.1 h.1)
 
-pub moves_kept : (plan : Plan) (mv : Move) → IsAccepted plan → AreThere plan mv → AreKept plan mv
+pub moves_kept : (plan : Plan) (mv : Move) → IsAccepted plan → HasSites plan mv → AreKept plan mv
 moves_kept plan mv a there = all_kept plan (used plan mv) a (used_ones plan mv) there
 
 -- so it tells when a further move is done
-pub follows_tells : (plan : Plan) (delays : List ℕ) (moves : List Done) (c : SiteTimes) → IsAccepted plan → Follows plan delays moves c → Tells plan delays moves c
+pub follows_tells : (plan : Plan) (delays : List ℕ) (moves : List Done) (c : SiteTimes) → IsAccepted plan → Follows plan delays moves c → ClockKnows plan delays moves c
 follows_tells plan delays moves c a h = record {
   plan_is = h.plan_is;
   delays_are = h.delays_are;
@@ -275,7 +275,7 @@ follows_tells plan delays moves c a h = record {
 }
 
 -- and so does a clock that is told the moves of a run
-pub follows_all : (plan : Plan) (delays : List ℕ) (earlier : List Done) (c : SiteTimes) (moves : List Move) → IsAccepted plan → AllByRecursion (AreThere plan) moves → Follows plan delays earlier c → Follows plan delays (times_after plan delays earlier moves) (made_all c moves)
+pub follows_all : (plan : Plan) (delays : List ℕ) (earlier : List Done) (c : SiteTimes) (moves : List Move) → IsAccepted plan → AllByRecursion (HasSites plan) moves → Follows plan delays earlier c → Follows plan delays (times_after plan delays earlier moves) (made_all c moves)
 unfolding made
 follows_all plan delays earlier c [] a there h = h
 follows_all plan delays earlier c (mv ∷ moves) a there h =
@@ -284,6 +284,6 @@ follows_all plan delays earlier c (mv ∷ moves) a there h =
     let next : Follows plan delays (done_after plan delays earlier mv ∷ earlier) (stamped c mv (finish c mv)) = rw e (follows_more plan delays earlier c mv h kept) in
     follows_all plan delays (done_after plan delays earlier mv ∷ earlier) (stamped c mv (finish c mv)) moves a there.1 next
 
-pub run_told : (plan : Plan) (delays : List ℕ) (moves : List Move) → IsAccepted plan → AllByRecursion (AreThere plan) moves → Tells plan delays (times plan delays moves) (made_all (started plan delays) moves)
+pub run_told : (plan : Plan) (delays : List ℕ) (moves : List Move) → IsAccepted plan → AllByRecursion (HasSites plan) moves → ClockKnows plan delays (times plan delays moves) (made_all (started plan delays) moves)
 unfolding times
 run_told plan delays moves a there = follows_tells plan delays (times_after plan delays [] moves) (made_all (started plan delays) moves) a (follows_all plan delays [] (started plan delays) moves a there (follows_start plan delays))

@@ -1,5 +1,5 @@
 pub mod SiteTimes
-pub mod Told
+pub mod DelayLines
 pub mod Greatest
 pub mod Following
 pub mod Chaining

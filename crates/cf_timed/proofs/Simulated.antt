@@ -16,7 +16,7 @@ use Rattle.cf_timed.specs.Delays.{AreDelays, delay}
 use Rattle.cf_timed.specs.Times.{Done, done_after, greatest_time, time_after, times_after}
 use Rattle.cf_timed.specs.Clocks.{capped}
 use Rattle.cf_timed.specs.Earliest.{after_earliest, earliest}
-use Rattle.cf_timed.specs.Timings.{Pending, after_pick, marked, pending_pick, told}
+use Rattle.cf_timed.specs.Timings.{PendingMove, after_pick, marked, pending_pick, told}
 use Rattle.cf_timed.proofs.Following.{AreKept, Follows, finish_follows, follows_more}
 use Rattle.cf_timed.proofs.Greatest.{where_more, where_none}
 use Rattle.cf_timed.proofs.Leasts.{least-same}
@@ -55,29 +55,29 @@ unfolding time_after
 time_few plan delays moves mv h = let k = kept_time (λ done. shares plan mv done.move) moves in let d = delay_few delays mv h in omega (arith, k, d)
 
 -- the clock was told what the policy by times has picked, and n more moves are no later than the greatest number of 64 bits
-pub record Ahead (n : ℕ) (plan : Plan) (delays : List ℕ) (p : Pending) (picked : List Done) : Type 0 where
+pub record Ahead (n : ℕ) (plan : Plan) (delays : List ℕ) (p : PendingMove) (picked : List Done) : Type 0 where
   pub follows : Follows plan delays picked (told p)
   pub early : greatest_time picked + 1000 * n < 2 ^ 64
 
 -- the time of a move by the clock
-capped_is : (n : ℕ) (plan : Plan) (delays : List ℕ) (p : Pending) (picked : List Done) (mv : Move) → AreDelays delays → Ahead (suc n) plan delays p picked → AreKept plan mv → capped (told p) mv ≡ time_after plan delays picked mv
+capped_is : (n : ℕ) (plan : Plan) (delays : List ℕ) (p : PendingMove) (picked : List Done) (mv : Move) → AreDelays delays → Ahead (suc n) plan delays p picked → AreKept plan mv → capped (told p) mv ≡ time_after plan delays picked mv
 capped_is n plan delays p picked mv few h kept =
     let f = finish_follows plan delays picked (told p) mv h.follows kept in
     let t = time_few plan delays picked mv few in
     let e = h.early in
     omega (arith, f, t, e)
 
-each_capped : (n : ℕ) (plan : Plan) (delays : List ℕ) (p : Pending) (picked : List Done) (moves : List Move) → AreDelays delays → Ahead (suc n) plan delays p picked → AllByRecursion (AreKept plan) moves → AllByRecursion (λ mv. capped (told p) mv ≡ time_after plan delays picked mv) moves
+each_capped : (n : ℕ) (plan : Plan) (delays : List ℕ) (p : PendingMove) (picked : List Done) (moves : List Move) → AreDelays delays → Ahead (suc n) plan delays p picked → AllByRecursion (AreKept plan) moves → AllByRecursion (λ mv. capped (told p) mv ≡ time_after plan delays picked mv) moves
 each_capped n plan delays p picked [] few h kept = tt
 each_capped n plan delays p picked (mv ∷ moves) few h kept = (capped_is n plan delays p picked mv few h kept.0, each_capped n plan delays p picked moves few h kept.1)
 
 -- so both pick one move
-pub picks-same : (n : ℕ) (plan : Plan) (delays : List ℕ) (p : Pending) (picked : List Done) (moves : List Move) → AreDelays delays → Ahead (suc n) plan delays p picked → AllByRecursion (AreKept plan) moves → pending_pick p moves ≡ earliest plan delays picked moves
+pub picks-same : (n : ℕ) (plan : Plan) (delays : List ℕ) (p : PendingMove) (picked : List Done) (moves : List Move) → AreDelays delays → Ahead (suc n) plan delays p picked → AllByRecursion (AreKept plan) moves → pending_pick p moves ≡ earliest plan delays picked moves
 unfolding pending_pick
 picks-same n plan delays p picked moves few h kept = least-same (capped (told p)) (time_after plan delays picked) moves (each_capped n plan delays p picked moves few h kept)
 
 -- and after that the clock is told of it
-pub ahead-more : (n : ℕ) (plan : Plan) (delays : List ℕ) (p : Pending) (picked : List Done) (moves : List Move) (mv : Move) → AreDelays delays → Ahead (suc n) plan delays p picked → AllByRecursion (AreKept plan) moves → slice_get moves (pending_pick p moves) ≡ Some mv → Ahead n plan delays (after_pick p moves) (done_after plan delays picked mv ∷ picked)
+pub ahead-more : (n : ℕ) (plan : Plan) (delays : List ℕ) (p : PendingMove) (picked : List Done) (moves : List Move) (mv : Move) → AreDelays delays → Ahead (suc n) plan delays p picked → AllByRecursion (AreKept plan) moves → slice_get moves (pending_pick p moves) ≡ Some mv → Ahead n plan delays (after_pick p moves) (done_after plan delays picked mv ∷ picked)
 unfolding told after_pick marked
 ahead-more n plan delays p picked moves mv few h kept e =
     let one = one_of_all (AreKept plan) moves (pending_pick p moves) mv kept e in
@@ -94,17 +94,17 @@ pub after-earliest : (plan : Plan) (delays : List ℕ) (picked : List Done) (mov
 after-earliest plan delays picked moves mv e = rw e refl
 
 -- the picks of one are the picks of the other
-pub record Simulated (n : ℕ) (plan : Plan) (delays : List ℕ) (to : Chooser (List Done)) (s : State) (trace : List Made) (last : Chooser Pending) : Type 0 where
+pub record Simulated (n : ℕ) (plan : Plan) (delays : List ℕ) (to : Chooser (List Done)) (s : State) (trace : List Made) (last : Chooser PendingMove) : Type 0 where
   pub later : Chooser (List Done)
   pub picks : Picks (earliest plan delays) (after_earliest plan delays) plan to s trace later
   pub count_is : last.count ≡ later.count
   pub ahead : Ahead n plan delays last.policy later.policy
   pub times_are : later.policy ≡ times_after plan delays to.policy (moves_of trace)
 
-pub simulated : (n : ℕ) (plan : Plan) (delays : List ℕ) (at : Chooser Pending) (to : Chooser (List Done)) (s : State) (trace : List Made) (last : Chooser Pending) → IsAccepted plan → AreDelays delays → at.count ≡ to.count → Ahead (length trace + n) plan delays at.policy to.policy → Picks pending_pick after_pick plan at s trace last → Simulated n plan delays to s trace last
+pub simulated : (n : ℕ) (plan : Plan) (delays : List ℕ) (at : Chooser PendingMove) (to : Chooser (List Done)) (s : State) (trace : List Made) (last : Chooser PendingMove) → IsAccepted plan → AreDelays delays → at.count ≡ to.count → Ahead (length trace + n) plan delays at.policy to.policy → Picks pending_pick after_pick plan at s trace last → Simulated n plan delays to s trace last
 unfolding Picks
 simulated n plan delays at to s [] last acc few count ahead picks =
-    subst (λ (c : Chooser Pending). Simulated n plan delays to s [] c) (sym picks) (record {
+    subst (λ (c : Chooser PendingMove). Simulated n plan delays to s [] c) (sym picks) (record {
       later = to;
       picks = refl;
       count_is = count;

@@ -14,7 +14,7 @@ use Rattle.cf_semantics.specs.state.State.{State}
 use Rattle.cf_index.specs.Allowed.{allowed_issues, allowed_others, is_allowed, unheld_issues, withheld}
 use Rattle.cf_index.proofs.Others.{candidates_parts, withheld_others}
 use Rattle.cf_index.proofs.Parts.{beyond}
-use Rattle.cf_sched.specs.Paces.{Count, holds, offers}
+use Rattle.cf_sched.specs.Paces.{PaceCount, holds, offers}
 use Rattle.cf_timed.specs.Clocks.{SiteTimes, capped, finish}
 use Rattle.cf_timed.specs.Delays.{delay}
 use Rattle.cf_timed.specs.Earliest.{first_least}
@@ -113,7 +113,7 @@ other_soonest c plan s held seek few e later = by (nat_lt seek.time (2 ^ 64 - 1)
     by false t = rw t tt
 
 -- what is offered, with Issue held back or not
-pub soonest_offered : (c : SiteTimes) (count : Count) (plan : Plan) (s : State) (held : Bool) (due : Due) → held ≡ holds count → IsSoonest c (withheld held (candidates plan s)) due → IsSoonest c (offers count plan s) due
+pub soonest_offered : (c : SiteTimes) (count : PaceCount) (plan : Plan) (s : State) (held : Bool) (due : Due) → held ≡ holds count → IsSoonest c (withheld held (candidates plan s)) due → IsSoonest c (offers count plan s) due
 unfolding offers
 soonest_offered c count plan s held due is h = rw is at h
 

@@ -3,7 +3,7 @@ use Rattle.std.specs.Prelude.{◌≡◌, ◌≤◌, ℕ, ◌+◌, List, [], ◌�
 use Rattle.cf_layout.specs.Layout.{Plan}
 use Rattle.cf_bind.specs.declared.moves.Move.{Move}
 use Rattle.cf_semantics.specs.moves.Sites.{Site, Stage, SidingCell, Lane, Fetching, Memory, Code}
-use Rattle.cf_index.specs.Sites.{AreThere, used}
+use Rattle.cf_index.specs.Sites.{HasSites, used}
 use Rattle.cf_timed.specs.Delays.{delay}
 use Rattle.cf_timed.specs.Times.{Done, greatest, greatest_time, time_after}
 
@@ -96,11 +96,11 @@ made_all c [] = c
 made_all c (mv ∷ moves) = made_all (made c mv) moves
 
 -- the clock was told these moves of a run, each with its time, in any order
-pub record Tells (plan : Plan) (delays : List ℕ) (moves : List Done) (c : SiteTimes) : Type 0 where
+pub record ClockKnows (plan : Plan) (delays : List ℕ) (moves : List Done) (c : SiteTimes) : Type 0 where
   -- it is a clock of this layout and of these delays
   pub plan_is : c.plan ≡ plan
   pub delays_are : c.delays ≡ delays
   -- its greatest time is theirs
   pub latest_is : c.latest ≡ greatest_time moves
   -- a further move is done when their times say
-  pub finishes : (mv : Move) → AreThere plan mv → finish c mv ≡ time_after plan delays moves mv
+  pub finishes : (mv : Move) → HasSites plan mv → finish c mv ≡ time_after plan delays moves mv

@@ -10,12 +10,12 @@ use Rattle.cf_run.specs.declared.answer.Ran.{Ran as Answer}
 use Rattle.cf_run.specs.declared.answer.Ran.TheVariants as ran
 use Rattle.cf_run.specs.declared.answer.Scripted.TheVariants.{Ran}
 use Rattle.cf_run.specs.Ending.{EndsSequentially}
-use Rattle.cf_run.specs.Moving.{Place, place_of}
+use Rattle.cf_run.specs.Moving.{RunPlace, place_of}
 use Rattle.cf_run.specs.Policies.{CanRun, RunsRight, input_stopped, output_stopped}
 use Rattle.cf_run.specs.Reaching.{no_tally}
 use Rattle.cf_timed.specs.declared.answer.Timed.{Timed}
 use Rattle.cf_timed.specs.declared.answer.Timed.TheVariants.{Exit, Trap, Limit, ReadFault, WriteFault}
-use Rattle.cf_timed.specs.Clocks.{SiteTimes, Tells, started}
+use Rattle.cf_timed.specs.Clocks.{SiteTimes, ClockKnows, started}
 use Rattle.cf_timed.specs.Earliest.{after_earliest, earliest}
 use Rattle.cf_timed.specs.Times.{Done, times}
 
@@ -39,11 +39,11 @@ pub record HasCauses (input input_after output output_after : ℕ) (answer : Ans
   pub of_output : HasCause output output_after (output_stopped (Some answer))
 
 -- where a timed run, which reports nothing, begins
-abbrev pub begins : Processor → Streams → Place
+abbrev pub begins : Processor → Streams → RunPlace
 begins core streams = place_of core streams None no_tally
 
 -- from there it is a run of a policy, which reports nothing and whose report does not fail; this many moves were made
-pub record RunsUnreported {P : Type 0} (picked : P → List Move → ℕ) (onward : P → List Move → P) (limit : ℕ) (begin : Place) (core : Processor) (streams : Streams) (policy later : P) (moves : ℕ) (answer : Answer) : Type 0 where
+pub record RunsUnreported {P : Type 0} (picked : P → List Move → ℕ) (onward : P → List Move → P) (limit : ℕ) (begin : RunPlace) (core : Processor) (streams : Streams) (policy later : P) (moves : ℕ) (answer : Answer) : Type 0 where
   pub tally : Tally
   pub counted : tally.moves ≡ moves
   pub right : RunsRight picked onward limit show.Report begin (place_of core streams None tally) policy later answer
@@ -51,11 +51,11 @@ pub record RunsUnreported {P : Type 0} (picked : P → List Move → ℕ) (onwar
   pub reports : answer ≢ ran.ReportFault
 
 -- from there it is a run of the policy that picks what is done first, right by the sequential machine; this many moves were made, and the clock was told exactly these
-pub record RunsTimed (delays : List ℕ) (limit : ℕ) (begin : Place) (core : Processor) (streams : Streams) (clock : SiteTimes) (moves : ℕ) (answer : Timed) : Type 0 where
+pub record RunsTimed (delays : List ℕ) (limit : ℕ) (begin : RunPlace) (core : Processor) (streams : Streams) (clock : SiteTimes) (moves : ℕ) (answer : Timed) : Type 0 where
   pub tally : Tally
   pub counted : tally.moves ≡ moves
   pub picked : List Done
   pub right : RunsRight (earliest begin.core.plan delays) (after_earliest begin.core.plan delays) limit show.Report begin (place_of core streams None tally) [] picked (answer_of answer)
-  pub told : Tells begin.core.plan delays (times begin.core.plan delays right.moves) clock
+  pub told : ClockKnows begin.core.plan delays (times begin.core.plan delays right.moves) clock
   -- it ends as the sequential machine does under the same limit
   pub ends : EndsSequentially limit begin (place_of core streams None tally) (Ran (answer_of answer))

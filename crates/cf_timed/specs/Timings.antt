@@ -8,7 +8,7 @@ use Rattle.cf_timed.specs.Clocks.{SiteTimes, capped, stamped}
 use Rattle.cf_timed.specs.Earliest.{first_least}
 
 -- the clock, and the last move that was picked, if there was one, of which the clock has not been told yet
-pub record Pending : Type 0 where
+pub record PendingMove : Type 0 where
   pub clock : SiteTimes
   pub last : Option Move
 
@@ -17,19 +17,19 @@ unfoldable pub marked : SiteTimes → Move → SiteTimes
 marked c mv = stamped c mv (capped c mv)
 
 -- the clock, told of the last move
-unfoldable pub told : Pending → SiteTimes
+unfoldable pub told : PendingMove → SiteTimes
 told p = on p.last p.clock (marked p.clock)
 
 -- what it picks of some moves
-unfoldable pub pending_pick : Pending → List Move → ℕ
+unfoldable pub pending_pick : PendingMove → List Move → ℕ
 pending_pick p moves = first_least (capped (told p)) moves
 
 -- and what it is after that
-unfoldable pub after_pick : Pending → List Move → Pending
+unfoldable pub after_pick : PendingMove → List Move → PendingMove
 after_pick p moves = record { clock = told p; last = slice_get moves (pending_pick p moves) }
 
 -- the clock after the moves that were made: a fault occurs at a move that was picked and not made
-unfoldable pub clock_after : Pending → Answer → SiteTimes
+unfoldable pub clock_after : PendingMove → Answer → SiteTimes
 clock_after p ran.ReadFault = p.clock
 clock_after p ran.WriteFault = p.clock
 clock_after p ran.ReportFault = p.clock

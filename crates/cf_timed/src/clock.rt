@@ -1,7 +1,7 @@
 //! The clock of a timed run.
 
 ghost use Rattle.std.specs.Prelude.{◌≡◌, ℕ, ◌+◌, ◌-◌, ◌<◌, ◌≤◌, ◌^◌, min};
-ghost use Rattle.cf_index.specs.Sites.{AreThere};
+ghost use Rattle.cf_index.specs.Sites.{HasSites};
 ghost use Rattle.cf_timed.specs.Delays.{AreDelays, delay};
 ghost use Rattle.cf_timed.specs.Clocks.{NoneLater, allowed, capped, finish, made, stamped, started};
 
@@ -118,7 +118,7 @@ impl Clock {
     /// stage and each cell that the move uses.
     #[tactic(auto, using(crate::proofs::SiteTimes::reach_within), unfolding(crate::specs::Clocks::finish))]
     pub fn finish(&self, mv: Move) -> u64
-        requires sites { AreThere self.now.plan mv }
+        requires sites { HasSites self.now.plan mv }
         requires early { self.now.latest < 2 ^ 62 }
         ensures { result ≡ finish self.now mv }
     {
@@ -129,7 +129,7 @@ impl Clock {
     /// Takes note of a move that is made now. The layout has each stage and each cell that it uses.
     #[tactic(auto, unfolding(crate::specs::Clocks::made))]
     pub fn made(&mut self, mv: Move)
-        requires sites { AreThere self.old.plan mv }
+        requires sites { HasSites self.old.plan mv }
         requires early { self.old.latest < 2 ^ 62 }
         ensures { self.new ≡ made self.old mv }
     {

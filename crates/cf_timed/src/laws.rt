@@ -9,9 +9,9 @@ ghost use Rattle.cf_layout.specs.Accepted.{IsAccepted};
 ghost use Rattle.cf_bind.specs.declared.moves.Move.{Move};
 ghost use Rattle.cf_semantics.specs.runs.Runs.{IsRun, run, start};
 ghost use Rattle.cf_index.specs.Alone.{stands_alone};
-ghost use Rattle.cf_index.specs.Sites.{AreThere, shares};
+ghost use Rattle.cf_index.specs.Sites.{HasSites, shares};
 ghost use Rattle.cf_timed.specs.Chains.{IsLongest};
-ghost use Rattle.cf_timed.specs.Clocks.{Tells, made_all, started};
+ghost use Rattle.cf_timed.specs.Clocks.{ClockKnows, made_all, started};
 ghost use Rattle.cf_timed.specs.Exchanges.{CanExchange};
 ghost use Rattle.cf_timed.specs.Times.{greatest_time, times};
 
@@ -19,8 +19,8 @@ ghost use Rattle.cf_timed.specs.Times.{greatest_time, times};
 /// of the delays of some chain of the run, and no chain has a greater sum.
 pub fn t7_1()
     ensures clock { (plan : Plan) (delays : List ℕ) (moves : List Move) → IsAccepted plan →
-        AllByRecursion (AreThere plan) moves →
-        Tells plan delays (times plan delays moves) (made_all (started plan delays) moves) }
+        AllByRecursion (HasSites plan) moves →
+        ClockKnows plan delays (times plan delays moves) (made_all (started plan delays) moves) }
     ensures longest { (plan : Plan) (delays : List ℕ) (moves : List Move) →
         IsLongest plan delays moves (greatest_time (times plan delays moves)) }
 {}

@@ -29,9 +29,9 @@ pub struct Timing {
 impl Model for Timing {
     ghost use Rattle.std.specs.Prelude.{◌≡◌, IfSome};
     ghost use Rattle.cf_timed.specs.Clocks.{capped};
-    ghost use Rattle.cf_timed.specs.Timings.{Pending};
+    ghost use Rattle.cf_timed.specs.Timings.{PendingMove};
 
-    ghost Value = { Pending };
+    ghost Value = { PendingMove };
 
     ghost view = { λ t. record { clock = t.clock; last = t.last } };
 

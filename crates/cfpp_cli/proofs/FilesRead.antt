@@ -1,7 +1,7 @@
 -- The answer of a command says which files it read.
 use Rattle.std.proofs.Common.{◌+◌, ℕ, List, [], ◌∷◌, ◌++◌, true, false, Option, Result, Ok, Err, inl, inr}
 use Rattle.run_options.specs.declared.show.Show.TheVariants as shows
-use Rattle.cli_arguments.specs.Words.{Asked, Layout, machine, run, moves, rounds, debug, time, audit, check, asm, listing, gen, help, version}
+use Rattle.cli_arguments.specs.Words.{Asked, NamedLayout, machine, run, moves, rounds, debug, time, audit, check, asm, listing, gen, help, version}
 use Rattle.cli_audit.specs.Audit.{audit_asked, side_of as audit_side}
 use Rattle.cli_audit.proofs.Reading.{audited-read}
 use Rattle.cli_debug.proofs.Reading.{debugged-read, broken-read}
@@ -46,7 +46,7 @@ rounds-read asked before after answer report (inr r) =
     loaded-lacking asked.layout asked.program before.files after.files answer report r.lacks
 
 -- of the commands that read one file
-check-read : (layout : Layout) (before after : FileSide) (answer : Status) (report : List ℕ) →
+check-read : (layout : NamedLayout) (before after : FileSide) (answer : Status) (report : List ℕ) →
     AnswersCheck layout before after answer report → WereRead (layout_files layout) before.files after.files
 check-read layout before after answer report (inl w) =
     were-all (layout_files layout) before.files after.files (layout-read layout before.files after.files w.plan w.named)

@@ -8,8 +8,8 @@ use Rattle.cf_core.specs.Processors.{Processor, opened}
 use Rattle.cf_report.specs.declared.tally.Tally.{Tally}
 use Rattle.cf_rounds.specs.declared.answer.Clocked.{Clocked}
 use Rattle.cf_rounds.specs.declared.answer.Clocked.TheVariants as clocked
-use Rattle.cf_rounds.specs.Running.{RunsRight, ran_of}
-use Rattle.cf_rounds.specs.Turns.{input_turned, output_turned}
+use Rattle.cf_rounds.specs.Running.{RoundsRunRight, ran_of}
+use Rattle.cf_rounds.specs.RoundTurns.{input_turned, output_turned}
 use Rattle.cf_run.specs.declared.answer.Ran.{Ran as Answer}
 use Rattle.cf_run.specs.declared.answer.Scripted.TheVariants.{Ran}
 use Rattle.cf_run.specs.Ending.{EndsSequentially}
@@ -21,7 +21,7 @@ use Rattle.cli_files.specs.Loading.{IsLoaded}
 use Rattle.cli_files.specs.Outside.{Outside, Report}
 use Rattle.cli_files.specs.declared.status.Status.{Status}
 use Rattle.cfpp_cli.specs.Finishing.{ClosesRounds}
-use Rattle.cfpp_cli.specs.Reporting.{Puts, ReportsAlone}
+use Rattle.cfpp_cli.specs.Reporting.{PutsReport, ReportsAlone}
 use Rattle.cfpp_cli.specs.Rounds.{RoundsAsked, RunInRounds, RunsCoreInRounds, ComesInRounds, RefusesRounds, AnswersRounds}
 use Rattle.cfpp_cli.specs.Run.{start_of}
 use Rattle.cfpp_cli.specs.Statuses.{status_of_run}
@@ -31,7 +31,7 @@ use Rattle.cfpp_cli.proofs.PutReports.{answer-put}
 
 -- a run, and where it ends
 run_of : (limit : ℕ) (core last : Processor) (before after : Streams) (tally : Tally) (rounds : ℕ) (c : Clocked) →
-    RunsRight limit (start_of core before None) (place_of last after None tally) rounds c →
+    RoundsRunRight limit (start_of core before None) (place_of last after None tally) rounds c →
     EndsSequentially limit (start_of core before None) (place_of last after None tally) (Ran (ran_of c)) →
     tally.moves ≤ most_moves core.plan limit → RunInRounds limit core last before after
 run_of limit core last before after tally rounds c runs ends bounded =
@@ -40,7 +40,7 @@ run_of limit core last before after tally rounds c runs ends bounded =
 -- its closing lines were put, or failed
 pub rounds-closed : (limit : ℕ) (core last : Processor) (before after : Streams) (blank full : Report)
     (tally : Tally) (rounds : ℕ) (c : Clocked) (end : Answer) (reported : Reported) →
-    RunsRight limit (start_of core before None) (place_of last after None tally) rounds c →
+    RoundsRunRight limit (start_of core before None) (place_of last after None tally) rounds c →
     EndsSequentially limit (start_of core before None) (place_of last after None tally) (Ran (ran_of c)) →
     tally.moves ≤ most_moves core.plan limit → end ≡ ran_of c → ClosesRounds limit end rounds last tally blank full reported →
     ReportsAlone (RunsCoreInRounds limit core last before after) blank full reported
@@ -120,6 +120,6 @@ loaded-rounds asked before after plan hart blank full reported loaded (text, com
 -- or one of them is missing
 pub rounds-refused : (asked : RoundsAsked) (before after : Outside) (blank full : Report) (answer : Status)
     (text : List ℕ) (reported : Reported) → reported.status ≡ answer → RefusesRounds asked before after answer text →
-    Puts blank full text reported.put → ReportsAlone (AnswersRounds asked before after) blank full reported
+    PutsReport blank full text reported.put → ReportsAlone (AnswersRounds asked before after) blank full reported
 rounds-refused asked before after blank full answer text reported same refused puts =
     answer-put (λ answer text. AnswersRounds asked before after answer text) answer text blank full reported same (inr refused) puts

@@ -21,16 +21,16 @@ use Rattle.cf_run.specs.declared.answer.Ran.TheVariants as ran
 use Rattle.cf_run.specs.declared.answer.Scripted.{Scripted}
 use Rattle.cf_run.specs.declared.answer.Scripted.TheVariants.{Ran, ScriptEnd, BadScript, BarredAt}
 use Rattle.cf_run.specs.Made.{Made}
-use Rattle.cf_run.specs.Ending.{EndsAsMachine, EndsSequentially, Ends, IsAfter}
-use Rattle.cf_run.specs.Moving.{Place, place_of}
-use Rattle.theory_unknown_input.specs.Anew.{GoesTo}
+use Rattle.cf_run.specs.Ending.{EndsAsMachine, EndsSequentially, EndsUnderLimit, IsAfterSteps}
+use Rattle.cf_run.specs.Moving.{RunPlace, place_of}
+use Rattle.theory_unknown_input.specs.UnknownInput.{GoesTo}
 use Rattle.report_closing.specs.Closing.{head_text, machine_closing}
 use Rattle.report_closing.specs.Lines.{first_line}
 use Rattle.cfpp_cli.specs.Finish.{opening, Runs}
 use Rattle.cfpp_cli.specs.Lines.{LeadsBy, ReachesBy, retired_lines, text_of}
 use Rattle.cli_files.specs.Outside.{Report}
 use Rattle.cfpp_cli.specs.Options.{chosen_of}
-use Rattle.cfpp_cli.specs.Reporting.{Puts, Adds, Carries, Comes}
+use Rattle.cfpp_cli.specs.Reporting.{PutsReport, Adds, Carries, Comes}
 use Rattle.cli_files.specs.Memory.{LacksProcessor}
 use Rattle.cfpp_cli.specs.Run.{start_of, chosen_by, head_of, AgreesWithMachine, IsMachines, IsComplete, RunsCore, RunsWithTail, RunsOpened, BreaksCore, ComesOf}
 use Rattle.cfpp_cli.specs.Statuses.{status_of}
@@ -65,7 +65,7 @@ leads_by isa start (suc n) at written (before, next, earlier, goes, is, same, mo
     let s : Steps isa before next = steps isa before next is in
     (sooner.0 ++ text_of (Next next s.line), (before, sooner.0, s.line, next, sooner.1, s.is, same, refl))
 
-reaches_by : (isa : Isa) (told : Option (List ℕ)) (hart : Hart) (n : ℕ) (at : Machine) → IsAfter isa told hart n at → (lines : List ℕ) × ReachesBy isa told (opening hart told) n at lines
+reaches_by : (isa : Isa) (told : Option (List ℕ)) (hart : Hart) (n : ℕ) (at : Machine) → IsAfterSteps isa told hart n at → (lines : List ℕ) × ReachesBy isa told (opening hart told) n at lines
 reaches_by isa (Some rest) hart n at is = (retired_lines isa (opening hart (Some rest)) n, (is, refl))
 reaches_by isa None hart n at (written, goes) = leads_by isa (opening hart None) n at written goes
 
@@ -76,7 +76,7 @@ record Reached (limit : ℕ) (isa : Isa) (hart : Hart) (before after : Streams) 
   counts : m.hart.retired ≡ hart.retired + m.hart.retired
   streams : Leaves before after m.rest m.output
 
-reached : (limit : ℕ) (hart : Hart) (begin new : Place) (answer : RunAnswer) → hart.retired ≡ 0 → (e : EndsAsMachine limit hart begin new answer) → Reached limit (isa_of begin.core.plan) hart begin.streams new.streams e.at
+reached : (limit : ℕ) (hart : Hart) (begin new : RunPlace) (answer : RunAnswer) → hart.retired ≡ 0 → (e : EndsAsMachine limit hart begin new answer) → Reached limit (isa_of begin.core.plan) hart begin.streams new.streams e.at
 reached limit hart begin new answer fresh e =
     let number : new.core.state.retired - hart.retired ≡ e.at.hart.retired = let r = e.retired in omega (arith, fresh, r) in
     let r = reaches_by (isa_of begin.core.plan) begin.streams.input hart (new.core.state.retired - hart.retired) e.at e.comes in
@@ -128,11 +128,11 @@ limit_runs limit plan hart before after m r full = record {
 }
 
 -- so the answer and the head of the report are those of `machine`
-exit_agrees : (limit : ℕ) (plan : Plan) (hart : Hart) (begin new : Place) (code : ℕ) → hart.retired ≡ 0 → begin.core.plan ≡ plan → EndsAsMachine limit hart begin new (ran.Exit code) → IsMachines limit plan hart begin.streams new.streams (status.Exit code) (head_of limit (Ran (ran.Exit code)) new.core new.tally)
+exit_agrees : (limit : ℕ) (plan : Plan) (hart : Hart) (begin new : RunPlace) (code : ℕ) → hart.retired ≡ 0 → begin.core.plan ≡ plan → EndsAsMachine limit hart begin new (ran.Exit code) → IsMachines limit plan hart begin.streams new.streams (status.Exit code) (head_of limit (Ran (ran.Exit code)) new.core new.tally)
 unfolding machine_closing head_text first_line
 exit_agrees limit plan hart begin new code fresh same e =
     let r = subst (λ (p : Plan). Reached limit (isa_of p) hart begin.streams new.streams e.at) same (reached limit hart begin new (ran.Exit code) fresh e) in
-    let ends = subst (λ (p : Plan). Ends (isa_of p) limit e.at (ran.Exit code)) same e.ends in
+    let ends = subst (λ (p : Plan). EndsUnderLimit (isa_of p) limit e.at (ran.Exit code)) same e.ends in
     record {
       runs = record {
         finish = ran.Exit code;
@@ -143,11 +143,11 @@ exit_agrees limit plan hart begin new code fresh same e =
       };
     }
 
-trap_agrees : (limit : ℕ) (plan : Plan) (hart : Hart) (begin new : Place) (cause pc detail : ℕ) → hart.retired ≡ 0 → begin.core.plan ≡ plan → EndsAsMachine limit hart begin new (ran.Trap cause pc detail) → IsMachines limit plan hart begin.streams new.streams (status.Trap cause pc detail) (head_of limit (Ran (ran.Trap cause pc detail)) new.core new.tally)
+trap_agrees : (limit : ℕ) (plan : Plan) (hart : Hart) (begin new : RunPlace) (cause pc detail : ℕ) → hart.retired ≡ 0 → begin.core.plan ≡ plan → EndsAsMachine limit hart begin new (ran.Trap cause pc detail) → IsMachines limit plan hart begin.streams new.streams (status.Trap cause pc detail) (head_of limit (Ran (ran.Trap cause pc detail)) new.core new.tally)
 unfolding machine_closing head_text first_line
 trap_agrees limit plan hart begin new cause pc detail fresh same e =
     let r = subst (λ (p : Plan). Reached limit (isa_of p) hart begin.streams new.streams e.at) same (reached limit hart begin new (ran.Trap cause pc detail) fresh e) in
-    let ends = subst (λ (p : Plan). Ends (isa_of p) limit e.at (ran.Trap cause pc detail)) same e.ends in
+    let ends = subst (λ (p : Plan). EndsUnderLimit (isa_of p) limit e.at (ran.Trap cause pc detail)) same e.ends in
     record {
       runs = record {
         finish = ran.Trap cause pc detail;
@@ -158,7 +158,7 @@ trap_agrees limit plan hart begin new cause pc detail fresh same e =
       };
     }
 
-limit_agrees : (limit : ℕ) (plan : Plan) (hart : Hart) (begin new : Place) → hart.retired ≡ 0 → begin.core.plan ≡ plan → EndsAsMachine limit hart begin new ran.Limit → IsMachines limit plan hart begin.streams new.streams (status.Limit (Some limit)) (head_of limit (Ran ran.Limit) new.core new.tally)
+limit_agrees : (limit : ℕ) (plan : Plan) (hart : Hart) (begin new : RunPlace) → hart.retired ≡ 0 → begin.core.plan ≡ plan → EndsAsMachine limit hart begin new ran.Limit → IsMachines limit plan hart begin.streams new.streams (status.Limit (Some limit)) (head_of limit (Ran ran.Limit) new.core new.tally)
 unfolding machine_closing head_text first_line
 limit_agrees limit plan hart begin new fresh same e =
     let r = subst (λ (p : Plan). Reached limit (isa_of p) hart begin.streams new.streams e.at) same (reached limit hart begin new ran.Limit fresh e) in
@@ -217,7 +217,7 @@ complete_ran limit moves in_turn end answer said = subst (IsComplete in_turn) (s
     of ran.WriteFault = tt
     of ran.ReportFault = tt
 
-pub complete : (limit : ℕ) (show : Show) (schedule : ReadySchedule) (start new : Place) (finish : Scripted) (trace : List Made) (moves : List Move) (answer : Status) → chosen_by limit show schedule start new finish trace moves → answer ≡ status_of limit new.tally.moves finish → IsComplete schedule answer
+pub complete : (limit : ℕ) (show : Show) (schedule : ReadySchedule) (start new : RunPlace) (finish : Scripted) (trace : List Made) (moves : List Move) (answer : Status) → chosen_by limit show schedule start new finish trace moves → answer ≡ status_of limit new.tally.moves finish → IsComplete schedule answer
 complete limit show (in_script text) start new finish trace moves answer by said = tt
 complete limit show (drawn_from seed) start new finish trace moves answer by said = complete_ran limit new.tally.moves (drawn_from seed) by.answer answer (said ∙ ap (status_of limit new.tally.moves) by.finish_is)
 complete limit show in_turn start new finish trace moves answer by said = complete_ran limit new.tally.moves in_turn by.answer answer (said ∙ ap (status_of limit new.tally.moves) by.finish_is)
@@ -274,7 +274,7 @@ opened-comes limit show tail core last plan hart schedule before after blank ful
 
 -- or memory for it was refused
 pub unopened-comes : (limit : ℕ) (show : Show) (tail : Tail) (plan : Plan) (hart : Hart) (schedule : ReadySchedule) (before after : Streams) (told : Option (List ℕ)) (blank full : Report) (answer : Status) (text : List ℕ) (reported : Reported) → reported.status ≡ answer
-    → LacksProcessor before after answer text → Puts blank full text reported.put
+    → LacksProcessor before after answer text → PutsReport blank full text reported.put
     → Carries (ComesOf limit show tail plan hart schedule before after told) blank full reported
 unopened-comes limit show tail plan hart schedule before after told blank full answer text reported same lacks puts = (
   [],

@@ -12,33 +12,33 @@ use Rattle.cf_run.specs.declared.answer.Ran.TheVariants as ran
 use Rattle.cf_run.specs.declared.answer.Scripted.{Scripted}
 use Rattle.cf_run.specs.declared.answer.Scripted.TheVariants.{Ran, ScriptEnd, BadScript, BarredAt}
 use Rattle.cf_report.specs.declared.tally.Tally.{Tally}
-use Rattle.run_scripts.specs.Scripts.{Told, script_of}
+use Rattle.run_scripts.specs.Scripts.{ScriptLines, script_of}
 use Rattle.cf_run.specs.Ending.{EndsSequentially}
 use Rattle.cf_run.specs.Headline.{RunsSequentially}
 use Rattle.cf_run.specs.Made.{Made, all_shown}
-use Rattle.cf_run.specs.Moving.{Place, place_of, Does}
+use Rattle.cf_run.specs.Moving.{RunPlace, place_of, MoveDoes}
 use Rattle.cf_run.specs.Policies.{input_stopped, output_stopped, report_stopped, RunsPolicy, RunsRight, most_moves}
-use Rattle.cf_run.specs.Scripts.{Stand, stand_of, first_moves, RunsScript, DoesLine, Stops, input_scripted, output_scripted, report_scripted}
+use Rattle.cf_run.specs.Scripts.{ScriptRun, stand_of, first_moves, RunsScript, DoesLine, ScriptStops, input_scripted, output_scripted, report_scripted}
 use Rattle.report_closing.specs.Closing.{closing, is_report_fault}
 use Rattle.cli_files.specs.Causes.{files_answered, input_answered, output_answered}
 use Rattle.cli_files.specs.Outside.{Report, report_of}
 use Rattle.cfpp_cli.specs.Finishing.{PutsClosing, ClosesCore}
-use Rattle.cfpp_cli.specs.Reporting.{Puts, Comes, Tells, files_reported}
-use Rattle.cfpp_cli.specs.Run.{start_of, Chooses, ByScript, ByPolicy, ProcessorRun, RunsCore, BreaksCore}
+use Rattle.cfpp_cli.specs.Reporting.{PutsReport, Comes, FaultsReported, files_reported}
+use Rattle.cfpp_cli.specs.Run.{start_of, RunRelation, ByScript, ByPolicy, ProcessorRun, RunsCore, BreaksCore}
 use Rattle.cfpp_cli.specs.Statuses.{status_of}
 use Rattle.cfpp_cli.specs.declared.reporting.Reported.{Reported}
 use Rattle.cfpp_cli.proofs.PutReports.{closed-tells}
 
 -- what the report has where the run stops at the stand that it reached
-stays : (blank : Option (List ℕ)) (now new : Stand) (lines : List ℕ) →
+stays : (blank : Option (List ℕ)) (now new : ScriptRun) (lines : List ℕ) →
     Writes blank now.place.report lines → new ≡ now → Writes blank new.place.report lines
 stays blank now new lines put same =
-    subst (λ (s : Stand). Writes blank s.place.report lines) (sym same) put
+    subst (λ (s : ScriptRun). Writes blank s.place.report lines) (sym same) put
 
-same-place : (blank : Option (List ℕ)) (now new : Place) (lines : List ℕ) →
+same-place : (blank : Option (List ℕ)) (now new : RunPlace) (lines : List ℕ) →
     Writes blank now.report lines → new ≡ now → Writes blank new.report lines
 same-place blank now new lines put same =
-    subst (λ (p : Place). Writes blank p.report lines) (sym same) put
+    subst (λ (p : RunPlace). Writes blank p.report lines) (sym same) put
 
 same-report : (blank now new : Option (List ℕ)) (lines : List ℕ) → Writes blank now lines →
     new ≡ now → Writes blank new lines
@@ -46,10 +46,10 @@ same-report blank now new lines put same =
     subst (λ (told : Option (List ℕ)). Writes blank told lines) (sym same) put
 
 -- after a run whose report did not fail, the report has what was shown of the moves
-script-shown : (limit : ℕ) (show : Show) (start new : Stand) (finish : Scripted)
+script-shown : (limit : ℕ) (show : Show) (start new : ScriptRun) (finish : Scripted)
     (r : RunsScript limit show start new finish) → is_report_fault finish ≡ false →
     Writes start.place.report new.place.report (all_shown show start.place.core.plan 1 r.follows.reaches.trace)
-unfolding Stops DoesLine Does
+unfolding ScriptStops DoesLine MoveDoes
 script-shown limit show start new ScriptEnd r sound = stays _ _ _ _ r.follows.reaches.report r.stops.2
 script-shown limit show start new (BadScript refusal) r sound = stays _ _ _ _ r.follows.reaches.report r.stops.2
 script-shown limit show start new (BarredAt line bar) r sound =
@@ -65,10 +65,10 @@ script-shown limit show start new (Ran (ran.Trap cause pc detail)) r sound =
 script-shown limit show start new (Ran ran.Limit) r sound = stays _ _ _ _ r.follows.reaches.report r.stops.1
 
 policy-shown : {P : Type 0} (picked : P → List Move → ℕ) (onward : P → List Move → P) (limit : ℕ) (show : Show)
-    (start new : Place) (policy later : P) (moves : List Move) (answer : RunAnswer)
+    (start new : RunPlace) (policy later : P) (moves : List Move) (answer : RunAnswer)
     (r : RunsPolicy picked onward limit show start new policy later moves answer) → is_report_fault (Ran answer) ≡ false →
     Writes start.report new.report (all_shown show start.core.plan 1 r.reaches.trace)
-unfolding Does
+unfolding MoveDoes
 policy-shown picked onward limit show start new policy later moves ran.ReadFault r sound =
     same-report _ _ _ _ r.reaches.report r.stops.does.0.report
 policy-shown picked onward limit show start new policy later moves ran.WriteFault r sound =
@@ -82,7 +82,7 @@ policy-shown picked onward limit show start new policy later moves ran.Limit r s
     same-place _ _ _ _ r.reaches.report r.stops.1
 
 -- a run, and where it ends
-run_of : (limit : ℕ) (show : Show) (core last : Processor) (by : Chooses) (before after : Streams)
+run_of : (limit : ℕ) (show : Show) (core last : Processor) (by : RunRelation) (before after : Streams)
     (blank told : Option (List ℕ)) (tally : Tally) (finish : Scripted) (trace : List Made) (moves : List Move) →
     by (start_of core before blank) (place_of last after told tally) finish trace moves →
     RunsSequentially show moves (start_of core before blank) (place_of last after told tally) finish →
@@ -133,7 +133,7 @@ stopped-report ran.WriteFault = refl
 stopped-report ran.ReportFault = refl
 
 -- its closing lines were put, or failed, or its report had failed at a move
-run-closed : (limit : ℕ) (show : Show) (core last : Processor) (by : Chooses) (before after : Streams)
+run-closed : (limit : ℕ) (show : Show) (core last : Processor) (by : RunRelation) (before after : Streams)
     (blank half full : Report) (tally : Tally) (finish : Scripted) (trace : List Made) (moves : List Move)
     (result : Result Reported Failed) →
     by (start_of core before blank.written) (place_of last after half.written tally) finish trace moves →
@@ -158,7 +158,7 @@ run-closed limit show core last by before after blank half full tally finish tra
   record {
     told = half.written;
     shows = put sound;
-    closes = subst (λ (n : ℕ). Puts (report_of half.written n) full (closing limit finish last.plan last.state tally) reported.put)
+    closes = subst (λ (n : ℕ). PutsReport (report_of half.written n) full (closing limit finish last.plan last.state tally) reported.put)
         (report-stays blank.faults half.faults finish sound cause) closes.puts;
   },
 )
@@ -173,13 +173,13 @@ run-closed limit show core last by before after blank half full tally finish tra
 )
 
 -- by a script
-by_script : (limit : ℕ) (show : Show) (text : List ℕ) (start new : Place) (left : Told) (finish : Scripted) →
+by_script : (limit : ℕ) (show : Show) (text : List ℕ) (start new : RunPlace) (left : ScriptLines) (finish : Scripted) →
     (r : RunsScript limit show (stand_of start (script_of text)) (stand_of new left) finish) →
     ByScript limit show text start new finish r.follows.reaches.trace (first_moves (script_of text) new.tally)
 by_script limit show text start new left finish r = record { left = left; runs = r; trace_is = refl; moves_are = refl }
 
 pub script-closed : (limit : ℕ) (show : Show) (core last : Processor) (text : List ℕ) (before after : Streams)
-    (blank half full : Report) (tally : Tally) (left : Told) (finish : Scripted) (result : Result Reported Failed) →
+    (blank half full : Report) (tally : Tally) (left : ScriptLines) (finish : Scripted) (result : Result Reported Failed) →
     RunsScript limit show (stand_of (start_of core before blank.written) (script_of text)) (stand_of (place_of last after half.written tally) left) finish →
     RunsSequentially show (first_moves (script_of text) tally) (start_of core before blank.written) (place_of last after half.written tally) finish →
     EndsSequentially limit (start_of core before blank.written) (place_of last after half.written tally) finish →
@@ -192,7 +192,7 @@ script-closed limit show core last text before after blank half full tally left 
 
 -- by a policy
 by_policy : {P : Type 0} (picked : P → List Move → ℕ) (onward : P → List Move → P) (limit : ℕ) (show : Show)
-    (start new : Place) (policy later : P) (moves : List Move) (answer : RunAnswer) →
+    (start new : RunPlace) (policy later : P) (moves : List Move) (answer : RunAnswer) →
     (r : RunsPolicy picked onward limit show start new policy later moves answer) →
     new.tally.moves ≤ most_moves start.core.plan (new.core.state.retired - start.core.state.retired) →
     ByPolicy picked onward limit show policy start new (Ran answer) r.reaches.trace moves
@@ -242,14 +242,14 @@ output-said limit moves (BarredAt line bar) sound = refl
 -- so where a run was closed a count rose exactly where the answer says so
 pub closed-input : (limit : ℕ) (finish : Scripted) (last : Processor) (tally : Tally) (half full : Report)
     (result : Result Reported Failed) (before now : ℕ) → ClosesCore limit finish last tally half full result →
-    HasCause before now (input_scripted (Some finish)) → Tells input_answered before now result
+    HasCause before now (input_scripted (Some finish)) → FaultsReported input_answered before now result
 closed-input limit finish last tally half full result before now closes h =
     closed-tells input_answered (is_report_fault finish) (status_of limit tally.moves finish) (input_scripted (Some finish))
     (closing limit finish last.plan last.state tally) half full result before now (λ sound. input-said limit tally.moves finish) closes h
 
 pub closed-output : (limit : ℕ) (finish : Scripted) (last : Processor) (tally : Tally) (half full : Report)
     (result : Result Reported Failed) (before now : ℕ) → ClosesCore limit finish last tally half full result →
-    HasCause before now (output_scripted (Some finish)) → Tells output_answered before now result
+    HasCause before now (output_scripted (Some finish)) → FaultsReported output_answered before now result
 closed-output limit finish last tally half full result before now closes h =
     closed-tells output_answered (is_report_fault finish) (status_of limit tally.moves finish) (output_scripted (Some finish))
     (closing limit finish last.plan last.state tally) half full result before now (λ sound. output-said limit tally.moves finish sound) closes h

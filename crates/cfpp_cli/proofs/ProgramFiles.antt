@@ -14,11 +14,11 @@ use Rattle.cli_files.specs.Causes.{input_answered, output_answered}
 use Rattle.cli_files.specs.Outside.{Outside, Report, report_of}
 use Rattle.cli_files.specs.Programs.{IsProgramAt}
 use Rattle.cli_files.specs.declared.status.Status.{Status}
-use Rattle.cfpp_cli.specs.Finish.{Runs, BreaksOff, RunsTo}
+use Rattle.cfpp_cli.specs.Finish.{Runs, BreaksOff, RunsToFinish}
 use Rattle.cfpp_cli.specs.Finishing.{ClosesMachine}
 use Rattle.cfpp_cli.specs.Machine.{RunsHart, BreaksHart, RefusesMachine, AnswersMachine, BreaksProgram}
 use Rattle.cfpp_cli.specs.Options.{Chosen}
-use Rattle.cfpp_cli.specs.Reporting.{Puts, Carries, Comes, Tells, files_reported}
+use Rattle.cfpp_cli.specs.Reporting.{PutsReport, Carries, Comes, FaultsReported, files_reported}
 use Rattle.cfpp_cli.specs.Statuses.{status_of_run}
 use Rattle.cfpp_cli.specs.declared.reporting.Reported.{Reported}
 use Rattle.cfpp_cli.proofs.ProcessorRuns.{report-stays, report-rose, stopped-report, input-said, output-said, closed-files, policy-input, policy-output}
@@ -32,7 +32,7 @@ record Ended (c : Chosen) (start last : Hart) (before after : Streams) (blank ha
   shows : Writes blank half lines
 
 ended : (c : Chosen) (start last : Hart) (before after : Streams) (blank half : Option (List ℕ)) (finish : Answer) →
-    is_report_fault (Ran finish) ≡ false → RunsTo c start last before after blank half finish →
+    is_report_fault (Ran finish) ≡ false → RunsToFinish c start last before after blank half finish →
     Ended c start last before after blank half finish
 ended c start last before after blank half (ran.Exit status) sound runs = record { lines = runs.0; runs = runs.1; shows = runs.2 }
 ended c start last before after blank half (ran.Trap cause pc detail) sound runs = record { lines = runs.0; runs = runs.1; shows = runs.2 }
@@ -43,7 +43,7 @@ ended c start last before after blank half ran.ReportFault sound runs = absurd (
 
 -- a run whose report failed
 broken : (c : Chosen) (start last : Hart) (before after : Streams) (blank half : Option (List ℕ)) (finish : Answer) →
-    is_report_fault (Ran finish) ≡ true → RunsTo c start last before after blank half finish →
+    is_report_fault (Ran finish) ≡ true → RunsToFinish c start last before after blank half finish →
     BreaksOff c start last before after blank half
 broken c start last before after blank half ran.ReportFault cut runs = runs
 broken c start last before after blank half (ran.Exit status) cut runs = absurd (cc)
@@ -54,7 +54,7 @@ broken c start last before after blank half ran.WriteFault cut runs = absurd (cc
 
 -- the lines that close its report were put, or failed, or its report had failed before
 pub machine-closed : (c : Chosen) (start last : Hart) (before after : Streams) (blank half full : Report) (finish : Answer)
-    (result : Result Reported Failed) → RunsTo c start last before after blank.written half.written finish →
+    (result : Result Reported Failed) → RunsToFinish c start last before after blank.written half.written finish →
     HasCause blank.faults half.faults (report_stopped (Some finish)) → ClosesMachine c.limit finish last half full result →
     Comes (RunsHart c start before after) (BreaksHart c start before after blank.written full.written) blank full result
 machine-closed c start last before after blank half full finish (Ok reported) runs cause (sound, closes) =
@@ -67,7 +67,7 @@ machine-closed c start last before after blank half full finish (Ok reported) ru
       record {
         told = half.written;
         shows = end.shows;
-        closes = subst (λ (n : ℕ). Puts (report_of half.written n) full text reported.put)
+        closes = subst (λ (n : ℕ). PutsReport (report_of half.written n) full text reported.put)
             (report-stays blank.faults half.faults (Ran finish) sound (rw (stopped-report finish) at cause)) closes.puts;
       },
     )
@@ -75,7 +75,7 @@ machine-closed c start last before after blank half full finish (Err failed) run
   record {
     last = last;
     breaks = broken c start last before after blank.written full.written finish cut
-        (subst (λ (told : Option (List ℕ)). RunsTo c start last before after blank.written told finish)
+        (subst (λ (told : Option (List ℕ)). RunsToFinish c start last before after blank.written told finish)
         (sym (ap (λ (r : Report). r.written) same)) runs);
   },
   subst (λ (r : Report). Rose blank.faults r.faults) (sym same)
@@ -85,7 +85,7 @@ machine-closed c start last before after blank half full finish (Err failed) run
 -- a count rose exactly where the answer says so
 pub machine-input : (limit : ℕ) (finish : Answer) (last : Hart) (half full : Report) (result : Result Reported Failed)
     (before now : ℕ) → ClosesMachine limit finish last half full result →
-    HasCause before now (input_stopped (Some finish)) → Tells input_answered before now result
+    HasCause before now (input_stopped (Some finish)) → FaultsReported input_answered before now result
 machine-input limit finish last half full result before now closes h =
     closed-tells input_answered (is_report_fault (Ran finish)) (status_of_run limit finish) _
     (machine_closing limit finish last.retired last.regs) half full result before now
@@ -93,7 +93,7 @@ machine-input limit finish last half full result before now closes h =
 
 pub machine-output : (limit : ℕ) (finish : Answer) (last : Hart) (half full : Report) (result : Result Reported Failed)
     (before now : ℕ) → ClosesMachine limit finish last half full result →
-    HasCause before now (output_stopped (Some finish)) → Tells output_answered before now result
+    HasCause before now (output_stopped (Some finish)) → FaultsReported output_answered before now result
 machine-output limit finish last half full result before now closes h =
     closed-tells output_answered (is_report_fault (Ran finish)) (status_of_run limit finish) _
     (machine_closing limit finish last.retired last.regs) half full result before now
@@ -121,7 +121,7 @@ program-comes chosen before after name hart blank full (Err failed) program (bre
 -- or there was no program
 pub program-refused : (chosen : Chosen) (before after : Outside) (name : List ℕ) (blank full : Report) (answer : Status)
     (text : List ℕ) (reported : Reported) → reported.status ≡ answer → RefusesMachine name before after answer text →
-    Puts blank full text reported.put → Carries (AnswersMachine name chosen before after) blank full reported
+    PutsReport blank full text reported.put → Carries (AnswersMachine name chosen before after) blank full reported
 program-refused chosen before after name blank full answer text reported same refused puts = (
   [],
   text,

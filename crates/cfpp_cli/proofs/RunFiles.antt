@@ -8,15 +8,15 @@ use Rattle.cf_core.specs.Processors.{opened}
 use Rattle.cf_layout.specs.Layout.{Plan}
 use Rattle.cf_layout.specs.Plain.{plain}
 use Rattle.cli_arguments.specs.Options.{default_limit}
-use Rattle.cli_files.specs.Deciding.{Counts}
+use Rattle.cli_files.specs.Deciding.{FaultsCounted}
 use Rattle.cli_files.proofs.NoStreams.{no-cause}
 use Rattle.cli_files.specs.Outside.{Outside, Report}
-use Rattle.cli_files.specs.RunFiles.{RunAsked, IsReady, RefusesRun}
+use Rattle.cli_files.specs.RunFiles.{RunAsked, RunFilesRead, RefusesRun}
 use Rattle.cli_files.specs.Schedules.{ReadySchedule, drawn_from}
 use Rattle.cli_files.specs.declared.answer.Answer.{Answer}
 use Rattle.cli_files.specs.declared.status.Status.{Status}
 use Rattle.cfpp_cli.specs.Drawn.{StartsDrawn, RefusesDrawn, AnswersDrawn, BreaksDrawn}
-use Rattle.cfpp_cli.specs.Reporting.{Puts, Carries, Comes}
+use Rattle.cfpp_cli.specs.Reporting.{PutsReport, Carries, Comes}
 use Rattle.cfpp_cli.specs.Run.{chosen_by, ComesOf, BreaksCore, AnswersRun, BreaksRun}
 use Rattle.cfpp_cli.specs.declared.reporting.Reported.{Reported}
 use Rattle.cfpp_cli.specs.declared.tail.Tail.{Tail}
@@ -26,7 +26,7 @@ use Rattle.cfpp_cli.proofs.PutReports.{shows-none}
 -- what comes of the files is the outcome of the command that reads them
 pub run-comes : (tail : Tail) (asked : RunAsked) (before after : Outside) (plan : Plan) (hart : Hart)
     (schedule : ReadySchedule) (blank full : Report) (result : Result Reported Failed) →
-    IsReady asked before.files after.files plan hart schedule →
+    RunFilesRead asked before.files after.files plan hart schedule →
     Comes (ComesOf asked.limit asked.show tail plan hart schedule before.streams after.streams blank.written)
     (BreaksCore asked.limit asked.show (opened plan hart) (chosen_by asked.limit asked.show schedule) before.streams after.streams blank.written full.written)
     blank full result →
@@ -39,7 +39,7 @@ run-comes tail asked before after plan hart schedule blank full (Err failed) rea
 -- or one of them is missing
 pub run-refused : (tail : Tail) (asked : RunAsked) (before after : Outside) (told : Option (List ℕ)) (blank full : Report)
     (answer : Status) (text : List ℕ) (reported : Reported) → reported.status ≡ answer →
-    RefusesRun asked before after answer text → Puts blank full text reported.put →
+    RefusesRun asked before after answer text → PutsReport blank full text reported.put →
     Carries (AnswersRun tail asked before after told) blank full reported
 run-refused tail asked before after told blank full answer text reported same refused puts = (
   [],
@@ -63,7 +63,7 @@ drawn-comes number plan hart before after blank full (Err failed) same starts (b
 -- or its text was no program
 pub drawn-refused : (number : ℕ) (before after : Streams) (told : Option (List ℕ)) (blank full : Report)
     (answer : Status) (text : List ℕ) (reported : Reported) → reported.status ≡ answer →
-    RefusesDrawn number before after answer text → Puts blank full text reported.put →
+    RefusesDrawn number before after answer text → PutsReport blank full text reported.put →
     Carries (AnswersDrawn number before after told) blank full reported
 drawn-refused number before after told blank full answer text reported same refused puts = (
   [],
@@ -82,6 +82,6 @@ comes-beside Answers Breaks Beside blank full (Err failed) beside (breaks, rose)
 
 -- a count stays where the command has nothing to do with what it counts, and no answer says otherwise
 pub untouched : (answered : Status → Result (Unit {0}) (Unit {0})) (count : ℕ) (result : Result Answer Failed) →
-    IfOk result (λ answer. answered answer.status ≡ Ok tt) → Counts answered count count result
+    IfOk result (λ answer. answered answer.status ≡ Ok tt) → FaultsCounted answered count count result
 untouched answered count (Ok answer) h = no-cause count (answered answer.status) h
 untouched answered count (Err failed) h = omega arith

@@ -12,8 +12,8 @@ use Rattle.rv_machine.specs.Streams.{Streams, IsTold, Leaves}
 use Rattle.rv_machine.specs.Outcome.{Outcome, Next, Trap, Exit}
 use Rattle.rv_machine.specs.Step.{step, step_on, after_output}
 use Rattle.rv_machine.specs.After.{after}
-use Rattle.rv_machine.specs.Acts.{Acts, Stops, Steps}
-use Rattle.rv_machine.proofs.Told.{rest-told, stays, leaves-again}
+use Rattle.rv_machine.specs.Acts.{Acts, StopsUnchanged, Steps}
+use Rattle.rv_machine.proofs.InputKnown.{rest-told, stays, leaves-again}
 use Rattle.cfpp_cli.specs.Options.{Chosen, shown}
 use Rattle.cf_report.specs.Lines.{retired_line}
 use Rattle.cf_run.specs.declared.answer.Ran.{Ran}
@@ -246,7 +246,7 @@ Ended c start new t end =
 ends : (c : Chosen) (start now new : Hart) (before between after : Streams)
     (blank full : Option (List ℕ)) (n : ℕ) (o : Outcome Machine) (end : Ran) →
     Reached c start now (told_of before between blank full) n →
-    now.retired ≡ start.retired + n → Stops (step_on c.isa now) o now new between after →
+    now.retired ≡ start.retired + n → StopsUnchanged (step_on c.isa now) o now new between after →
     ((m : Machine) (lines : List ℕ) →
     ReachesBy c.isa before.input (opening start before.input) n m lines →
     step c.isa m ≡ after_output m.output o →

@@ -7,8 +7,8 @@ use Rattle.cli_arguments.specs.Words.{Asked}
 use Rattle.cli_files.specs.Causes.{files_answered, input_answered, output_answered}
 use Rattle.cfpp_cli.specs.Deciding.{Decided}
 use Rattle.cli_files.specs.Outside.{Outside, Report}
-use Rattle.cfpp_cli.specs.Reporting.{Puts}
-use Rattle.cfpp_cli.specs.Passages.{Span}
+use Rattle.cfpp_cli.specs.Reporting.{PutsReport}
+use Rattle.cfpp_cli.specs.OutsideChanges.{OutsideChange}
 use Rattle.cfpp_cli.specs.Top.{Completes, IsTop, NoneRose, Reports, says_fault}
 use Rattle.cfpp_cli.specs.declared.reporting.Reported.{Reported}
 use Rattle.cfpp_cli.proofs.FilesRead.{answers-read, breaks-read}
@@ -28,7 +28,7 @@ Ends answer said half full closing =
     ⊎ ((said ≡ status.WriteFault) × WritesFront half.written full.written closing × Rose half.faults full.faults)
 
 -- the command was carried out, and its report ends in this way
-carried-out : (words : List (List ℕ)) (s : Span) (reported : Reported) (said : Status) →
+carried-out : (words : List (List ℕ)) (s : OutsideChange) (reported : Reported) (said : Status) →
     (d : Decided words s (Ok reported)) → HasCauses s.before s.after reported.status →
     Ends reported.status said (record s.blank { written = d.comes.3.told }) s.full d.comes.1 →
     IsTop words s.before s.after s.blank s.full said
@@ -51,23 +51,23 @@ carried-out words s reported said d causes ends =
     }
 
 -- its report was put
-pub top-put : (words : List (List ℕ)) (s : Span) (reported : Reported) → Decided words s (Ok reported) →
+pub top-put : (words : List (List ℕ)) (s : OutsideChange) (reported : Reported) → Decided words s (Ok reported) →
     HasCauses s.before s.after reported.status → reported.put ≡ Ok tt →
     IsTop words s.before s.after s.blank s.full reported.status
 top-put words s reported d causes put =
-    let closes : Puts (record s.blank { written = d.comes.3.told }) s.full d.comes.1 (Ok tt) = rw put at d.comes.3.closes in
+    let closes : PutsReport (record s.blank { written = d.comes.3.told }) s.full d.comes.1 (Ok tt) = rw put at d.comes.3.closes in
     carried-out words s reported reported.status d causes (inl (refl, closes.all, closes.cause.still))
 
 -- the report failed at the lines that close it
-pub top-failed : {failed : Failed} (words : List (List ℕ)) (s : Span) (reported : Reported) → Decided words s (Ok reported) →
+pub top-failed : {failed : Failed} (words : List (List ℕ)) (s : OutsideChange) (reported : Reported) → Decided words s (Ok reported) →
     HasCauses s.before s.after reported.status → reported.put ≡ Err failed →
     IsTop words s.before s.after s.blank s.full status.WriteFault
 top-failed {failed = failed} words s reported d causes put =
-    let closes : Puts (record s.blank { written = d.comes.3.told }) s.full d.comes.1 (Err failed) = rw put at d.comes.3.closes in
+    let closes : PutsReport (record s.blank { written = d.comes.3.told }) s.full d.comes.1 (Err failed) = rw put at d.comes.3.closes in
     carried-out words s reported status.WriteFault d causes (inr (refl, closes.front, closes.cause.rose))
 
 -- the report failed before these lines
-pub top-cut : {failed : Failed} (words : List (List ℕ)) (s : Span) → Decided words s (Err failed) →
+pub top-cut : {failed : Failed} (words : List (List ℕ)) (s : OutsideChange) → Decided words s (Err failed) →
     s.after.file_faults ≡ s.before.file_faults → s.before.input_faults ≤ s.after.input_faults →
     s.before.output_faults ≤ s.after.output_faults → IsTop words s.before s.after s.blank s.full status.WriteFault
 top-cut words s d files input output = record {

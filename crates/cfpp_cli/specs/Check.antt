@@ -4,7 +4,7 @@ use Rattle.cf_io.specs.Puts.{Writes, WritesFront}
 use Rattle.cf_layout.specs.Layout.{Plan}
 use Rattle.layout_file.specs.Text.{text_of}
 use Rattle.texts.specs.Lines.{line}
-use Rattle.cli_arguments.specs.Words.{Layout}
+use Rattle.cli_arguments.specs.Words.{NamedLayout}
 use Rattle.cfpp_cli.specs.FileCommands.{FileSide}
 use Rattle.cli_files.specs.Layouts.{IsLayoutAt, LacksLayout}
 use Rattle.cli_files.specs.declared.status.Status.{Status}
@@ -21,20 +21,20 @@ WritesText plan before after status.NoMemory report =
 WritesText plan before after _ report = ⊥
 
 -- the word names a layout, and its text was written, or a front of it before the output failed
-pub record WritesLayout (layout : Layout) (before after : FileSide) (answer : Status)
+pub record WritesLayout (layout : NamedLayout) (before after : FileSide) (answer : Status)
     (report : List ℕ) : Type 0 where
   pub plan : Plan
   pub named : IsLayoutAt layout before.files after.files plan
   pub text : WritesText plan before.output after.output answer report
 
 -- there is no layout, and the output was left alone
-pub record RefusesCheck (layout : Layout) (before after : FileSide) (answer : Status)
+pub record RefusesCheck (layout : NamedLayout) (before after : FileSide) (answer : Status)
     (report : List ℕ) : Type 0 where
   pub lacks : LacksLayout layout before.files after.files answer report
   pub output : after.output ≡ before.output
 
 -- the answer of `check` and its report
-abbrev pub AnswersCheck : Layout → FileSide → FileSide → Status → List ℕ → Type 0
+abbrev pub AnswersCheck : NamedLayout → FileSide → FileSide → Status → List ℕ → Type 0
 AnswersCheck layout before after answer report =
     WritesLayout layout before after answer report
     ⊎ RefusesCheck layout before after answer report

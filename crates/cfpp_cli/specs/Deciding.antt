@@ -3,12 +3,12 @@ use Rattle.std.specs.Prelude.{ℕ, List, Result}
 use Rattle.cf_io.specs.declared.failed.Failed.{Failed}
 use Rattle.cli_arguments.specs.Words.{Asked}
 use Rattle.cfpp_cli.specs.Reporting.{CarriesOut}
-use Rattle.cfpp_cli.specs.Top.{Reading, Answers, Breaks}
-use Rattle.cfpp_cli.specs.Passages.{Span}
+use Rattle.cfpp_cli.specs.Top.{ReadsArguments, Answers, Breaks}
+use Rattle.cfpp_cli.specs.OutsideChanges.{OutsideChange}
 use Rattle.cfpp_cli.specs.declared.reporting.Reported.{Reported}
 
 -- what the words ask for was carried out, or the report failed while it was
-pub record Decided (words : List (List ℕ)) (s : Span) (result : Result Reported Failed) : Type 0 where
+pub record Decided (words : List (List ℕ)) (s : OutsideChange) (result : Result Reported Failed) : Type 0 where
   pub reading : Result Asked ℕ
-  pub reads : Reading words reading
+  pub reads : ReadsArguments words reading
   pub comes : CarriesOut (Answers reading) (Breaks reading) s result

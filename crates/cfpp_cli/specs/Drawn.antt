@@ -7,7 +7,7 @@ use Rattle.cf_core.specs.Processors.{opened as opened_on}
 use Rattle.cf_gen.specs.Program.{program_text}
 use Rattle.cf_layout.specs.Plain.{plain}
 use Rattle.cli_arguments.specs.Options.{default_limit}
-use Rattle.cli_files.specs.Image.{IsProgram, opened}
+use Rattle.cli_files.specs.Image.{IsProgramFile, opened}
 use Rattle.cli_files.specs.Programs.{IsNoProgram}
 use Rattle.cfpp_cli.specs.Run.{chosen_by, BreaksCore, ComesOf}
 use Rattle.cli_files.specs.Schedules.{drawn_from}
@@ -19,7 +19,7 @@ use Rattle.cfpp_cli.specs.declared.tail.Tail.TheVariants.{Nothing}
 pub record StartsDrawn (number : ℕ) (hart : Hart) : Type 0 where
   pub file : List ℕ
   pub assembly : IsAssembly (program_text number) file
-  pub program : IsProgram file
+  pub program : IsProgramFile file
   pub begins : hart ≡ opened file
 
 -- there is no such hart: the assembler or the loader refuses the text, or memory for it was refused

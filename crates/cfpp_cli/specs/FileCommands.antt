@@ -1,7 +1,7 @@
 -- The answer of a command that reads one file and puts a text to the output, and what it leaves of the outside.
 use Rattle.std.specs.Prelude.{◌≡◌, ℕ, List, [], codes, Option}
 use Rattle.cf_io.specs.Puts.{Writes, WritesFront}
-use Rattle.cf_io.specs.Reads.{Told}
+use Rattle.cf_io.specs.ReadsFile.{FilesSeen}
 use Rattle.texts.specs.Lines.{line}
 use Rattle.cli_files.specs.Outside.{Outside}
 use Rattle.cli_files.specs.Files.{IsFrontOf, LacksBytes}
@@ -11,17 +11,17 @@ use Rattle.cli_files.specs.declared.status.Which.{Which}
 
 -- what such a command deals with at one moment: the files, and what was written to the output
 pub record FileSide : Type 0 where
-  pub files : Option Told
+  pub files : Option FilesSeen
   pub output : Option (List ℕ)
 
-abbrev pub file_side : Option Told → Option (List ℕ) → FileSide
+abbrev pub file_side : Option FilesSeen → Option (List ℕ) → FileSide
 file_side files output = record { files = files; output = output }
 
 abbrev pub side_of : Outside → FileSide
 side_of outside = file_side outside.files outside.streams.output
 
 -- the text was put to the output, and no report is made
-pub record PutsText (text : List ℕ) (before after : Option (List ℕ)) (report : List ℕ) : Type 0 where
+pub record PutsOutput (text : List ℕ) (before after : Option (List ℕ)) (report : List ℕ) : Type 0 where
   pub put : Writes before after text
   pub reports : report ≡ []
 
@@ -32,7 +32,7 @@ pub record FailsText (text : List ℕ) (before after : Option (List ℕ)) (repor
 
 -- the text was put to the output, or the output failed while it was put
 abbrev pub PutsOrFails : List ℕ → Option (List ℕ) → Option (List ℕ) → Status → List ℕ → Type 0
-PutsOrFails text before after status.Done report = PutsText text before after report
+PutsOrFails text before after status.Done report = PutsOutput text before after report
 PutsOrFails text before after status.WriteFault report = FailsText text before after report
 PutsOrFails text before after _ report = ⊥
 

@@ -80,8 +80,8 @@ pub record BreaksOff (chosen : Chosen) (start new : Hart) (before after : Stream
   pub breaks : WritesFront half full (retired_line next.hart.retired line)
 
 -- the run finished in this way, and its lines were written; or the report failed
-abbrev pub RunsTo : Chosen → Hart → Hart → Streams → Streams → Option (List ℕ) → Option (List ℕ) → Ran → Type 0
-RunsTo chosen start new before after blank full ran.ReportFault =
+abbrev pub RunsToFinish : Chosen → Hart → Hart → Streams → Streams → Option (List ℕ) → Option (List ℕ) → Ran → Type 0
+RunsToFinish chosen start new before after blank full ran.ReportFault =
     BreaksOff chosen start new before after blank full
-RunsTo chosen start new before after blank full finish =
+RunsToFinish chosen start new before after blank full finish =
     (text : List ℕ) × Runs chosen start new before after finish text × Writes blank full text

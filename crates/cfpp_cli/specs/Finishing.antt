@@ -10,14 +10,14 @@ use Rattle.cf_run.specs.declared.answer.Scripted.TheVariants.{Ran}
 use Rattle.report_closing.specs.Closing.{closing, closing_in_rounds, machine_closing, is_report_fault}
 use Rattle.cli_files.specs.Outside.{Report}
 use Rattle.cli_files.specs.declared.status.Status.{Status}
-use Rattle.cfpp_cli.specs.Reporting.{Puts}
+use Rattle.cfpp_cli.specs.Reporting.{PutsReport}
 use Rattle.cfpp_cli.specs.Statuses.{status_of, status_of_run}
 use Rattle.cfpp_cli.specs.declared.reporting.Reported.{Reported}
 
 -- these lines, or a front of them, were put after a run of this status
 pub record ClosesWith (said : Status) (lines : List ℕ) (half full : Report) (reported : Reported) : Type 0 where
   pub status_is : reported.status ≡ said
-  pub puts : Puts half full lines reported.put
+  pub puts : PutsReport half full lines reported.put
 
 -- they were put where the report had not failed during the run; where it had, nothing more was put
 abbrev pub PutsClosing : (cut : Bool) → Status → (lines : List ℕ) → (half full : Report) → Result Reported Failed → Type 0

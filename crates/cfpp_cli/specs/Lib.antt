@@ -10,7 +10,7 @@ pub mod Listings
 pub mod Machine
 pub mod NamedFiles
 pub mod Options
-pub mod Passages
+pub mod OutsideChanges
 pub mod Reporting
 pub mod Rounds
 pub mod Run

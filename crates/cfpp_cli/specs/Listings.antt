@@ -7,7 +7,7 @@ use Rattle.asm_listing.specs.Listing.{elf_listing, flat_listing}
 use Rattle.texts.specs.Lines.{line}
 use Rattle.cli_files.specs.Image.{most_bytes}
 use Rattle.report_refusals.specs.Programs.{bad_program}
-use Rattle.cfpp_cli.specs.FileCommands.{FileSide, PutsText, FailsText, ComesOfFile, RefusesFile}
+use Rattle.cfpp_cli.specs.FileCommands.{FileSide, PutsOutput, FailsText, ComesOfFile, RefusesFile}
 use Rattle.cfpp_cli.specs.declared.listing.ListErr.{ListErr}
 use Rattle.cfpp_cli.specs.declared.listing.ListErr.TheVariants as err
 use Rattle.report_refusals.specs.declared.faults.ProgramErr.{ProgramErr}
@@ -44,7 +44,7 @@ IsNotListed image before after err.Failed =
 -- the status and the report for an image
 abbrev pub ListsImage : List ℕ → Option (List ℕ) → Option (List ℕ) → Status → List ℕ → Type 0
 ListsImage image before after status.Done report =
-    IsListable image × PutsText (listing_of image) before after report
+    IsListable image × PutsOutput (listing_of image) before after report
 ListsImage image before after status.WriteFault report =
     IsListable image × FailsText (listing_of image) before after report
 ListsImage image before after status.NoMemory report =

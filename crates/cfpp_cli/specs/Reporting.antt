@@ -9,18 +9,18 @@ use Rattle.cli_files.specs.Causes.{files_answered}
 use Rattle.cli_files.specs.Outside.{Outside, Report}
 use Rattle.cli_files.specs.declared.answer.Answer.{Answer}
 use Rattle.cli_files.specs.declared.status.Status.{Status}
-use Rattle.cfpp_cli.specs.Passages.{Span, Passage}
+use Rattle.cfpp_cli.specs.OutsideChanges.{OutsideChange, StreamsChange}
 use Rattle.cfpp_cli.specs.declared.reporting.Reported.{Reported}
 
 -- the text was put to the report, or the report failed after a front of it
-abbrev pub Puts : (half full : Report) → (text : List ℕ) → Result (Unit {0}) Failed → Type 0
-Puts half full text put = PutsText half.written full.written half.faults full.faults text put
+abbrev pub PutsReport : (half full : Report) → (text : List ℕ) → Result (Unit {0}) Failed → Type 0
+PutsReport half full text put = PutsText half.written full.written half.faults full.faults text put
 
 -- what was shown was put, and the closing lines after it, or the report failed after a front of these
 pub record PutsAfter (blank full : Report) (shown closing : List ℕ) (put : Result (Unit {0}) Failed) : Type 0 where
   pub told : Option (List ℕ)
   pub shows : Writes blank.written told shown
-  pub closes : Puts (record blank { written = told }) full closing put
+  pub closes : PutsReport (record blank { written = told }) full closing put
 
 -- the command was carried out with such an answer: what it showed, and the lines that close its report
 abbrev pub Carries : (Status → List ℕ → List ℕ → Type 0) → (blank full : Report) → Reported → Type 0
@@ -31,14 +31,14 @@ Carries answers blank full reported =
 -- a command that shows nothing: this is its whole report
 abbrev pub ReportsAlone : (Status → List ℕ → Type 0) → (blank full : Report) → Reported → Type 0
 ReportsAlone answers blank full reported =
-    (report : List ℕ) × answers reported.status report × Puts blank full report reported.put
+    (report : List ℕ) × answers reported.status report × PutsReport blank full report reported.put
 
 -- the same of all that the command was lent
-abbrev pub ReportsAll : (Outside → Outside → Status → List ℕ → Type 0) → Span → Reported → Type 0
+abbrev pub ReportsAll : (Outside → Outside → Status → List ℕ → Type 0) → OutsideChange → Reported → Type 0
 ReportsAll answers s reported = ReportsAlone (answers s.before s.after) s.blank s.full reported
 
 -- the same of a run, over its streams and its report alone
-abbrev pub ReportsOver : (Streams → Streams → Status → List ℕ → Type 0) → Passage → Reported → Type 0
+abbrev pub ReportsOver : (Streams → Streams → Status → List ℕ → Type 0) → StreamsChange → Reported → Type 0
 ReportsOver answers p reported = ReportsAlone (answers p.before p.after) p.blank p.full reported
 
 -- the command was carried out, or the report failed while it was
@@ -48,13 +48,13 @@ Comes answers breaks blank full (Err failed) = breaks × Rose blank.faults full.
 
 -- the same of all that the command was lent
 abbrev pub CarriesOut : (Outside → Outside → Option (List ℕ) → Status → List ℕ → List ℕ → Type 0) →
-    (Outside → Outside → Option (List ℕ) → Option (List ℕ) → Type 0) → Span → Result Reported Failed → Type 0
+    (Outside → Outside → Option (List ℕ) → Option (List ℕ) → Type 0) → OutsideChange → Result Reported Failed → Type 0
 CarriesOut answers breaks s result =
     Comes (answers s.before s.after s.blank.written) (breaks s.before s.after s.blank.written s.full.written) s.blank s.full result
 
 -- the same of a run, over its streams and its report alone
 abbrev pub ComesOver : (Streams → Streams → Option (List ℕ) → Status → List ℕ → List ℕ → Type 0) →
-    (Streams → Streams → Option (List ℕ) → Option (List ℕ) → Type 0) → Passage → Result Reported Failed → Type 0
+    (Streams → Streams → Option (List ℕ) → Option (List ℕ) → Type 0) → StreamsChange → Result Reported Failed → Type 0
 ComesOver answers breaks p result =
     Comes (answers p.before p.after p.blank.written) (breaks p.before p.after p.blank.written p.full.written) p.blank p.full result
 
@@ -64,14 +64,14 @@ files_reported (Ok reported) = files_answered reported.status
 files_reported (Err failed) = Ok tt
 
 -- a count of faults: it rose exactly where the answer says so; where the report failed while the command was carried out, it has not fallen
-abbrev pub Tells : (Status → Result (Unit {0}) (Unit {0})) → ℕ → ℕ → Result Reported Failed → Type 0
-Tells answered before now (Ok reported) = HasCause before now (answered reported.status)
-Tells answered before now (Err failed) = before ≤ now
+abbrev pub FaultsReported : (Status → Result (Unit {0}) (Unit {0})) → ℕ → ℕ → Result Reported Failed → Type 0
+FaultsReported answered before now (Ok reported) = HasCause before now (answered reported.status)
+FaultsReported answered before now (Err failed) = before ≤ now
 
 -- the closing lines of what was decided were put; where the report had failed, no lines were
 abbrev pub PutsDecided : Result Answer Failed → (half full : Report) → Result Reported Failed → Type 0
 PutsDecided (Ok answer) half full (Ok reported) =
-    (reported.status ≡ answer.status) × Puts half full answer.closing reported.put
+    (reported.status ≡ answer.status) × PutsReport half full answer.closing reported.put
 PutsDecided (Ok answer) half full (Err failed) = ⊥
 PutsDecided (Err failed) half full (Ok reported) = ⊥
 PutsDecided (Err failed) half full (Err same) = full ≡ half
@@ -79,5 +79,5 @@ PutsDecided (Err failed) half full (Err same) = full ≡ half
 -- a text was put after the report so far; where that had failed, nothing was
 abbrev pub Adds : (so_far : Result (Unit {0}) Failed) → (half full : Report) → (text : List ℕ) →
     Result (Unit {0}) Failed → Type 0
-Adds (Ok u) half full text put = Puts half full text put
+Adds (Ok u) half full text put = PutsReport half full text put
 Adds (Err failed) half full text put = (full ≡ half) × (put ≡ Err failed)

@@ -6,14 +6,14 @@ use Rattle.cf_layout.specs.Layout.{Plan}
 use Rattle.cf_core.specs.Processors.{Processor, opened}
 use Rattle.cf_report.specs.declared.tally.Tally.{Tally}
 use Rattle.cf_rounds.specs.declared.answer.Clocked.{Clocked}
-use Rattle.cf_rounds.specs.Running.{RunsRight, ran_of}
+use Rattle.cf_rounds.specs.Running.{RoundsRunRight, ran_of}
 use Rattle.cf_run.specs.declared.answer.Scripted.{Scripted}
 use Rattle.cf_run.specs.declared.answer.Scripted.TheVariants.{Ran}
 use Rattle.cf_run.specs.Ending.{EndsSequentially}
 use Rattle.cf_run.specs.Moving.{place_of}
 use Rattle.cf_run.specs.Policies.{most_moves}
 use Rattle.report_closing.specs.Closing.{closing_in_rounds}
-use Rattle.cli_arguments.specs.Words.{Layout}
+use Rattle.cli_arguments.specs.Words.{NamedLayout}
 use Rattle.cli_files.specs.Loading.{IsLoaded, LacksLoaded}
 use Rattle.cli_files.specs.Memory.{LacksProcessor}
 use Rattle.cli_files.specs.Outside.{Outside}
@@ -23,11 +23,11 @@ use Rattle.cfpp_cli.specs.Statuses.{status_of_run}
 
 -- what the words ask of `rounds`: where the layout is, the file with the program, and the number of retired instructions at which the run stops
 pub record RoundsAsked : Type 0 where
-  pub layout : Layout
+  pub layout : NamedLayout
   pub program : List ℕ
   pub limit : ℕ
 
-abbrev pub rounds_asked : Layout → List ℕ → ℕ → RoundsAsked
+abbrev pub rounds_asked : NamedLayout → List ℕ → ℕ → RoundsAsked
 rounds_asked layout program limit = record { layout = layout; program = program; limit = limit }
 
 -- a run in rounds from one processor to another: this many rounds, each the round of the candidates that are offered where it is made, and what was counted of their moves. It is a run of the sequential machine on which the processor was opened, ends as that machine does, and has a bounded number of moves
@@ -35,7 +35,7 @@ pub record RunInRounds (limit : ℕ) (core last : Processor) (before after : Str
   pub tally : Tally
   pub rounds : ℕ
   pub clocked : Clocked
-  pub runs : RunsRight limit (start_of core before None) (place_of last after None tally) rounds clocked
+  pub runs : RoundsRunRight limit (start_of core before None) (place_of last after None tally) rounds clocked
   pub ends : EndsSequentially limit (start_of core before None) (place_of last after None tally) (Ran (ran_of clocked))
   pub bounded : tally.moves ≤ most_moves core.plan limit
 

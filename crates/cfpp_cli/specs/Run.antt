@@ -9,7 +9,7 @@ use Rattle.cf_core.specs.Processors.{Processor, opened}
 use Rattle.cf_report.specs.declared.tally.Tally.{Tally}
 use Rattle.cf_report.specs.Lines.{registers_text}
 use Rattle.cf_sched.specs.Policies.{drawn, drawn_pick, drawn_on, round_pick, round_on}
-use Rattle.run_scripts.specs.Scripts.{Told, script_of}
+use Rattle.run_scripts.specs.Scripts.{ScriptLines, script_of}
 use Rattle.cf_run.specs.declared.answer.Ran.{Ran as Answer}
 use Rattle.cf_run.specs.declared.answer.Ran.TheVariants as ran
 use Rattle.cf_run.specs.declared.answer.Scripted.{Scripted}
@@ -17,7 +17,7 @@ use Rattle.cf_run.specs.declared.answer.Scripted.TheVariants.{Ran}
 use Rattle.cf_run.specs.Ending.{EndsSequentially}
 use Rattle.cf_run.specs.Headline.{RunsSequentially}
 use Rattle.cf_run.specs.Made.{Made, all_shown}
-use Rattle.cf_run.specs.Moving.{Place, place_of}
+use Rattle.cf_run.specs.Moving.{RunPlace, place_of}
 use Rattle.cf_run.specs.Policies.{RunsPolicy, most_moves}
 use Rattle.cf_run.specs.Reaching.{no_tally}
 use Rattle.cf_run.specs.Scripts.{stand_of, first_moves, RunsScript}
@@ -29,31 +29,31 @@ use Rattle.cfpp_cli.specs.Statuses.{status_of}
 use Rattle.cfpp_cli.specs.Tail.{lines_after}
 use Rattle.cfpp_cli.specs.declared.tail.Tail.{Tail}
 use Rattle.cli_files.specs.Outside.{Outside}
-use Rattle.cli_files.specs.RunFiles.{RunAsked, ReadsFiles, AnswersFiles}
+use Rattle.cli_files.specs.RunFiles.{RunAsked, ReadsRunFiles, AnswersFiles}
 use Rattle.cli_files.specs.Schedules.{ReadySchedule, in_script, drawn_from, in_turn}
 use Rattle.cli_files.specs.declared.status.Status.{Status}
 use Rattle.cli_files.specs.declared.status.Status.TheVariants as status
 use Rattle.cli_files.specs.declared.status.Which.TheVariants as which
 
 -- where the run begins: before its first move
-abbrev pub start_of : Processor → Streams → Option (List ℕ) → Place
+abbrev pub start_of : Processor → Streams → Option (List ℕ) → RunPlace
 start_of core streams report = place_of core streams report no_tally
 
 -- a run from one place to another, by whatever chose its moves: how it finished, the moves that were shown, and all its moves
-abbrev pub Chooses : Type 1
-Chooses = (start new : Place) → Scripted → List Made → List Move → Type 0
+abbrev pub RunRelation : Type 1
+RunRelation = (start new : RunPlace) → Scripted → List Made → List Move → Type 0
 
 -- by a script of this text: the run makes its first moves
-pub record ByScript (limit : ℕ) (show : Show) (text : List ℕ) (start new : Place) (finish : Scripted)
+pub record ByScript (limit : ℕ) (show : Show) (text : List ℕ) (start new : RunPlace) (finish : Scripted)
     (trace : List Made) (moves : List Move) : Type 0 where
-  pub left : Told
+  pub left : ScriptLines
   pub runs : RunsScript limit show (stand_of start (script_of text)) (stand_of new left) finish
   pub trace_is : trace ≡ runs.follows.reaches.trace
   pub moves_are : moves ≡ first_moves (script_of text) new.tally
 
 -- by a policy, whose picks are at most 4 N K (r + 1) moves where r instructions retire
 pub record ByPolicy {P : Type 0} (picked : P → List Move → ℕ) (onward : P → List Move → P) (limit : ℕ)
-    (show : Show) (policy : P) (start new : Place) (finish : Scripted) (trace : List Made)
+    (show : Show) (policy : P) (start new : RunPlace) (finish : Scripted) (trace : List Made)
     (moves : List Move) : Type 0 where
   pub answer : Answer
   pub finish_is : finish ≡ Ran answer
@@ -63,13 +63,13 @@ pub record ByPolicy {P : Type 0} (picked : P → List Move → ℕ) (onward : P 
   pub bounded : new.tally.moves ≤ most_moves start.core.plan (new.core.state.retired - start.core.state.retired)
 
 -- by what was read: the moves of the text, those that are drawn from the seed, or those of the fixed rule
-abbrev pub chosen_by : ℕ → Show → ReadySchedule → Chooses
+abbrev pub chosen_by : ℕ → Show → ReadySchedule → RunRelation
 chosen_by limit show (in_script text) = ByScript limit show text
 chosen_by limit show (drawn_from seed) = ByPolicy drawn_pick (λ g moves. drawn_on g) limit show (drawn seed)
 chosen_by limit show in_turn = ByPolicy round_pick round_on limit show None
 
 -- a run from one processor to another: what was counted, how it finished, and what the report tells before and after it; by its moves it is a run of the sequential machine on which the processor was opened, and ends as that machine does
-pub record ProcessorRun (limit : ℕ) (show : Show) (core last : Processor) (by : Chooses)
+pub record ProcessorRun (limit : ℕ) (show : Show) (core last : Processor) (by : RunRelation)
     (before after : Streams) (blank : Option (List ℕ)) : Type 0 where
   pub tally : Tally
   pub told : Option (List ℕ)
@@ -81,7 +81,7 @@ pub record ProcessorRun (limit : ℕ) (show : Show) (core last : Processor) (by 
   pub ends : EndsSequentially limit (start_of core before blank) (place_of last after told tally) finish
 
 -- the processor was run in this way; the status says how the run finished, this was shown of its moves, and these lines close the report
-pub record RunsCore (limit : ℕ) (show : Show) (core last : Processor) (by : Chooses)
+pub record RunsCore (limit : ℕ) (show : Show) (core last : Processor) (by : RunRelation)
     (before after : Streams) (blank : Option (List ℕ)) (answer : Status) (shown text : List ℕ) : Type 0 where
   pub run : ProcessorRun limit show core last by before after blank
   pub reported : is_report_fault run.finish ≡ false
@@ -90,7 +90,7 @@ pub record RunsCore (limit : ℕ) (show : Show) (core last : Processor) (by : Ch
   pub closes : text ≡ closing limit run.finish last.plan last.state run.tally
 
 -- the processor was run to this one, and the tail follows the lines that close the report
-pub record RunsWithTail (limit : ℕ) (show : Show) (tail : Tail) (core last : Processor) (by : Chooses)
+pub record RunsWithTail (limit : ℕ) (show : Show) (tail : Tail) (core last : Processor) (by : RunRelation)
     (before after : Streams) (blank : Option (List ℕ)) (answer : Status) (shown closing : List ℕ) : Type 0 where
   pub text : List ℕ
   pub runs : RunsCore limit show core last by before after blank answer shown text
@@ -143,7 +143,7 @@ ComesOf limit show tail plan hart schedule before after blank answer shown closi
     ⊎ LacksProcessor before after answer (shown ++ closing)
 
 -- the processor was run in this way, and the report failed as the run showed a move: nothing more was put to it
-pub record BreaksCore (limit : ℕ) (show : Show) (core : Processor) (by : Chooses)
+pub record BreaksCore (limit : ℕ) (show : Show) (core : Processor) (by : RunRelation)
     (before after : Streams) (blank full : Option (List ℕ)) : Type 0 where
   pub last : Processor
   pub run : ProcessorRun limit show core last by before after blank
@@ -160,6 +160,6 @@ AnswersRun tail asked before after blank answer shown closing =
 -- all files are there, and the report failed during the run
 abbrev pub BreaksRun : RunAsked → Outside → Outside → Option (List ℕ) → Option (List ℕ) → Type 0
 BreaksRun asked before after blank full =
-    ReadsFiles (λ plan hart schedule.
+    ReadsRunFiles (λ plan hart schedule.
     BreaksCore asked.limit asked.show (opened plan hart) (chosen_by asked.limit asked.show schedule)
     before.streams after.streams blank full) asked before after

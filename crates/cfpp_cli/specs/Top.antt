@@ -30,9 +30,9 @@ use Rattle.cli_files.specs.declared.status.Status.{Status}
 use Rattle.cli_files.specs.declared.status.Status.TheVariants as status
 
 -- the words ask this of a command, or this is the index of the first word that has no place
-abbrev pub Reading : List (List ℕ) → Result Asked ℕ → Type 0
-Reading words (Ok asked) = Asks words asked
-Reading words (Err index) = IsBadAt words index
+abbrev pub ReadsArguments : List (List ℕ) → Result Asked ℕ → Type 0
+ReadsArguments words (Ok asked) = Asks words asked
+ReadsArguments words (Err index) = IsBadAt words index
 
 -- the words are those of no command, and no file was read
 pub record RefusesWords (index : ℕ) (before after : Outside) (answer : Status)
@@ -120,7 +120,7 @@ pub record Completes (reading : Result Asked ℕ) (before after : Outside) (blan
   pub reports : Reports blank full shown closing answer result
 
 -- the report failed while the command was carried out, and no file did; the status is WriteFault
-pub record IsCut (reading : Result Asked ℕ) (before after : Outside) (blank full : Report)
+pub record ReportFailsFirst (reading : Result Asked ℕ) (before after : Outside) (blank full : Report)
     (result : Status) : Type 0 where
   pub status_is : result ≡ status.WriteFault
   pub breaks : Breaks reading before after blank.written full.written
@@ -133,10 +133,10 @@ pub record IsCut (reading : Result Asked ℕ) (before after : Outside) (blank fu
 pub record IsTop (words : List (List ℕ)) (before after : Outside) (blank full : Report)
     (result : Status) : Type 0 where
   pub reading : Result Asked ℕ
-  pub reads : Reading words reading
+  pub reads : ReadsArguments words reading
   pub read : WereRead (files_named reading) before.files after.files
   pub ends : Completes reading before after blank full result
-      ⊎ IsCut reading before after blank full result
+      ⊎ ReportFailsFirst reading before after blank full result
 
 -- the status says that something could not be read or written
 abbrev pub says_fault : Status → Bool

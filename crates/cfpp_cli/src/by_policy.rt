@@ -3,13 +3,13 @@
 ghost use Rattle.std.specs.Prelude.{◌≡◌, Ok};
 ghost use Rattle.cf_run.specs.Policies.{CanRun};
 ghost use Rattle.cli_files.specs.Causes.{input_answered, output_answered};
-ghost use Rattle.cfpp_cli.specs.Reporting.{ComesOver, Tells, files_reported};
+ghost use Rattle.cfpp_cli.specs.Reporting.{ComesOver, FaultsReported, files_reported};
 ghost use Rattle.cfpp_cli.specs.Run.{ByPolicy, RunsCore, BreaksCore};
-ghost use Rattle.cfpp_cli.specs.Passages.{passage, input_left, output_left};
+ghost use Rattle.cfpp_cli.specs.OutsideChanges.{streams_change, input_left, output_left};
 
 use crate::finishing::{close, no_moves};
 use crate::reporting::Reported;
-use crate::streams::Streams;
+use crate::streams::RunStreams;
 use cf_core::Core;
 use cf_index::Candidates;
 use cf_io::{Failed, Sink, Source};
@@ -25,18 +25,18 @@ pub fn run_by_policy<P: Policy + Drop, S: Source, K: Sink, R: Sink>(
     policy: P,
     limit: u64,
     show: Show,
-    streams: Streams<'_, S, K, R>,
+    streams: RunStreams<'_, S, K, R>,
 ) -> Result<Reported, Failed>
     requires begins { CanRun limit core.old }
     ensures runs { ComesOver (RunsCore limit show core.old core.new (ByPolicy P.picked P.onward limit show policy))
         (BreaksCore limit show core.old (ByPolicy P.picked P.onward limit show policy))
-        (passage S.left K.written R.written R.faults streams.entry streams.exit) result }
+        (streams_change S.left K.written R.written R.faults streams.entry streams.exit) result }
     ensures files { files_reported result ≡ Ok tt }
-    ensures input { Tells input_answered (S.faults streams.entry.input.now) (S.faults (input_left streams.exit)) result }
-    ensures output { Tells output_answered (K.faults streams.entry.output.now) (K.faults (output_left streams.exit)) result }
+    ensures input { FaultsReported input_answered (S.faults streams.entry.input.now) (S.faults (input_left streams.exit)) result }
+    ensures output { FaultsReported output_answered (K.faults streams.entry.output.now) (K.faults (output_left streams.exit)) result }
 {
     let mut policy = policy;
-    let Streams {
+    let RunStreams {
         input,
         output,
         report,

@@ -4,13 +4,13 @@ ghost use Rattle.std.specs.Prelude.{◌≡◌, ◌≤◌, false, length, Ok};
 ghost use Rattle.run_options.specs.Limits.{most_limit};
 ghost use Rattle.cli_files.specs.Causes.{input_answered, output_answered};
 ghost use Rattle.run_scripts.specs.Limits.{most_script};
-ghost use Rattle.cfpp_cli.specs.Reporting.{ComesOver, Tells, files_reported};
+ghost use Rattle.cfpp_cli.specs.Reporting.{ComesOver, FaultsReported, files_reported};
 ghost use Rattle.cfpp_cli.specs.Run.{ByScript, RunsCore, BreaksCore};
-ghost use Rattle.cfpp_cli.specs.Passages.{passage, input_left, output_left};
+ghost use Rattle.cfpp_cli.specs.OutsideChanges.{streams_change, input_left, output_left};
 
 use crate::finishing::{close, no_moves};
 use crate::reporting::Reported;
-use crate::streams::Streams;
+use crate::streams::RunStreams;
 use cf_core::Core;
 use cf_io::{Failed, Sink, Source};
 use cf_run::{Show, run_script};
@@ -24,7 +24,7 @@ pub fn run_by_script<S: Source, K: Sink, R: Sink>(
     text: &[u8],
     limit: u64,
     show: Show,
-    streams: Streams<'_, S, K, R>,
+    streams: RunStreams<'_, S, K, R>,
 ) -> Result<Reported, Failed>
     requires limit { limit ≤ most_limit }
     requires retired { core.old.state.retired ≤ limit }
@@ -32,12 +32,12 @@ pub fn run_by_script<S: Source, K: Sink, R: Sink>(
     requires fits { length text.now ≤ most_script }
     ensures runs { ComesOver (RunsCore limit show core.old core.new (ByScript limit show text.now))
         (BreaksCore limit show core.old (ByScript limit show text.now))
-        (passage S.left K.written R.written R.faults streams.entry streams.exit) result }
+        (streams_change S.left K.written R.written R.faults streams.entry streams.exit) result }
     ensures files { files_reported result ≡ Ok tt }
-    ensures input { Tells input_answered (S.faults streams.entry.input.now) (S.faults (input_left streams.exit)) result }
-    ensures output { Tells output_answered (K.faults streams.entry.output.now) (K.faults (output_left streams.exit)) result }
+    ensures input { FaultsReported input_answered (S.faults streams.entry.input.now) (S.faults (input_left streams.exit)) result }
+    ensures output { FaultsReported output_answered (K.faults streams.entry.output.now) (K.faults (output_left streams.exit)) result }
 {
-    let Streams {
+    let RunStreams {
         input,
         output,
         report,

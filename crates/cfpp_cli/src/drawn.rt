@@ -7,19 +7,19 @@ ghost use Rattle.cf_gen.specs.Program.{program_text};
 ghost use Rattle.cli_files.specs.Causes.{files_answered, input_answered, output_answered};
 ghost use Rattle.cfpp_cli.specs.Drawn.{AnswersDrawn, BreaksDrawn, IsUndrawn, StartsDrawn};
 ghost use Rattle.cfpp_cli.specs.FileCommands.{PutsOrFails};
-ghost use Rattle.cfpp_cli.specs.Reporting.{ComesOver, Tells, files_reported};
-ghost use Rattle.cfpp_cli.specs.Passages.{passage, input_left, output_left};
+ghost use Rattle.cfpp_cli.specs.Reporting.{ComesOver, FaultsReported, files_reported};
+ghost use Rattle.cfpp_cli.specs.OutsideChanges.{streams_change, input_left, output_left};
 
 use crate::assembling::file_of;
 use crate::reporting::{Reported, put_answer};
 use crate::run::run_ready;
-use crate::streams::Streams;
+use crate::streams::RunStreams;
 use crate::tail::Tail;
 use cf_gen::generate;
 use cf_io::{Failed, MemSink, Sink, Source};
 use cf_layout::plain;
 use cli_arguments::{DEFAULT_LIMIT, RunOptions, Schedule, Show};
-use cli_files::{Answer, Ready, ReadySchedule, done, no_memory, open_image, write_fault};
+use cli_files::{Answer, ReadyRun, ReadySchedule, done, no_memory, open_image, write_fault};
 use rv_machine::Machine;
 use std::alloc::Global;
 
@@ -84,21 +84,21 @@ fn drawn_machine(alloc: Global, number: u32) -> Result<Machine, Answer>
 pub fn run_drawn<S: Source, K: Sink, R: Sink>(
     alloc: Global,
     number: u32,
-    streams: Streams<'_, S, K, R>,
+    streams: RunStreams<'_, S, K, R>,
 ) -> Result<Reported, Failed>
     requires some { 1 ≤ number }
     requires limit { number ≤ most_statements }
     ensures answers { ComesOver (AnswersDrawn number) (BreaksDrawn number)
-        (passage S.left K.written R.written R.faults streams.entry streams.exit) result }
+        (streams_change S.left K.written R.written R.faults streams.entry streams.exit) result }
     ensures files { files_reported result ≡ Ok tt }
-    ensures input { Tells input_answered (S.faults streams.entry.input.now) (S.faults (input_left streams.exit)) result }
-    ensures output { Tells output_answered (K.faults streams.entry.output.now) (K.faults (output_left streams.exit)) result }
+    ensures input { FaultsReported input_answered (S.faults streams.entry.input.now) (S.faults (input_left streams.exit)) result }
+    ensures output { FaultsReported output_answered (K.faults streams.entry.output.now) (K.faults (output_left streams.exit)) result }
 {
     let machine = match drawn_machine(alloc, number) {
         Ok(machine) => machine,
         Err(answer) => return Ok(put_answer(answer, streams.report)),
     };
-    let ready = Ready {
+    let ready = ReadyRun {
         layout: plain(),
         machine,
         schedule: ReadySchedule::Seed(number),

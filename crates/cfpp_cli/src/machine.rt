@@ -5,13 +5,13 @@ ghost use Rattle.cf_io.specs.Causes.{HasCause};
 ghost use Rattle.cli_files.specs.Causes.{input_answered, output_answered};
 ghost use Rattle.cfpp_cli.specs.Machine.{RunsHart, BreaksHart, AnswersMachine, BreaksProgram};
 ghost use Rattle.cfpp_cli.specs.Options.{chosen_of};
-ghost use Rattle.cfpp_cli.specs.Reporting.{CarriesOut, ComesOver, Tells, files_reported};
-ghost use Rattle.cfpp_cli.specs.Passages.{passage, span, input_left, output_left};
+ghost use Rattle.cfpp_cli.specs.Reporting.{CarriesOut, ComesOver, FaultsReported, files_reported};
+ghost use Rattle.cfpp_cli.specs.OutsideChanges.{streams_change, outside_change, input_left, output_left};
 
 use crate::finishing::close_machine;
 use crate::reporting::{Reported, put_answer};
 use crate::running::run;
-use crate::streams::Streams;
+use crate::streams::RunStreams;
 use cf_io::{Failed, Files, Sink, Source};
 use cli_arguments::MachineOptions;
 use cli_files::program_at;
@@ -25,18 +25,18 @@ use std::alloc::Global;
 fn run_machine<S: Source, K: Sink, R: Sink>(
     machine: Machine,
     options: MachineOptions,
-    streams: Streams<'_, S, K, R>,
+    streams: RunStreams<'_, S, K, R>,
 ) -> Result<Reported, Failed>
     requires { machine.retired ≡ 0 }
     ensures comes { ComesOver
         (λ before after blank. RunsHart (chosen_of options.limit options.show_retired options.mul) machine before after)
         (BreaksHart (chosen_of options.limit options.show_retired options.mul) machine)
-        (passage S.left K.written R.written R.faults streams.entry streams.exit) result }
+        (streams_change S.left K.written R.written R.faults streams.entry streams.exit) result }
     ensures files { files_reported result ≡ Ok tt }
-    ensures input { Tells input_answered (S.faults streams.entry.input.now) (S.faults (input_left streams.exit)) result }
-    ensures output { Tells output_answered (K.faults streams.entry.output.now) (K.faults (output_left streams.exit)) result }
+    ensures input { FaultsReported input_answered (S.faults streams.entry.input.now) (S.faults (input_left streams.exit)) result }
+    ensures output { FaultsReported output_answered (K.faults streams.entry.output.now) (K.faults (output_left streams.exit)) result }
 {
-    let Streams {
+    let RunStreams {
         input,
         output,
         report,
@@ -54,15 +54,15 @@ pub fn run_program<F: Files, S: Source, K: Sink, R: Sink>(
     program: &str,
     options: MachineOptions,
     files: &mut F,
-    streams: Streams<'_, S, K, R>,
+    streams: RunStreams<'_, S, K, R>,
 ) -> Result<Reported, Failed>
     ensures answers { CarriesOut
         (λ before after blank. AnswersMachine program.now (chosen_of options.limit options.show_retired options.mul) before after)
         (BreaksProgram program.now (chosen_of options.limit options.show_retired options.mul))
-        (span F.told F.faults S.left S.faults K.written K.faults R.written R.faults files.old files.new streams.entry streams.exit) result }
+        (outside_change F.told F.faults S.left S.faults K.written K.faults R.written R.faults files.old files.new streams.entry streams.exit) result }
     ensures files { HasCause (F.faults files.old) (F.faults files.new) (files_reported result) }
-    ensures input { Tells input_answered (S.faults streams.entry.input.now) (S.faults (input_left streams.exit)) result }
-    ensures output { Tells output_answered (K.faults streams.entry.output.now) (K.faults (output_left streams.exit)) result }
+    ensures input { FaultsReported input_answered (S.faults streams.entry.input.now) (S.faults (input_left streams.exit)) result }
+    ensures output { FaultsReported output_answered (K.faults streams.entry.output.now) (K.faults (output_left streams.exit)) result }
 {
     match program_at(alloc, program, files) {
         Ok(machine) => run_machine(machine, options, streams),

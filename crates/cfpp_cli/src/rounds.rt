@@ -8,13 +8,13 @@ ghost use Rattle.cf_rounds.specs.Running.{ran_of as ran_for};
 ghost use Rattle.cf_run.specs.Policies.{IsOpened};
 ghost use Rattle.cli_files.specs.Causes.{files_answered, input_answered, output_answered};
 ghost use Rattle.cfpp_cli.specs.Reporting.{ReportsAll, ReportsOver};
-ghost use Rattle.cfpp_cli.specs.Passages.{passage, span, input_left, output_left};
+ghost use Rattle.cfpp_cli.specs.OutsideChanges.{streams_change, outside_change, input_left, output_left};
 ghost use Rattle.cfpp_cli.specs.Rounds.{rounds_asked, RunsCoreInRounds, ComesInRounds, AnswersRounds};
 
 use crate::finishing::{close_in_rounds, no_moves};
 use crate::opening::{Opened, open};
 use crate::reporting::{Reported, put_answer};
-use crate::streams::Streams;
+use crate::streams::RunStreams;
 use cf_io::{Files, Sink, Source};
 use cf_rounds::{Clocked, run_rounds};
 use cf_run::Ran;
@@ -40,18 +40,18 @@ fn ran_of(clocked: Clocked) -> Ran
 fn run_core<S: Source, K: Sink, R: Sink>(
     opened: &mut Opened,
     limit: u64,
-    streams: Streams<'_, S, K, R>,
+    streams: RunStreams<'_, S, K, R>,
 ) -> Reported
     requires limit { limit ≤ most_limit }
     requires retired { opened.old.core.state.retired ≤ limit }
     requires opened { IsOpened opened.old.core }
     ensures runs { ReportsOver (RunsCoreInRounds limit opened.old.core opened.new.core)
-        (passage S.left K.written R.written R.faults streams.entry streams.exit) result }
+        (streams_change S.left K.written R.written R.faults streams.entry streams.exit) result }
     ensures files { files_answered result.status ≡ Ok tt }
     ensures input { HasCause (S.faults streams.entry.input.now) (S.faults (input_left streams.exit)) (input_answered result.status) }
     ensures output { HasCause (K.faults streams.entry.output.now) (K.faults (output_left streams.exit)) (output_answered result.status) }
 {
-    let Streams {
+    let RunStreams {
         input,
         output,
         report,
@@ -76,12 +76,12 @@ fn run_loaded<S: Source, K: Sink, R: Sink>(
     alloc: Global,
     loaded: Loaded,
     limit: u64,
-    streams: Streams<'_, S, K, R>,
+    streams: RunStreams<'_, S, K, R>,
 ) -> Reported
     requires count { loaded.machine.retired ≡ 0 }
     requires limit { limit ≤ most_limit }
     ensures comes { ReportsOver (ComesInRounds limit loaded.layout loaded.machine)
-        (passage S.left K.written R.written R.faults streams.entry streams.exit) result }
+        (streams_change S.left K.written R.written R.faults streams.entry streams.exit) result }
     ensures files { files_answered result.status ≡ Ok tt }
     ensures input { HasCause (S.faults streams.entry.input.now) (S.faults (input_left streams.exit)) (input_answered result.status) }
     ensures output { HasCause (K.faults streams.entry.output.now) (K.faults (output_left streams.exit)) (output_answered result.status) }
@@ -101,11 +101,11 @@ pub fn run_in_rounds<F: Files, S: Source, K: Sink, R: Sink>(
     program: &str,
     limit: u64,
     files: &mut F,
-    streams: Streams<'_, S, K, R>,
+    streams: RunStreams<'_, S, K, R>,
 ) -> Reported
     requires { limit ≤ most_limit }
     ensures answers { ReportsAll (AnswersRounds (rounds_asked (layout_of layout.entry) program.now limit))
-        (span F.told F.faults S.left S.faults K.written K.faults R.written R.faults files.old files.new streams.entry streams.exit) result }
+        (outside_change F.told F.faults S.left S.faults K.written K.faults R.written R.faults files.old files.new streams.entry streams.exit) result }
     ensures files { HasCause (F.faults files.old) (F.faults files.new) (files_answered result.status) }
     ensures input { HasCause (S.faults streams.entry.input.now) (S.faults (input_left streams.exit)) (input_answered result.status) }
     ensures output { HasCause (K.faults streams.entry.output.now) (K.faults (output_left streams.exit)) (output_answered result.status) }

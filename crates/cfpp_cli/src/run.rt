@@ -8,16 +8,16 @@ ghost use Rattle.cf_core.specs.Processors.{opened};
 ghost use Rattle.cf_run.specs.Policies.{CanRun};
 ghost use Rattle.cli_files.specs.Causes.{input_answered, output_answered};
 ghost use Rattle.cli_files.specs.RunFiles.{run_asked};
-ghost use Rattle.cfpp_cli.specs.Reporting.{CarriesOut, ComesOver, Tells, files_reported};
+ghost use Rattle.cfpp_cli.specs.Reporting.{CarriesOut, ComesOver, FaultsReported, files_reported};
 ghost use Rattle.cfpp_cli.specs.Run.{chosen_by, RunsCore, RunsWithTail, BreaksCore, ComesOf, AnswersRun, BreaksRun};
-ghost use Rattle.cfpp_cli.specs.Passages.{passage, span, input_left, output_left};
+ghost use Rattle.cfpp_cli.specs.OutsideChanges.{streams_change, outside_change, input_left, output_left};
 ghost use Rattle.cli_files.specs.Schedules.{schedule_view, FitsScript};
 
 use crate::by_policy::run_by_policy;
 use crate::by_script::run_by_script;
 use crate::opening::{Opened, open};
 use crate::reporting::{Reported, put_answer};
-use crate::streams::Streams;
+use crate::streams::RunStreams;
 use crate::tail::{Tail, add_tail};
 use cf_core::Core;
 use cf_index::Candidates;
@@ -25,7 +25,7 @@ use cf_io::{Failed, Files, Sink, Source};
 use cf_run::Show;
 use cf_sched::{Drawn, Round};
 use cli_arguments::{LayoutWord, RunOptions};
-use cli_files::{Ready, ReadySchedule, no_memory, read_files};
+use cli_files::{ReadyRun, ReadySchedule, no_memory, read_files};
 use std::alloc::Global;
 
 /// Runs the opened processor by what was read.
@@ -36,16 +36,16 @@ fn run_scheduled<S: Source, K: Sink, R: Sink>(
     schedule: &ReadySchedule,
     limit: u64,
     show: Show,
-    streams: Streams<'_, S, K, R>,
+    streams: RunStreams<'_, S, K, R>,
 ) -> Result<Reported, Failed>
     requires begins { CanRun limit core.old }
     requires fits { FitsScript (schedule_view schedule.now) }
     ensures runs { ComesOver (RunsCore limit show core.old core.new (chosen_by limit show (schedule_view schedule.now)))
         (BreaksCore limit show core.old (chosen_by limit show (schedule_view schedule.now)))
-        (passage S.left K.written R.written R.faults streams.entry streams.exit) result }
+        (streams_change S.left K.written R.written R.faults streams.entry streams.exit) result }
     ensures files { files_reported result ≡ Ok tt }
-    ensures input { Tells input_answered (S.faults streams.entry.input.now) (S.faults (input_left streams.exit)) result }
-    ensures output { Tells output_answered (K.faults streams.entry.output.now) (K.faults (output_left streams.exit)) result }
+    ensures input { FaultsReported input_answered (S.faults streams.entry.input.now) (S.faults (input_left streams.exit)) result }
+    ensures output { FaultsReported output_answered (K.faults streams.entry.output.now) (K.faults (output_left streams.exit)) result }
 {
     match schedule {
         ReadySchedule::Script(text) => {
@@ -68,19 +68,19 @@ fn run_opened<S: Source, K: Sink, R: Sink>(
     schedule: &ReadySchedule,
     options: RunOptions<'_>,
     tail: Tail,
-    streams: Streams<'_, S, K, R>,
+    streams: RunStreams<'_, S, K, R>,
 ) -> Result<Reported, Failed>
     requires begins { CanRun options.limit opened.old.core }
     requires fits { FitsScript (schedule_view schedule.now) }
     ensures comes { ComesOver
         (RunsWithTail options.entry.limit options.entry.show tail opened.old.core opened.new.core (chosen_by options.entry.limit options.entry.show (schedule_view schedule.now)))
         (BreaksCore options.entry.limit options.entry.show opened.old.core (chosen_by options.entry.limit options.entry.show (schedule_view schedule.now)))
-        (passage S.left K.written R.written R.faults streams.entry streams.exit) result }
+        (streams_change S.left K.written R.written R.faults streams.entry streams.exit) result }
     ensures files { files_reported result ≡ Ok tt }
-    ensures input { Tells input_answered (S.faults streams.entry.input.now) (S.faults (input_left streams.exit)) result }
-    ensures output { Tells output_answered (K.faults streams.entry.output.now) (K.faults (output_left streams.exit)) result }
+    ensures input { FaultsReported input_answered (S.faults streams.entry.input.now) (S.faults (input_left streams.exit)) result }
+    ensures output { FaultsReported output_answered (K.faults streams.entry.output.now) (K.faults (output_left streams.exit)) result }
 {
-    let Streams {
+    let RunStreams {
         input,
         output,
         report,
@@ -91,7 +91,7 @@ fn run_opened<S: Source, K: Sink, R: Sink>(
         schedule,
         options.limit,
         options.show,
-        Streams {
+        RunStreams {
             input,
             output,
             report: &mut *report,
@@ -103,10 +103,10 @@ fn run_opened<S: Source, K: Sink, R: Sink>(
 /// Opens the processor of the layout on the machine, runs it by what was read, and puts what is to follow its report.
 pub fn run_ready<S: Source, K: Sink, R: Sink>(
     alloc: Global,
-    ready: Ready,
+    ready: ReadyRun,
     options: RunOptions<'_>,
     tail: Tail,
-    streams: Streams<'_, S, K, R>,
+    streams: RunStreams<'_, S, K, R>,
 ) -> Result<Reported, Failed>
     requires limit { options.limit ≤ most_limit }
     requires count { ready.machine.retired ≡ 0 }
@@ -114,10 +114,10 @@ pub fn run_ready<S: Source, K: Sink, R: Sink>(
     ensures comes { ComesOver
         (ComesOf options.entry.limit options.entry.show tail ready.layout ready.machine (schedule_view ready.schedule))
         (BreaksCore options.entry.limit options.entry.show (opened ready.layout ready.machine) (chosen_by options.entry.limit options.entry.show (schedule_view ready.schedule)))
-        (passage S.left K.written R.written R.faults streams.entry streams.exit) result }
+        (streams_change S.left K.written R.written R.faults streams.entry streams.exit) result }
     ensures files { files_reported result ≡ Ok tt }
-    ensures input { Tells input_answered (S.faults streams.entry.input.now) (S.faults (input_left streams.exit)) result }
-    ensures output { Tells output_answered (K.faults streams.entry.output.now) (K.faults (output_left streams.exit)) result }
+    ensures input { FaultsReported input_answered (S.faults streams.entry.input.now) (S.faults (input_left streams.exit)) result }
+    ensures output { FaultsReported output_answered (K.faults streams.entry.output.now) (K.faults (output_left streams.exit)) result }
 {
     match open(alloc, ready.layout, ready.machine) {
         Ok(mut opened) => run_opened(&mut opened, &ready.schedule, options, tail, streams),
@@ -136,16 +136,16 @@ pub fn run_processor<F: Files, S: Source, K: Sink, R: Sink>(
     options: RunOptions<'_>,
     tail: Tail,
     files: &mut F,
-    streams: Streams<'_, S, K, R>,
+    streams: RunStreams<'_, S, K, R>,
 ) -> Result<Reported, Failed>
     requires { options.limit ≤ most_limit }
     ensures answers { CarriesOut
         (AnswersRun tail (run_asked (layout_of layout.entry) program.now (asked_schedule options.entry.schedule) options.entry.limit options.entry.show))
         (BreaksRun (run_asked (layout_of layout.entry) program.now (asked_schedule options.entry.schedule) options.entry.limit options.entry.show))
-        (span F.told F.faults S.left S.faults K.written K.faults R.written R.faults files.old files.new streams.entry streams.exit) result }
+        (outside_change F.told F.faults S.left S.faults K.written K.faults R.written R.faults files.old files.new streams.entry streams.exit) result }
     ensures files { HasCause (F.faults files.old) (F.faults files.new) (files_reported result) }
-    ensures input { Tells input_answered (S.faults streams.entry.input.now) (S.faults (input_left streams.exit)) result }
-    ensures output { Tells output_answered (K.faults streams.entry.output.now) (K.faults (output_left streams.exit)) result }
+    ensures input { FaultsReported input_answered (S.faults streams.entry.input.now) (S.faults (input_left streams.exit)) result }
+    ensures output { FaultsReported output_answered (K.faults streams.entry.output.now) (K.faults (output_left streams.exit)) result }
 {
     match read_files(alloc, layout, program, options, files) {
         Ok(ready) => run_ready(alloc, ready, options, tail, streams),

@@ -6,7 +6,7 @@ ghost use Rattle.cf_io.specs.Puts.{Writes, WritesFront};
 ghost use Rattle.cf_report.specs.Lines.{retired_line};
 ghost use Rattle.cf_report.specs.Putting.{PutsText};
 ghost use Rattle.cf_run.specs.Policies.{input_stopped, output_stopped, report_stopped};
-ghost use Rattle.cfpp_cli.specs.Finish.{RunsTo};
+ghost use Rattle.cfpp_cli.specs.Finish.{RunsToFinish};
 ghost use Rattle.cfpp_cli.specs.Options.{chosen_of, isa_of, shown};
 ghost use Rattle.rv_machine.specs.Streams.{streams_of};
 
@@ -79,7 +79,7 @@ pub fn run<S: Source, K: Sink, R: Sink>(
     report: &mut R,
 ) -> Ran
     requires { machine.old.retired + options.limit < 2 ^ 64 }
-    ensures runs { RunsTo (chosen_of options.limit options.show_retired options.mul) machine.old machine.new
+    ensures runs { RunsToFinish (chosen_of options.limit options.show_retired options.mul) machine.old machine.new
         (streams_of (S.left input.old) (K.written output.old))
         (streams_of (S.left input.new) (K.written output.new))
         (R.written report.old) (R.written report.new) result }

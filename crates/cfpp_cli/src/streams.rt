@@ -4,7 +4,7 @@ use cf_io::{Sink, Source};
 
 /// What a run is lent besides the files: the program's input and output, and the report.
 #[derive(Drop)]
-pub struct Streams<'a, S: Source, K: Sink, R: Sink> {
+pub struct RunStreams<'a, S: Source, K: Sink, R: Sink> {
     pub input: &'a mut S,
     pub output: &'a mut K,
     pub report: &'a mut R,

@@ -5,9 +5,9 @@ ghost use Rattle.cf_io.specs.Causes.{HasCause};
 ghost use Rattle.cli_files.specs.Causes.{input_answered, output_answered};
 ghost use Rattle.cli_files.specs.Outside.{outside_of, report_of};
 ghost use Rattle.cfpp_cli.specs.Deciding.{Decided};
-ghost use Rattle.cfpp_cli.specs.Reporting.{Tells, files_reported};
+ghost use Rattle.cfpp_cli.specs.Reporting.{FaultsReported, files_reported};
 ghost use Rattle.cfpp_cli.specs.Top.{IsTop, NoneRose, says_fault};
-ghost use Rattle.cfpp_cli.specs.Passages.{span, input_left, output_left};
+ghost use Rattle.cfpp_cli.specs.OutsideChanges.{outside_change, input_left, output_left};
 
 use crate::asm::assemble_program;
 use crate::check::check_layout;
@@ -19,7 +19,7 @@ use crate::putting::put_text;
 use crate::reporting::{Reported, put_answer, put_decided};
 use crate::rounds::run_in_rounds;
 use crate::run::run_processor;
-use crate::streams::Streams;
+use crate::streams::RunStreams;
 use crate::tail::Tail;
 use cf_io::{Failed, Files, Sink, Source};
 use cli_arguments::{Command, RunOptions, Show, read_words};
@@ -34,13 +34,13 @@ fn decide<F: Files, S: Source, K: Sink, R: Sink>(
     alloc: Global,
     words: &[String],
     files: &mut F,
-    streams: Streams<'_, S, K, R>,
+    streams: RunStreams<'_, S, K, R>,
 ) -> Result<Reported, Failed>
     ensures decided { Decided (map string_bytes words.now)
-        (span F.told F.faults S.left S.faults K.written K.faults R.written R.faults files.old files.new streams.entry streams.exit) result }
+        (outside_change F.told F.faults S.left S.faults K.written K.faults R.written R.faults files.old files.new streams.entry streams.exit) result }
     ensures files { HasCause (F.faults files.old) (F.faults files.new) (files_reported result) }
-    ensures input { Tells input_answered (S.faults streams.entry.input.now) (S.faults (input_left streams.exit)) result }
-    ensures output { Tells output_answered (K.faults streams.entry.output.now) (K.faults (output_left streams.exit)) result }
+    ensures input { FaultsReported input_answered (S.faults streams.entry.input.now) (S.faults (input_left streams.exit)) result }
+    ensures output { FaultsReported output_answered (K.faults streams.entry.output.now) (K.faults (output_left streams.exit)) result }
 {
     match read_words(words) {
         Ok(Command::Machine { program, options }) => {
@@ -119,7 +119,7 @@ fn decide<F: Files, S: Source, K: Sink, R: Sink>(
             Ok(put_answer(answer, streams.report))
         }
         Ok(Command::Debug { layout, program }) => {
-            let Streams {
+            let RunStreams {
                 input,
                 output,
                 report,
@@ -204,7 +204,7 @@ pub fn cfpp<F: Files, S: Source, K: Sink, R: Sink>(
         (report_of (R.written report.old) (R.faults report.old))
         (report_of (R.written report.new) (R.faults report.new)) }
 {
-    let streams = Streams {
+    let streams = RunStreams {
         input,
         output,
         report,

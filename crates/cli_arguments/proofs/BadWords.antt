@@ -4,13 +4,13 @@ use Rattle.std.proofs.lemmas.List.{length-take, length-take-le, take-append-le, 
 use Rattle.std.proofs.Math.Seq.{take-length}
 use Rattle.std.proofs.lemmas.Bool.{cases_order}
 use Rattle.cli_arguments.specs.Words.{Asked, Asks, IsBadAt}
-use Rattle.cli_arguments.specs.Reading.{State, start, follow, completed}
+use Rattle.cli_arguments.specs.ArgumentReading.{ReadingState, start, follow, completed}
 use Rattle.cli_arguments.proofs.InTurn.{after, reads, reads-append}
 use Rattle.cli_arguments.proofs.Grammar.{reads-sound, asks-read}
 use Rattle.cli_arguments.proofs.Completions.{complete-reached}
 
 -- words that were read begin those of a command
-begun : (words : List (List ℕ)) (last : State) → reads start words ≡ Some last →
+begun : (words : List (List ℕ)) (last : ReadingState) → reads start words ≡ Some last →
     (command : List (List ℕ)) × (asked : Asked) × Asks command asked ×
     (take (length words) command ≡ words)
 begun words last h =
@@ -20,24 +20,24 @@ begun words last h =
     (words ++ c.more, c.asked, reads-sound (words ++ c.more) c.last c.asked c.read c.done, t)
 
 -- a word that cannot follow has no place
-read-prefix : (found : Option State) (words more : List (List ℕ)) (last : State) →
+read-prefix : (found : Option ReadingState) (words more : List (List ℕ)) (last : ReadingState) →
     reads start words ≡ found →
     reads start (words ++ more) ≡ Some last → found ≡ None → ⊥
 read-prefix None words more last e h none =
     let a = reads-append start words more in
     let b : after (reads start words) (λ s. reads s more) ≡ None =
-    ap (λ (o : Option State). after o (λ s. reads s more)) e in
+    ap (λ (o : Option ReadingState). after o (λ s. reads s more)) e in
     cc
 read-prefix (Some state) words more last e h none = cc
 
-not-read : (words : List (List ℕ)) (word : List ℕ) (state : State) → reads start words ≡ Some state →
+not-read : (words : List (List ℕ)) (word : List ℕ) (state : ReadingState) → reads start words ≡ Some state →
     follow state word ≡ None → reads start (words ++ word ∷ []) ≡ None
 not-read words word state h none =
     reads-append start words (word ∷ [])
-    ∙ (ap (λ (o : Option State). after o (λ s. reads s (word ∷ []))) h
-    ∙ ap (λ (o : Option State). after o (λ s. reads s [])) none)
+    ∙ (ap (λ (o : Option ReadingState). after o (λ s. reads s (word ∷ []))) h
+    ∙ ap (λ (o : Option ReadingState). after o (λ s. reads s [])) none)
 
-bad-here : (words : List (List ℕ)) (index : ℕ) (state : State) → index < length words →
+bad-here : (words : List (List ℕ)) (index : ℕ) (state : ReadingState) → index < length words →
     reads start (take index words) ≡ Some state → follow state (get_or words index []) ≡ None →
     (command : List (List ℕ)) (asked : Asked) → Asks command asked →
     take (index + 1) command ≡ take (index + 1) words → ⊥
@@ -53,7 +53,7 @@ bad-here words index state inside h none command asked asks same =
     read-prefix (reads start (take (index + 1) command)) (take (index + 1) command)
     (drop (index + 1) command) r.last refl c n
 
-begun-at : (words : List (List ℕ)) (index : ℕ) (state : State) → index ≤ length words →
+begun-at : (words : List (List ℕ)) (index : ℕ) (state : ReadingState) → index ≤ length words →
     reads start (take index words) ≡ Some state →
     (command : List (List ℕ)) × (asked : Asked) × Asks command asked ×
     (take index command ≡ take index words)
@@ -62,7 +62,7 @@ begun-at words index state inside h =
     × (take n command ≡ take index words))
     (length-take-le index words inside) (begun (take index words) state h)
 
-pub bad-word : (words : List (List ℕ)) (index : ℕ) (state : State) → index < length words →
+pub bad-word : (words : List (List ℕ)) (index : ℕ) (state : ReadingState) → index < length words →
     reads start (take index words) ≡ Some state → follow state (get_or words index []) ≡ None →
     IsBadAt words index
 bad-word words index state inside h none = record {
@@ -82,7 +82,7 @@ whole words command same =
     (omega arith) in
     sym c ∙ (same ∙ w)
 
-bad-after : (words : List (List ℕ)) (state : State) → reads start words ≡ Some state →
+bad-after : (words : List (List ℕ)) (state : ReadingState) → reads start words ≡ Some state →
     completed words state ≡ None →
     (command : List (List ℕ)) (asked : Asked) → Asks command asked →
     take (length words + 1) command ≡ take (length words + 1) words → ⊥
@@ -96,7 +96,7 @@ bad-after words state h none command asked asks same =
     subst (λ (ws : List (List ℕ)). completed ws r.last ≡ Some asked) (whole words command same) r.done in
     cc (d, e)
 
-pub bad-end : (words : List (List ℕ)) (index : ℕ) (state : State) → index ≡ length words →
+pub bad-end : (words : List (List ℕ)) (index : ℕ) (state : ReadingState) → index ≡ length words →
     reads start (take index words) ≡ Some state → completed words state ≡ None → IsBadAt words index
 bad-end words index state at-end h none =
     let w : take index words ≡ words = take_all index words (omega arith) in

@@ -6,8 +6,8 @@ use Rattle.std.specs.Str.Parse.{digits_value}
 use Rattle.std.proofs.lemmas.Bool.Decides.{nat_tests}
 use Rattle.std.proofs.lemmas.List.{length-map}
 use Rattle.run_options.specs.Limits.{most_limit, most_statements}
-use Rattle.cli_arguments.specs.declared.names.Name.{Name}
-use Rattle.cli_arguments.specs.declared.names.Name.TheVariants as names
+use Rattle.cli_arguments.specs.declared.names.CommandName.{CommandName}
+use Rattle.cli_arguments.specs.declared.names.CommandName.TheVariants as names
 use Rattle.cli_arguments.specs.Values.{count_in, is_number}
 use Rattle.cli_arguments.specs.Commands.{most}
 use Rattle.cli_arguments.specs.Options.{takes, Setting, limit_to, show_lines, show_sites, script_from, seed_from, with_mul, with_run, Schedule, Given, given_in}
@@ -15,7 +15,7 @@ use Rattle.cli_arguments.specs.Words.{Asked, gen, moves, layout_in, limit_of, as
 use Rattle.cli_arguments.proofs.Settings.{both}
 
 -- the limit among options of a command is within its bound
-limit-bounded : (name : Name) (settings : List Setting) → list_all (takes name) settings ≡ true →
+limit-bounded : (name : CommandName) (settings : List Setting) → list_all (takes name) settings ≡ true →
     limit_of (given_in settings) ≤ most_limit
 limit-bounded name [] taken = omega arith
 limit-bounded name (limit_to digits ∷ settings) taken = grind (arith, nat_tests)
@@ -51,7 +51,7 @@ count-bounded word number h =
     count-tested (is_number most_statements word && nat_le 1 (digits_value 10 word)) word number refl h
 
 -- what is asked of a command
-record Fits (name : Name) (asked : Asked) : Type 0 where
+record Fits (name : CommandName) (asked : Asked) : Type 0 where
   bounded : IsBounded asked
 
 drawn-fits : (count : Option ℕ) (run : Bool) (word : List ℕ) (asked : Asked) → count_in word ≡ count →
@@ -71,10 +71,10 @@ moves-fits (Some schedule) layout program given asked limit h =
     let same : moves (layout_in layout) program schedule (limit_of given) ≡ asked = cc in
     subst (λ (a : Asked). Fits names.Moves a) same (record { bounded = limit })
 
-same-fits : (name : Name) (one asked : Asked) → Some one ≡ Some asked → Fits name one → Fits name asked
+same-fits : (name : CommandName) (one asked : Asked) → Some one ≡ Some asked → Fits name one → Fits name asked
 same-fits name one asked h fits = let same : one ≡ asked = cc in subst (λ (a : Asked). Fits name a) same fits
 
-asked-fits : (name : Name) (words : List (List ℕ)) (given : Given) (asked : Asked) →
+asked-fits : (name : CommandName) (words : List (List ℕ)) (given : Given) (asked : Asked) →
     limit_of given ≤ most_limit → length words ≤ most name → asked_by name words given ≡ Some asked →
     Fits name asked
 asked-fits names.Machine [] given asked limit few h = absurd (cc)

@@ -5,8 +5,8 @@ use Rattle.std.specs.Prelude.{is_some, if◌then◌else◌}
 use Rattle.std.proofs.lemmas.Bool.{cases_lt}
 use Rattle.std.proofs.lemmas.List.{length-append, take-append-le, take-map, drop-map}
 use Rattle.run_options.specs.declared.show.Show.TheVariants as shows
-use Rattle.cli_arguments.specs.declared.names.Name.{Name}
-use Rattle.cli_arguments.specs.declared.names.Name.TheVariants as names
+use Rattle.cli_arguments.specs.declared.names.CommandName.{CommandName}
+use Rattle.cli_arguments.specs.declared.names.CommandName.TheVariants as names
 use Rattle.cli_arguments.specs.declared.options.Key.{Key}
 use Rattle.cli_arguments.specs.declared.options.Key.TheVariants as keys
 use Rattle.cli_arguments.specs.declared.reading.Subject.{Subject}
@@ -14,7 +14,7 @@ use Rattle.cli_arguments.specs.Values.{is_file_name, count_in}
 use Rattle.cli_arguments.specs.Commands.{word_of, fewest, most, counts, is_positional}
 use Rattle.cli_arguments.specs.Options.{key_word, takes_key, has_lines, has_sites, script_from, Given, Schedule}
 use Rattle.cli_arguments.specs.Words.{Asked, gen, moves, layout_in, limit_of, asked_by}
-use Rattle.cli_arguments.specs.Reading.{State, start, placed, options, valued, bare, one_more, follow, has_key, nothing_given, positional_in, completed}
+use Rattle.cli_arguments.specs.ArgumentReading.{ReadingState, start, placed, options, valued, bare, one_more, follow, has_key, nothing_given, positional_in, completed}
 use Rattle.cli_arguments.proofs.InTurn.{after, reads, reads-step, reads-append}
 use Rattle.cli_arguments.proofs.Grammar.{positional-read}
 use Rattle.cli_arguments.proofs.Reached.{Reached, HasPlaces, Stands, has_value, reached-last, words-read, stands}
@@ -23,18 +23,18 @@ use Rattle.cli_arguments.proofs.Steps.{put, start-follows, tests-place, placed-f
 -- words that were read can be completed
 pub record Completion (words : List (List ℕ)) : Type 0 where
   pub more : List (List ℕ)
-  pub last : State
+  pub last : ReadingState
   pub asked : Asked
   pub read : reads start (words ++ more) ≡ Some last
   pub done : completed (words ++ more) last ≡ Some asked
 
 -- one more word
-reads-more : (words more : List (List ℕ)) (state : State) → reads start words ≡ Some state →
+reads-more : (words more : List (List ℕ)) (state : ReadingState) → reads start words ≡ Some state →
     reads start (words ++ more) ≡ reads state more
 reads-more words more state h =
-    reads-append start words more ∙ ap (λ (o : Option State). after o (λ s. reads s more)) h
+    reads-append start words more ∙ ap (λ (o : Option ReadingState). after o (λ s. reads s more)) h
 
-reads-word : (words : List (List ℕ)) (word : List ℕ) (state later : State) → reads start words ≡ Some state →
+reads-word : (words : List (List ℕ)) (word : List ℕ) (state later : ReadingState) → reads start words ≡ Some state →
     follow state word ≡ Some later → reads start (words ++ word ∷ []) ≡ Some later
 reads-word words word state later h followed =
     reads-more words (word ∷ []) state h ∙ reads-step state word [] later followed
@@ -52,13 +52,13 @@ complete-word words word c =
     }
 
 -- enough positional words ask something, or, for `moves`, only the script is missing
-record LacksScript (name : Name) (words : List (List ℕ)) (given : Given) : Type 0 where
+record LacksScript (name : CommandName) (words : List (List ℕ)) (given : Given) : Type 0 where
   takes : takes_key name keys.Script ≡ true
   fresh : has_key given keys.Script ≡ false
   asked : Asked
   asks : asked_by name words (put given (script_from (codes "s"))) ≡ Some asked
 
-abbrev AsksOrLacks : Name → List (List ℕ) → Given → Type 0
+abbrev AsksOrLacks : CommandName → List (List ℕ) → Given → Type 0
 AsksOrLacks name words given =
     ((asked : Asked) × (asked_by name words given ≡ Some asked)) ⊎ LacksScript name words given
 
@@ -82,7 +82,7 @@ first-counted : (word : List ℕ) → list_all (is_positional names.Gen) (word �
 unfolding is_positional
 first-counted word h = one-true (is_some (count_in word)) h
 
-enough-ask : (name : Name) (words : List (List ℕ)) (given : Given) → fewest name ≤ length words →
+enough-ask : (name : CommandName) (words : List (List ℕ)) (given : Given) → fewest name ≤ length words →
     length words ≤ most name → list_all (is_positional name) words ≡ true → AsksOrLacks name words given
 enough-ask names.Machine [] given enough few each = absurd (omega (arith, enough, few))
 enough-ask names.Machine (w ∷ []) given enough few each = inl (_, refl)
@@ -139,13 +139,13 @@ positional-more count [] more h = absurd (omega (arith, h))
 positional-more count (word ∷ words) more h = take-append-le count words more (omega (arith, h))
 
 -- a script after the options
-scripted : (words : List (List ℕ)) (subject : Subject) (given : Given) (state : State) →
+scripted : (words : List (List ℕ)) (subject : Subject) (given : Given) (state : ReadingState) →
     1 + subject.count ≤ length words → reads start words ≡ Some state →
     follow state (key_word keys.Script) ≡ follow (options subject given) (key_word keys.Script) →
     LacksScript subject.name (positional_in subject.count words) given → Completion words
 unfolding completed
 scripted words subject given state stands h same lacks =
-    let last : State = options subject (put given (script_from (codes "s"))) in
+    let last : ReadingState = options subject (put given (script_from (codes "s"))) in
     record {
       more = key_word keys.Script ∷ codes "s" ∷ [];
       last = last;
@@ -164,7 +164,7 @@ words-nil : (words : List (List ℕ)) → words ++ [] ≡ words
 words-nil words = append-nil words
 
 -- nothing after what asks something
-asked-now : (words : List (List ℕ)) (state : State) (asked : Asked) → reads start words ≡ Some state →
+asked-now : (words : List (List ℕ)) (state : ReadingState) (asked : Asked) → reads start words ≡ Some state →
     completed words state ≡ Some asked → Completion words
 asked-now words state asked h done = record {
   more = [];
@@ -208,11 +208,11 @@ unfolding count_in
 filler-tried true = refl
 filler-tried false = refl
 
-filler-fits : (name : Name) → is_positional name (filler-of (counts name)) ≡ true
+filler-fits : (name : CommandName) → is_positional name (filler-of (counts name)) ≡ true
 unfolding is_positional
 filler-fits name = filler-tried (counts name)
 
-fewest-most : (name : Name) → fewest name ≤ most name
+fewest-most : (name : CommandName) → fewest name ≤ most name
 fewest-most names.Machine = omega arith
 fewest-most names.Run = omega arith
 fewest-most names.Moves = omega arith
@@ -249,7 +249,7 @@ complete-places (suc missing) words subject few enough stands h =
     ]
 
 -- what a command that has the option for it can show
-shown-some : (name : Name) → takes_key name keys.Show ≡ true →
+shown-some : (name : CommandName) → takes_key name keys.Show ≡ true →
     (has_lines name shows.Report ≡ true) ⊎ (has_sites name ≡ true)
 shown-some names.Machine h = inl refl
 shown-some names.Run h = inl refl
@@ -306,7 +306,7 @@ complete-start words h =
     (omega (arith, length-append words (word ∷ [])))
     (reads-word words word start (placed (bare names.Machine)) h (start-follows names.Machine)))
 
-complete-state : (words : List (List ℕ)) (state : State) → Reached state → Stands (length words) state →
+complete-state : (words : List (List ℕ)) (state : ReadingState) → Reached state → Stands (length words) state →
     reads start words ≡ Some state → Completion words
 complete-state words start reached stands h = complete-start words h
 complete-state words (placed subject) reached stands h =
@@ -316,7 +316,7 @@ complete-state words (options subject given) reached stands h =
 complete-state words (valued subject given key) reached stands h =
     complete-value words subject given key reached stands h
 
-pub complete-reached : (words : List (List ℕ)) (state : State) → reads start words ≡ Some state →
+pub complete-reached : (words : List (List ℕ)) (state : ReadingState) → reads start words ≡ Some state →
     Completion words
 complete-reached words state h =
     complete-state words state (reached-last words start state tt h)

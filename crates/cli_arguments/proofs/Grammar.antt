@@ -3,13 +3,13 @@ use Rattle.std.proofs.Common.{◌≡◌, ◌≤◌, ◌+◌, ℕ, List, [], ◌�
 use Rattle.std.specs.List.{list_all}
 use Rattle.std.proofs.lemmas.List.{take-append-le}
 use Rattle.std.proofs.Math.Seq.{take-length}
-use Rattle.cli_arguments.specs.declared.names.Name.{Name}
-use Rattle.cli_arguments.specs.declared.names.Name.TheVariants as names
+use Rattle.cli_arguments.specs.declared.names.CommandName.{CommandName}
+use Rattle.cli_arguments.specs.declared.names.CommandName.TheVariants as names
 use Rattle.cli_arguments.specs.declared.reading.Subject.{Subject}
 use Rattle.cli_arguments.specs.Commands.{word_of, fewest, most, is_positional}
 use Rattle.cli_arguments.specs.Options.{key_of, value_words, written, takes, Setting, Given, given_in}
 use Rattle.cli_arguments.specs.Words.{Asked, asked_by, Asks}
-use Rattle.cli_arguments.specs.Reading.{State, start, placed, options, valued, bare, one_more, nothing_given, positional_in, completed}
+use Rattle.cli_arguments.specs.ArgumentReading.{ReadingState, start, placed, options, valued, bare, one_more, nothing_given, positional_in, completed}
 use Rattle.cli_arguments.proofs.Steps.{start-read, start-follows, place-tests, tests-place, placed-read, placed-follows, first-option}
 use Rattle.cli_arguments.proofs.InTurn.{after, reads, reads-split, reads-step, none-left}
 use Rattle.cli_arguments.proofs.Settings.{both, put_all, Fresh, fresh-once, once-fresh, put-given, IsWhole, Tail, tail-read, settings-read}
@@ -19,14 +19,14 @@ abbrev grown : Subject → ℕ → Subject
 grown subject n = record { name = subject.name; count = subject.count + n }
 
 -- the state is that of a command with these positional words
-abbrev pub IsOf : State → Subject → Type 0
+abbrev pub IsOf : ReadingState → Subject → Type 0
 IsOf start subject = ⊥
 IsOf (placed s) subject = s ≡ subject
 IsOf (options s given) subject = s ≡ subject
 IsOf (valued s given key) subject = s ≡ subject
 
 -- the words after some positional ones: more of these, and then options
-record Placing (subject : Subject) (words : List (List ℕ)) (last : State) : Type 0 where
+record Placing (subject : Subject) (words : List (List ℕ)) (last : ReadingState) : Type 0 where
   more : List (List ℕ)
   settings : List Setting
   words_are : words ≡ more ++ written settings
@@ -50,7 +50,7 @@ no-more subject all given =
     let e : subject.count ≡ subject.count + 0 = omega arith in
     ap (λ (n : ℕ). asked_by subject.name (positional_in n all) given) e
 
-placing-none : (subject : Subject) (last : State) → subject.count ≤ most subject.name →
+placing-none : (subject : Subject) (last : ReadingState) → subject.count ≤ most subject.name →
     reads (placed subject) [] ≡ Some last → Placing subject [] last
 unfolding completed
 placing-none subject last few h = record {
@@ -61,12 +61,12 @@ placing-none subject last few h = record {
   each = refl;
   taken = refl;
   fresh = tt;
-  of = subst (λ (s : State). IsOf s (grown subject 0)) (none-left (placed subject) last h) (same-count subject);
-  asks = λ all. ap (λ (s : State). completed all s) (sym (none-left (placed subject) last h))
+  of = subst (λ (s : ReadingState). IsOf s (grown subject 0)) (none-left (placed subject) last h) (same-count subject);
+  asks = λ all. ap (λ (s : ReadingState). completed all s) (sym (none-left (placed subject) last h))
       ∙ no-more subject all nothing_given;
 }
 
-placing-options : (subject : Subject) (words : List (List ℕ)) (last : State) →
+placing-options : (subject : Subject) (words : List (List ℕ)) (last : ReadingState) →
     subject.count ≤ most subject.name → Tail subject nothing_given words last → Placing subject words last
 unfolding completed
 placing-options subject words last few tail = record {
@@ -77,12 +77,12 @@ placing-options subject words last few tail = record {
   each = refl;
   taken = tail.taken;
   fresh = tail.fresh;
-  of = subst (λ (s : State). IsOf s (grown subject 0)) (sym tail.last_is) (same-count subject);
-  asks = λ all. ap (λ (s : State). completed all s) tail.last_is
+  of = subst (λ (s : ReadingState). IsOf s (grown subject 0)) (sym tail.last_is) (same-count subject);
+  asks = λ all. ap (λ (s : ReadingState). completed all s) tail.last_is
       ∙ no-more subject all (put_all nothing_given tail.settings);
 }
 
-placing-word : (subject : Subject) (word : List ℕ) (words : List (List ℕ)) (last : State) →
+placing-word : (subject : Subject) (word : List ℕ) (words : List (List ℕ)) (last : ReadingState) →
     is_positional subject.name word ≡ true → Placing (one_more subject) words last →
     Placing subject (word ∷ words) last
 placing-word subject word words last h p = record {
@@ -100,7 +100,7 @@ placing-word subject word words last h p = record {
       ∙ ap (λ (n : ℕ). asked_by subject.name (positional_in n all) (put_all nothing_given p.settings)) e;
 }
 
-placing : (words : List (List ℕ)) (subject : Subject) (last : State) → subject.count ≤ most subject.name →
+placing : (words : List (List ℕ)) (subject : Subject) (last : ReadingState) → subject.count ≤ most subject.name →
     reads (placed subject) words ≡ Some last → IsWhole last → Placing subject words last
 placing [] subject last few h whole = placing-none subject last few h
 placing (word ∷ words) subject last few h whole =
@@ -118,7 +118,7 @@ placing (word ∷ words) subject last few h whole =
     ]
 
 -- where something is asked no value is missing
-asked-whole : (words : List (List ℕ)) (last : State) (asked : Asked) → completed words last ≡ Some asked →
+asked-whole : (words : List (List ℕ)) (last : ReadingState) (asked : Asked) → completed words last ≡ Some asked →
     IsWhole last
 unfolding completed
 asked-whole words start asked h = absurd (cc)
@@ -127,7 +127,7 @@ asked-whole words (options subject given) asked h = tt
 asked-whole words (valued subject given key) asked h = absurd (cc)
 
 -- nor a positional word
-asked-enough : (name : Name) (words : List (List ℕ)) (given : Given) (asked : Asked) →
+asked-enough : (name : CommandName) (words : List (List ℕ)) (given : Given) (asked : Asked) →
     asked_by name words given ≡ Some asked → fewest name ≤ length words
 asked-enough names.Machine [] given asked h = absurd (cc)
 asked-enough names.Machine (w ∷ ws) given asked h = omega arith
@@ -169,7 +169,7 @@ positional-are : (first : List ℕ) (more later : List (List ℕ)) →
 positional-are first more later =
     take-append-le (length more) more later (omega arith) ∙ take-length more
 
-placing-asks : (name : Name) (words : List (List ℕ)) (last : State) (asked : Asked) →
+placing-asks : (name : CommandName) (words : List (List ℕ)) (last : ReadingState) (asked : Asked) →
     completed (word_of name ∷ words) last ≡ Some asked → Placing (bare name) words last →
     Asks (word_of name ∷ words) asked
 placing-asks name words last asked done p =
@@ -198,7 +198,7 @@ placing-asks name words last asked done p =
     }
 
 -- what is read is asked
-pub reads-sound : (words : List (List ℕ)) (last : State) (asked : Asked) → reads start words ≡ Some last →
+pub reads-sound : (words : List (List ℕ)) (last : ReadingState) (asked : Asked) → reads start words ≡ Some last →
     completed words last ≡ Some asked → Asks words asked
 reads-sound [] last asked h done =
     absurd (subst IsWhole (sym (none-left start last h)) (asked-whole [] last asked done))
@@ -219,7 +219,7 @@ pub record HasPositional (words : List (List ℕ)) (subject : Subject) : Type 0 
   pub each : list_all (is_positional subject.name) (positional_in subject.count words) ≡ true
   pub count : length (positional_in subject.count words) ≡ subject.count
 
-placing-positional : (name : Name) (words : List (List ℕ)) (last : State) (subject : Subject) →
+placing-positional : (name : CommandName) (words : List (List ℕ)) (last : ReadingState) (subject : Subject) →
     IsOf last subject → Placing (bare name) words last → HasPositional (word_of name ∷ words) subject
 placing-positional name words last subject of p = positional-of last of p.of
   where
@@ -240,14 +240,14 @@ placing-positional name words last subject of p = positional-of last of p.of
           count = ap (λ (ws : List (List ℕ)). length ws) are ∙ omega (arith, n);
         }
 
-    positional-of : (last : State) → IsOf last subject → IsOf last (grown (bare name) (length p.more)) →
+    positional-of : (last : ReadingState) → IsOf last subject → IsOf last (grown (bare name) (length p.more)) →
         HasPositional (word_of name ∷ words) subject
     positional-of start of same = absurd of
     positional-of (placed s) of same = of-subject (sym of ∙ same)
     positional-of (options s given) of same = of-subject (sym of ∙ same)
     positional-of (valued s given key) of same = of-subject (sym of ∙ same)
 
-pub positional-read : (words : List (List ℕ)) (last : State) (subject : Subject) →
+pub positional-read : (words : List (List ℕ)) (last : ReadingState) (subject : Subject) →
     reads start words ≡ Some last → IsWhole last → IsOf last subject → HasPositional words subject
 positional-read [] last subject h whole of = absurd (subst IsWhole (sym (none-left start last h)) whole)
 positional-read (word ∷ words) last subject h whole of =
@@ -275,7 +275,7 @@ places-read (word ∷ more) subject words each few =
 
 -- what words are read, and what they ask
 pub record Read (words : List (List ℕ)) (asked : Asked) : Type 0 where
-  pub last : State
+  pub last : ReadingState
   pub read : reads start words ≡ Some last
   pub done : completed words last ≡ Some asked
 
@@ -284,13 +284,13 @@ after-places : (subject : Subject) (settings : List Setting) (all : List (List �
     fewest subject.name ≤ subject.count → list_all (takes subject.name) settings ≡ true →
     Fresh nothing_given settings →
     asked_by subject.name (positional_in subject.count all) (put_all nothing_given settings) ≡ Some asked →
-    (last : State) × (reads (placed subject) (written settings) ≡ Some last) × (completed all last ≡ Some asked)
+    (last : ReadingState) × (reads (placed subject) (written settings) ≡ Some last) × (completed all last ≡ Some asked)
 unfolding completed
 after-places subject [] all asked enough taken fresh means = (placed subject, refl, means)
 after-places subject (setting ∷ settings) all asked enough taken fresh means =
     let rest : List (List ℕ) = value_words setting ++ written settings in (
       options subject (put_all nothing_given (setting ∷ settings)),
-      ap (λ (o : Option State). after o (λ later. reads later rest))
+      ap (λ (o : Option ReadingState). after o (λ later. reads later rest))
           (first-option subject (key_of setting) enough)
           ∙ settings-read (setting ∷ settings) subject nothing_given taken fresh,
       means,

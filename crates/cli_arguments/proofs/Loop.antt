@@ -3,7 +3,7 @@ use Rattle.std.proofs.Common.{◌≡◌, ◌≤◌, ◌<◌, ◌+◌, ℕ, List,
 use Rattle.std.specs.Option.{ok_or}
 use Rattle.std.proofs.lemmas.List.{get_or-map, length-map, length-take-le, take_more, take_all}
 use Rattle.cli_arguments.specs.Words.{Asked, Asks, IsBadAt, IsBounded}
-use Rattle.cli_arguments.specs.Reading.{State, start, follow, completed}
+use Rattle.cli_arguments.specs.ArgumentReading.{ReadingState, start, follow, completed}
 use Rattle.cli_arguments.proofs.InTurn.{after, reads, reads-append}
 use Rattle.cli_arguments.proofs.Bounds.{asks-bounded}
 use Rattle.cli_arguments.proofs.Grammar.{reads-sound}
@@ -19,7 +19,7 @@ word-at bytes items index item inside at =
 
 -- a word that has no place
 pub stops : {X : Type 0} → (bytes : X →
-    List ℕ) (items : List X) (index count : ℕ) (item : X) (state : State) (word : List ℕ) →
+    List ℕ) (items : List X) (index count : ℕ) (item : X) (state : ReadingState) (word : List ℕ) →
     index < length items → item ≡ get_or items index item → count ≡ index →
     reads start (take count (map bytes items)) ≡ Some state → word ≡ bytes item →
     None ≡ follow state word →
@@ -33,7 +33,7 @@ stops bytes items index count item state word inside at counted h word-is none =
 
 -- a word that has a place
 pub goes-on : {X : Type 0} → (bytes : X →
-    List ℕ) (items : List X) (index count : ℕ) (item : X) (state later : State)
+    List ℕ) (items : List X) (index count : ℕ) (item : X) (state later : ReadingState)
     (word : List ℕ) → index < length items → item ≡ get_or items index item → count ≡ index →
     reads start (take count (map bytes items)) ≡ Some state → word ≡ bytes item →
     Some later ≡ follow state word →
@@ -47,11 +47,11 @@ goes-on bytes items index count item state later word inside at counted h word-i
     ap (λ (ws : List (List ℕ)). reads start ws)
     (take_more (map bytes items) count [] (omega (arith, length-map items bytes)))
     ∙ (reads-append start (take count (map bytes items)) (get_or (map bytes items) count [] ∷ [])
-    ∙ (ap (λ (o : Option State). after o (λ s. reads s (get_or (map bytes items) count [] ∷ []))) h
-    ∙ ap (λ (o : Option State). after o (λ s. reads s [])) f))
+    ∙ (ap (λ (o : Option ReadingState). after o (λ s. reads s (get_or (map bytes items) count [] ∷ []))) h
+    ∙ ap (λ (o : Option ReadingState). after o (λ s. reads s [])) f))
 
 -- the count of words stays small
-pub count-few : {X : Type 0} → (bytes : X → List ℕ) (items : List X) (count : ℕ) (state : State) →
+pub count-few : {X : Type 0} → (bytes : X → List ℕ) (items : List X) (count : ℕ) (state : ReadingState) →
     count ≤ length items → reads start (take count (map bytes items)) ≡ Some state → count ≤ 22
 count-few bytes items count state inside h =
     let f : length (take count (map bytes items)) ≤ 22 = few-read (take count (map bytes items)) state
@@ -70,7 +70,7 @@ answers-bounded words asks (Err index) answers = tt
 
 -- after the last word
 pub ends : {X C : Type 0} → (bytes : X →
-    List ℕ) (items : List X) (count : ℕ) (state : State) (asks : C → Asked)
+    List ℕ) (items : List X) (count : ℕ) (state : ReadingState) (asks : C → Asked)
     (found : Option C) → count ≡ length items → reads start (take count (map bytes items)) ≡ Some state →
     option_map asks found ≡ completed (map bytes items) state →
     MatchResult (ok_or found count) (λ command. Asks (map bytes items) (asks command))

@@ -1,14 +1,14 @@
 -- Which states are reached, and how many words lead there: twenty-two at most.
 use Rattle.std.proofs.Common.{◌≡◌, ◌≤◌, ◌+◌, ℕ, List, [], ◌∷◌, length, Bool, true, false, refl, arith, Option, Some, None, inl, inr, ◌||◌, sym, ◌∙◌, subst, ap}
 use Rattle.std.proofs.lemmas.Bool.Decides.{nat_tests}
-use Rattle.cli_arguments.specs.declared.names.Name.{Name}
-use Rattle.cli_arguments.specs.declared.names.Name.TheVariants as names
+use Rattle.cli_arguments.specs.declared.names.CommandName.{CommandName}
+use Rattle.cli_arguments.specs.declared.names.CommandName.TheVariants as names
 use Rattle.cli_arguments.specs.declared.options.Key.{Key}
 use Rattle.cli_arguments.specs.declared.options.Key.TheVariants as keys
 use Rattle.cli_arguments.specs.declared.reading.Subject.{Subject}
 use Rattle.cli_arguments.specs.Commands.{fewest, most}
 use Rattle.cli_arguments.specs.Options.{key_of, takes_key, Setting, limit_to, show_lines, show_sites, script_from, seed_from, with_mul, with_run, Given}
-use Rattle.cli_arguments.specs.Reading.{State, start, placed, options, valued, follow, after_key, has_key, is_there, nothing_given}
+use Rattle.cli_arguments.specs.ArgumentReading.{ReadingState, start, placed, options, valued, follow, after_key, has_key, is_there, nothing_given}
 use Rattle.cli_arguments.proofs.Steps.{put, start-read, place-tests, placed-read, option-read, value-read}
 use Rattle.cli_arguments.proofs.InTurn.{reads, reads-split, none-left}
 
@@ -25,7 +25,7 @@ pub record HasPlaces (subject : Subject) : Type 0 where
 
 -- which states are reached: not too many positional words, enough before the options, and an option of the command
 -- that has a value and has not occurred before
-abbrev pub Reached : State → Type 0
+abbrev pub Reached : ReadingState → Type 0
 Reached start = Unit {0}
 Reached (placed subject) = subject.count ≤ most subject.name
 Reached (options subject given) = HasPlaces subject
@@ -43,13 +43,13 @@ reached-key keys.Seed subject given places taken fresh = (places, taken, refl, f
 reached-key keys.Mul subject given places taken fresh = places
 reached-key keys.Run subject given places taken fresh = places
 
-reached-option : (subject : Subject) (given : Given) (word : List ℕ) (later : State) → HasPlaces subject →
+reached-option : (subject : Subject) (given : Given) (word : List ℕ) (later : ReadingState) → HasPlaces subject →
     follow (options subject given) word ≡ Some later → Reached later
 reached-option subject given word later places h =
     let r = option-read subject given word later h in
     subst Reached (sym r.after_is) (reached-key r.key subject given places r.taken r.fresh)
 
-reached-next : (state : State) (word : List ℕ) (later : State) → Reached state →
+reached-next : (state : ReadingState) (word : List ℕ) (later : ReadingState) → Reached state →
     follow state word ≡ Some later → Reached later
 reached-next start word later reached h =
     let r = start-read word later h in subst Reached (sym r.after_is) (omega arith)
@@ -65,7 +65,7 @@ reached-next (options subject given) word later reached h =
 reached-next (valued subject given key) word later reached h =
     let r = value-read key subject given word later h in subst Reached (sym r.after_is) reached.0
 
-pub reached-last : (words : List (List ℕ)) (state last : State) → Reached state →
+pub reached-last : (words : List (List ℕ)) (state last : ReadingState) → Reached state →
     reads state words ≡ Some last → Reached last
 reached-last [] state last reached h = subst Reached (none-left state last h) reached
 reached-last (word ∷ words) state last reached h =
@@ -86,7 +86,7 @@ given_size given =
     size_of given.limit + (size_of given.show + (size_if 2 given.sites + (size_of given.schedule
     + (size_if 1 given.mul + size_if 1 given.run))))
 
-abbrev size : State → ℕ
+abbrev size : ReadingState → ℕ
 size start = 0
 size (placed subject) = 1 + subject.count
 size (options subject given) = 1 + (subject.count + given_size given)
@@ -126,14 +126,14 @@ size-value (seed_from digits) subject given value fresh = omega (arith, not-ther
 size-value with_mul subject given value fresh = absurd (cc)
 size-value with_run subject given value fresh = absurd (cc)
 
-size-option : (subject : Subject) (given : Given) (word : List ℕ) (later : State) →
+size-option : (subject : Subject) (given : Given) (word : List ℕ) (later : ReadingState) →
     follow (options subject given) word ≡ Some later →
     size later ≡ size (options subject given) + 1
 size-option subject given word later h =
     let r = option-read subject given word later h in
     ap size r.after_is ∙ size-key r.key subject given r.fresh
 
-size-next : (state : State) (word : List ℕ) (later : State) → Reached state →
+size-next : (state : ReadingState) (word : List ℕ) (later : ReadingState) → Reached state →
     follow state word ≡ Some later → size later ≡ size state + 1
 size-next start word later reached h = let r = start-read word later h in ap size r.after_is
 size-next (placed subject) word later reached h = elim (placed-read subject word later h) [
@@ -149,7 +149,7 @@ size-next (valued subject given key) word later reached h =
     (sym r.key_is) reached.3 in
     ap size r.after_is ∙ size-value r.setting subject given v f
 
-size-last : (words : List (List ℕ)) (state last : State) → Reached state → reads state words ≡ Some last →
+size-last : (words : List (List ℕ)) (state last : ReadingState) → Reached state → reads state words ≡ Some last →
     size last ≡ size state + length words
 size-last [] state last reached h = let s = ap size (none-left state last h) in omega (arith, s)
 size-last (word ∷ words) state last reached h =
@@ -160,18 +160,18 @@ size-last (word ∷ words) state last reached h =
     omega arith
 
 -- the words that were read are as many as its state says
-pub words-read : (words : List (List ℕ)) (last : State) → reads start words ≡ Some last →
+pub words-read : (words : List (List ℕ)) (last : ReadingState) → reads start words ≡ Some last →
     size last ≡ length words
 words-read words last h = let s = size-last words start last tt h in omega (arith, s)
 
 -- so there are at least as many words as a command and its positional words have
-abbrev pub Stands : ℕ → State → Type 0
+abbrev pub Stands : ℕ → ReadingState → Type 0
 Stands length start = Unit {0}
 Stands length (placed subject) = 1 + subject.count ≤ length
 Stands length (options subject given) = 1 + subject.count ≤ length
 Stands length (valued subject given key) = 1 + subject.count ≤ length
 
-pub stands : (state : State) (n : ℕ) → size state ≡ n → Stands n state
+pub stands : (state : ReadingState) (n : ℕ) → size state ≡ n → Stands n state
 stands start n h = tt
 stands (placed subject) n h = omega (arith, h)
 stands (options subject given) n h = omega (arith, h)
@@ -185,7 +185,7 @@ size-if-few : (n : ℕ) (b : Bool) → size_if n b ≤ n
 size-if-few n true = omega arith
 size-if-few n false = omega arith
 
-most-few : (name : Name) → most name ≤ 10
+most-few : (name : CommandName) → most name ≤ 10
 most-few names.Machine = omega arith
 most-few names.Run = omega arith
 most-few names.Moves = omega arith
@@ -212,7 +212,7 @@ given-few given = omega (
   size-if-few 1 given.run,
 )
 
-size-few : (state : State) → Reached state → size state ≤ 22
+size-few : (state : ReadingState) → Reached state → size state ≤ 22
 size-few start reached = omega arith
 size-few (placed subject) reached = omega (arith, reached, most-few subject.name)
 size-few (options subject given) reached =
@@ -221,7 +221,7 @@ size-few (valued subject given key) reached =
     omega (arith, reached.0.few, most-few subject.name, given-few given)
 
 -- no more words can be read
-pub few-read : (words : List (List ℕ)) (last : State) → reads start words ≡ Some last → length words ≤ 22
+pub few-read : (words : List (List ℕ)) (last : ReadingState) → reads start words ≡ Some last → length words ≤ 22
 few-read words last h =
     let s = words-read words last h in
     omega (arith, s, size-few last (reached-last words start last tt h))

@@ -6,7 +6,7 @@ use Rattle.cli_arguments.specs.declared.options.Key.{Key}
 use Rattle.cli_arguments.specs.declared.options.Key.TheVariants as keys
 use Rattle.cli_arguments.specs.declared.reading.Subject.{Subject}
 use Rattle.cli_arguments.specs.Options.{key_word, show_word, key_of, value_words, written, takes_key, is_value, takes, Matter, limits, showing, schedules, multiplies, running, matter_of, Without, NoneTwice, Setting, limit_to, show_lines, show_sites, script_from, seed_from, with_mul, with_run, Given, given_in}
-use Rattle.cli_arguments.specs.Reading.{State, start, placed, options, valued, after_key, has_key, is_settled, is_there, nothing_given}
+use Rattle.cli_arguments.specs.ArgumentReading.{ReadingState, start, placed, options, valued, after_key, has_key, is_settled, is_there, nothing_given}
 use Rattle.cli_arguments.proofs.InTurn.{reads, reads-split, reads-step, none-left}
 use Rattle.cli_arguments.proofs.Steps.{put, option-read, value-read, option-follows, limit-follows, lines-follow, sites-follow, script-follows, seed-follows}
 
@@ -223,27 +223,27 @@ pub put-given : (settings : List Setting) → Fresh nothing_given settings →
 put-given settings fresh = put-joined settings nothing_given fresh
 
 -- no value is missing
-abbrev pub IsWhole : State → Type 0
+abbrev pub IsWhole : ReadingState → Type 0
 IsWhole start = ⊥
 IsWhole (placed subject) = Unit {0}
 IsWhole (options subject given) = Unit {0}
 IsWhole (valued subject given key) = ⊥
 
 -- the words after the positional ones, as a list of options
-pub record Tail (subject : Subject) (given : Given) (words : List (List ℕ)) (last : State) : Type 0 where
+pub record Tail (subject : Subject) (given : Given) (words : List (List ℕ)) (last : ReadingState) : Type 0 where
   pub settings : List Setting
   pub words_are : words ≡ written settings
   pub taken : list_all (takes subject.name) settings ≡ true
   pub fresh : Fresh given settings
   pub last_is : last ≡ options subject (put_all given settings)
 
-tail-none : (subject : Subject) (given : Given) (last : State) →
+tail-none : (subject : Subject) (given : Given) (last : ReadingState) →
     reads (options subject given) [] ≡ Some last → Tail subject given [] last
 tail-none subject given last h =
     record { settings = []; words_are = refl; taken = refl; fresh = tt; last_is = cc }
 
 -- one more option before the others
-tail-more : (subject : Subject) (given : Given) (setting : Setting) (words : List (List ℕ)) (last : State) →
+tail-more : (subject : Subject) (given : Given) (setting : Setting) (words : List (List ℕ)) (last : ReadingState) →
     takes_key subject.name (key_of setting) ≡ true → is_value subject.name setting ≡ true →
     has_key given (key_of setting) ≡ false → Tail subject (put given setting) words last →
     Tail subject given (key_word (key_of setting) ∷ (value_words setting ++ words)) last
@@ -257,7 +257,7 @@ tail-more subject given setting words last taken allowed fresh tail = record {
 }
 
 -- an option with a value: what the words after its own word are
-tail-valued : (key : Key) (subject : Subject) (given : Given) (words : List (List ℕ)) (last : State) →
+tail-valued : (key : Key) (subject : Subject) (given : Given) (words : List (List ℕ)) (last : ReadingState) →
     takes_key subject.name key ≡ true → has_key given key ≡ false →
     reads (valued subject given key) words ≡ Some last → IsWhole last →
     ((value : List ℕ) (later : List (List ℕ)) → words ≡ value ∷ later → (more : Given) →
@@ -282,7 +282,7 @@ tail-valued key subject given (value ∷ words) last taken fresh h whole later =
     subst (λ k. Tail subject given (key_word k ∷ (value_words v.setting ++ words)) last) v.key_is m in
     subst (λ (ws : List (List ℕ)). Tail subject given (key_word key ∷ (ws ++ words)) last) v.word_is m1
 
-tail-keyed : (key : Key) (subject : Subject) (given : Given) (words : List (List ℕ)) (last : State) →
+tail-keyed : (key : Key) (subject : Subject) (given : Given) (words : List (List ℕ)) (last : ReadingState) →
     takes_key subject.name key ≡ true → has_key given key ≡ false →
     reads (after_key subject given key) words ≡ Some last → IsWhole last →
     ((more : Given) → reads (options subject more) words ≡ Some last → Tail subject more words last) →
@@ -302,7 +302,7 @@ tail-keyed keys.Mul subject given words last taken fresh h whole next later =
 tail-keyed keys.Run subject given words last taken fresh h whole next later =
     tail-more subject given with_run words last taken refl fresh (next (put given with_run) h)
 
-tail-word : (subject : Subject) (given : Given) (word : List ℕ) (words : List (List ℕ)) (last : State) →
+tail-word : (subject : Subject) (given : Given) (word : List ℕ) (words : List (List ℕ)) (last : ReadingState) →
     reads (options subject given) (word ∷ words) ≡ Some last → IsWhole last →
     ((more : Given) → reads (options subject more) words ≡ Some last → Tail subject more words last) →
     ((value : List ℕ) (later : List (List ℕ)) → words ≡ value ∷ later → (more : Given) →
@@ -317,7 +317,7 @@ tail-word subject given word words last h whole next later =
     tail-keyed k.key subject given words last k.taken k.fresh r whole next later in
     subst (λ (w : List ℕ). Tail subject given (w ∷ words) last) (sym k.word_is) t
 
-pub tail-read : (words : List (List ℕ)) (subject : Subject) (given : Given) (last : State) →
+pub tail-read : (words : List (List ℕ)) (subject : Subject) (given : Given) (last : ReadingState) →
     reads (options subject given) words ≡ Some last → IsWhole last → Tail subject given words last
 tail-read [] subject given last h whole = tail-none subject given last h
 tail-read (word ∷ []) subject given last h whole =

@@ -5,14 +5,14 @@ use Rattle.std.specs.Str.Parse.{digits_value}
 use Rattle.std.proofs.lemmas.Bool.Decides.{nat_tests}
 use Rattle.run_options.specs.Limits.{most_limit}
 use Rattle.run_options.specs.declared.show.Show.{Show}
-use Rattle.cli_arguments.specs.declared.names.Name.{Name}
+use Rattle.cli_arguments.specs.declared.names.CommandName.{CommandName}
 use Rattle.cli_arguments.specs.declared.options.Key.{Key}
 use Rattle.cli_arguments.specs.declared.options.Key.TheVariants as keys
 use Rattle.cli_arguments.specs.declared.reading.Subject.{Subject}
 use Rattle.cli_arguments.specs.Values.{is_file_name, is_number, count_in}
 use Rattle.cli_arguments.specs.Commands.{word_of, fewest, most, counts, is_positional}
 use Rattle.cli_arguments.specs.Options.{key_word, show_word, key_of, value_words, takes_key, has_lines, has_sites, is_value, most_seed, Setting, limit_to, show_lines, show_sites, script_from, seed_from, with_mul, with_run, by_script, by_seed, Given}
-use Rattle.cli_arguments.specs.Reading.{State, start, placed, options, valued, bare, one_more, follow, when, after_name, after_key, after_option, after_value, has_place, has_key, is_text, with_value, with_limit, with_seed, with_lines, name_in, key_in, lines_in, number_in, nothing_given}
+use Rattle.cli_arguments.specs.ArgumentReading.{ReadingState, start, placed, options, valued, bare, one_more, follow, when, after_name, after_key, after_option, after_value, has_place, has_key, is_text, with_value, with_limit, with_seed, with_lines, name_in, key_in, lines_in, number_in, nothing_given}
 use Rattle.cli_arguments.proofs.Texts.{is-text, name-read, name-written, key-read, key-written, lines-read, lines-written, lines-no-sites}
 
 -- what is given with one more option
@@ -44,22 +44,22 @@ true-both true false g h = refl
 true-both false b g h = absurd (cc)
 
 -- the command's word
-pub record NameRead (word : List ℕ) (later : State) : Type 0 where
-  pub name : Name
+pub record NameRead (word : List ℕ) (later : ReadingState) : Type 0 where
+  pub name : CommandName
   pub word_is : word ≡ word_of name
   pub after_is : later ≡ placed (bare name)
 
-name-found : (found : Option Name) (word : List ℕ) (later : State) → name_in word ≡ found →
+name-found : (found : Option CommandName) (word : List ℕ) (later : ReadingState) → name_in word ≡ found →
     after_name found ≡ Some later → NameRead word later
 name-found None word later e h = absurd (cc)
 name-found (Some name) word later e h =
     record { name = name; word_is = name-read word name e; after_is = cc }
 
-pub start-read : (word : List ℕ) (later : State) → follow start word ≡ Some later → NameRead word later
+pub start-read : (word : List ℕ) (later : ReadingState) → follow start word ≡ Some later → NameRead word later
 unfolding follow
 start-read word later h = name-found (name_in word) word later refl h
 
-pub start-follows : (name : Name) → follow start (word_of name) ≡ Some (placed (bare name))
+pub start-follows : (name : CommandName) → follow start (word_of name) ≡ Some (placed (bare name))
 unfolding follow
 start-follows name = rw (name-written name) refl
 
@@ -81,7 +81,7 @@ pub tests-place : (subject : Subject) (word : List ℕ) → subject.count < most
 tests-place subject word room h =
     let b : nat_lt subject.count (most subject.name) ≡ true = grind (arith, nat_tests) in rw (b, h) refl
 
-place-tried : (has enough : Bool) (subject : Subject) (word : List ℕ) (later : State) →
+place-tried : (has enough : Bool) (subject : Subject) (word : List ℕ) (later : ReadingState) →
     has_place subject word ≡ has → nat_le (fewest subject.name) subject.count ≡ enough →
     (if has then Some (placed (one_more subject))
     else if enough then after_option subject nothing_given (key_in word) else None) ≡ Some later →
@@ -92,7 +92,7 @@ place-tried true enough subject word later e f h = inl (e, cc)
 place-tried false true subject word later e f h = inr (f, h)
 place-tried false false subject word later e f h = absurd (cc)
 
-pub placed-read : (subject : Subject) (word : List ℕ) (later : State) →
+pub placed-read : (subject : Subject) (word : List ℕ) (later : ReadingState) →
     follow (placed subject) word ≡ Some later →
     ((has_place subject word ≡ true) × (later ≡ placed (one_more subject)))
     ⊎ ((nat_le (fewest subject.name) subject.count ≡ true)
@@ -130,7 +130,7 @@ key-tried : (numbers : Bool) (key : Key) →
 key-tried true key = key-no-count key
 key-tried false key = key-no-file key
 
-key-no-positional : (name : Name) (key : Key) → is_positional name (key_word key) ≡ false
+key-no-positional : (name : CommandName) (key : Key) → is_positional name (key_word key) ≡ false
 unfolding is_positional
 key-no-positional name key = key-tried (counts name) key
 
@@ -151,14 +151,14 @@ first-option subject key enough =
     rw (key-no-place subject key, b) refl
 
 -- an option's own word
-pub record KeyRead (subject : Subject) (given : Given) (word : List ℕ) (later : State) : Type 0 where
+pub record KeyRead (subject : Subject) (given : Given) (word : List ℕ) (later : ReadingState) : Type 0 where
   pub key : Key
   pub word_is : word ≡ key_word key
   pub taken : takes_key subject.name key ≡ true
   pub fresh : has_key given key ≡ false
   pub after_is : later ≡ after_key subject given key
 
-key-found : (found : Option Key) (subject : Subject) (given : Given) (word : List ℕ) (later : State) →
+key-found : (found : Option Key) (subject : Subject) (given : Given) (word : List ℕ) (later : ReadingState) →
     key_in word ≡ found → after_option subject given found ≡ Some later →
     KeyRead subject given word later
 key-found None subject given word later e h = absurd (cc)
@@ -168,7 +168,7 @@ key-found (Some key) subject given word later e h =
     let b = both-true (takes_key subject.name key) (has_key given key) w.0 in
     record { key = key; word_is = key-read word key e; taken = b.0; fresh = b.1; after_is = w.1 }
 
-pub option-read : (subject : Subject) (given : Given) (word : List ℕ) (later : State) →
+pub option-read : (subject : Subject) (given : Given) (word : List ℕ) (later : ReadingState) →
     follow (options subject given) word ≡ Some later → KeyRead subject given word later
 unfolding follow
 option-read subject given word later h = key-found (key_in word) subject given word later refl h
@@ -183,7 +183,7 @@ option-follows subject given key taken fresh =
     (true-both (takes_key subject.name key) (has_key given key) taken fresh))
 
 -- an option's value
-pub record ValueRead (subject : Subject) (given : Given) (key : Key) (word : List ℕ) (later : State) :
+pub record ValueRead (subject : Subject) (given : Given) (key : Key) (word : List ℕ) (later : ReadingState) :
     Type 0 where
   pub setting : Setting
   pub key_is : key_of setting ≡ key
@@ -201,7 +201,7 @@ number-test : (most : ℕ) (word : List ℕ) (number : ℕ) → number_in most w
 unfolding number_in
 number-test most word number h = if-some (is_number most word) (digits_value 10 word) number h
 
-limit-found : (found : Option ℕ) (subject : Subject) (given : Given) (word : List ℕ) (later : State) →
+limit-found : (found : Option ℕ) (subject : Subject) (given : Given) (word : List ℕ) (later : ReadingState) →
     number_in most_limit word ≡ found → after_value subject (with_limit given found) ≡ Some later →
     ValueRead subject given keys.Limit word later
 limit-found None subject given word later e h = absurd (cc)
@@ -209,7 +209,7 @@ limit-found (Some number) subject given word later e h =
     let n = number-test most_limit word number e in
     record { setting = limit_to word; key_is = refl; word_is = refl; allowed = n.0; after_is = cc (n.1) }
 
-lines-tested : (b : Bool) (subject : Subject) (given : Given) (word : List ℕ) (later : State)
+lines-tested : (b : Bool) (subject : Subject) (given : Given) (word : List ℕ) (later : ReadingState)
     (lines : Show) →
     lines_in word ≡ Some lines → has_lines subject.name lines ≡ b →
     after_value subject (when b (record given { show = Some lines })) ≡ Some later →
@@ -225,7 +225,7 @@ lines-tested true subject given word later lines e t h =
     }
 lines-tested false subject given word later lines e t h = absurd (cc)
 
-sites-tested : (b : Bool) (subject : Subject) (given : Given) (word : List ℕ) (later : State) →
+sites-tested : (b : Bool) (subject : Subject) (given : Given) (word : List ℕ) (later : ReadingState) →
     is_text word (codes "sites") ≡ true → has_sites subject.name ≡ b →
     after_value subject (when b (record given { sites = true })) ≡ Some later →
     ValueRead subject given keys.Show word later
@@ -239,7 +239,7 @@ sites-tested true subject given word later e t h =
     }
 sites-tested false subject given word later e t h = absurd (cc)
 
-lines-found : (found : Option Show) (subject : Subject) (given : Given) (word : List ℕ) (later : State) →
+lines-found : (found : Option Show) (subject : Subject) (given : Given) (word : List ℕ) (later : ReadingState) →
     lines_in word ≡ found →
     after_value subject (with_lines subject.name given found) ≡ Some later →
     ValueRead subject given keys.Show word later
@@ -247,7 +247,7 @@ lines-found None subject given word later e h = absurd (cc)
 lines-found (Some lines) subject given word later e h =
     lines-tested (has_lines subject.name lines) subject given word later lines e refl h
 
-shown-found : (sites : Bool) (subject : Subject) (given : Given) (word : List ℕ) (later : State) →
+shown-found : (sites : Bool) (subject : Subject) (given : Given) (word : List ℕ) (later : ReadingState) →
     is_text word (codes "sites") ≡ sites →
     after_value subject (if sites then when (has_sites subject.name) (record given { sites = true })
     else with_lines subject.name given (lines_in word)) ≡ Some later →
@@ -257,7 +257,7 @@ shown-found true subject given word later e h =
 shown-found false subject given word later e h =
     lines-found (lines_in word) subject given word later refl h
 
-script-tested : (b : Bool) (subject : Subject) (given : Given) (word : List ℕ) (later : State) →
+script-tested : (b : Bool) (subject : Subject) (given : Given) (word : List ℕ) (later : ReadingState) →
     is_file_name word ≡ b →
     after_value subject (when b (record given { schedule = Some (by_script word) })) ≡ Some later →
     ValueRead subject given keys.Script word later
@@ -265,7 +265,7 @@ script-tested true subject given word later t h =
     record { setting = script_from word; key_is = refl; word_is = refl; allowed = t; after_is = cc }
 script-tested false subject given word later t h = absurd (cc)
 
-seed-found : (found : Option ℕ) (subject : Subject) (given : Given) (word : List ℕ) (later : State) →
+seed-found : (found : Option ℕ) (subject : Subject) (given : Given) (word : List ℕ) (later : ReadingState) →
     number_in most_seed word ≡ found → after_value subject (with_seed given found) ≡ Some later →
     ValueRead subject given keys.Seed word later
 seed-found None subject given word later e h = absurd (cc)
@@ -273,7 +273,7 @@ seed-found (Some number) subject given word later e h =
     let n = number-test most_seed word number e in
     record { setting = seed_from word; key_is = refl; word_is = refl; allowed = n.0; after_is = cc (n.1) }
 
-pub value-read : (key : Key) (subject : Subject) (given : Given) (word : List ℕ) (later : State) →
+pub value-read : (key : Key) (subject : Subject) (given : Given) (word : List ℕ) (later : ReadingState) →
     follow (valued subject given key) word ≡ Some later → ValueRead subject given key word later
 unfolding follow with_value
 value-read keys.Limit subject given word later h =

@@ -4,13 +4,13 @@ use Rattle.std.specs.Prelude.{if◌then◌else◌}
 use lib.Pointwise.{bytes_decides}
 use Rattle.run_options.specs.declared.show.Show.{Show}
 use Rattle.run_options.specs.declared.show.Show.TheVariants as shows
-use Rattle.cli_arguments.specs.declared.names.Name.{Name}
-use Rattle.cli_arguments.specs.declared.names.Name.TheVariants as names
+use Rattle.cli_arguments.specs.declared.names.CommandName.{CommandName}
+use Rattle.cli_arguments.specs.declared.names.CommandName.TheVariants as names
 use Rattle.cli_arguments.specs.declared.options.Key.{Key}
 use Rattle.cli_arguments.specs.declared.options.Key.TheVariants as keys
 use Rattle.cli_arguments.specs.Commands.{word_of}
 use Rattle.cli_arguments.specs.Options.{key_word, show_word}
-use Rattle.cli_arguments.specs.Reading.{is_text, name_in, key_in, lines_in}
+use Rattle.cli_arguments.specs.ArgumentReading.{is_text, name_in, key_in, lines_in}
 
 -- a word that passes the test is the text
 pub is-text : (word text : List ℕ) → is_text word text ≡ true → word ≡ text
@@ -32,7 +32,7 @@ first-named {T} word text written here others same later name = by (is_text word
 none-named : {T : Type 0} (word : List ℕ) (written : T → List ℕ) (name : T) → None ≡ Some name → word ≡ written name
 none-named word written name h = absurd (cc)
 
-pub name-read : (word : List ℕ) (name : Name) → name_in word ≡ Some name → word ≡ word_of name
+pub name-read : (word : List ℕ) (name : CommandName) → name_in word ≡ Some name → word ≡ word_of name
 unfolding name_in
 name-read word =
     first-named word (codes "machine") word_of names.Machine _ refl
@@ -51,7 +51,7 @@ name-read word =
     (first-named word (codes "--version") word_of names.Version _ refl
     (none-named word word_of))))))))))))))
 
-pub name-written : (name : Name) → name_in (word_of name) ≡ Some name
+pub name-written : (name : CommandName) → name_in (word_of name) ≡ Some name
 unfolding name_in
 name-written names.Machine = refl
 name-written names.Run = refl

@@ -1,11 +1,11 @@
 -- The commands of the project's command line: the first word of each, and how many positional words follow it.
 use Rattle.std.specs.Prelude.{ℕ, List, codes, Bool, true, false, is_some, if◌then◌else◌}
-use Rattle.cli_arguments.specs.declared.names.Name.{Name}
-use Rattle.cli_arguments.specs.declared.names.Name.TheVariants as names
+use Rattle.cli_arguments.specs.declared.names.CommandName.{CommandName}
+use Rattle.cli_arguments.specs.declared.names.CommandName.TheVariants as names
 use Rattle.cli_arguments.specs.Values.{is_file_name, count_in}
 
 -- the first word of each command
-abbrev pub word_of : Name → List ℕ
+abbrev pub word_of : CommandName → List ℕ
 word_of names.Machine = codes "machine"
 word_of names.Run = codes "run"
 word_of names.Moves = codes "moves"
@@ -22,7 +22,7 @@ word_of names.HelpOption = codes "--help"
 word_of names.Version = codes "--version"
 
 -- how many positional words a command has at least
-abbrev pub fewest : Name → ℕ
+abbrev pub fewest : CommandName → ℕ
 fewest names.Machine = 1
 fewest names.Run = 2
 fewest names.Moves = 2
@@ -39,7 +39,7 @@ fewest names.HelpOption = 0
 fewest names.Version = 0
 
 -- and how many at most: `time` may have seven more layouts, and no other command may have more words than it needs
-abbrev pub most : Name → ℕ
+abbrev pub most : CommandName → ℕ
 most names.Time = 10
 most names.Machine = 1
 most names.Run = 2
@@ -56,10 +56,10 @@ most names.HelpOption = 0
 most names.Version = 0
 
 -- whether its positional words are numbers, and not the names of files
-abbrev pub counts : Name → Bool
+abbrev pub counts : CommandName → Bool
 counts names.Gen = true
 counts _ = false
 
 -- a word that may stand among the positional words of a command
-unfoldable pub is_positional : Name → List ℕ → Bool
+unfoldable pub is_positional : CommandName → List ℕ → Bool
 is_positional name word = if counts name then is_some (count_in word) else is_file_name word

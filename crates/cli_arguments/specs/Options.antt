@@ -4,8 +4,8 @@ use Rattle.std.specs.Str.Parse.{digits_value}
 use Rattle.run_options.specs.Limits.{most_limit}
 use Rattle.run_options.specs.declared.show.Show.{Show}
 use Rattle.run_options.specs.declared.show.Show.TheVariants as shows
-use Rattle.cli_arguments.specs.declared.names.Name.{Name}
-use Rattle.cli_arguments.specs.declared.names.Name.TheVariants as names
+use Rattle.cli_arguments.specs.declared.names.CommandName.{CommandName}
+use Rattle.cli_arguments.specs.declared.names.CommandName.TheVariants as names
 use Rattle.cli_arguments.specs.declared.options.Key.{Key}
 use Rattle.cli_arguments.specs.declared.options.Key.TheVariants as keys
 use Rattle.cli_arguments.specs.Values.{is_file_name, is_number}
@@ -61,7 +61,7 @@ written [] = []
 written (setting ∷ settings) = key_word (key_of setting) ∷ (value_words setting ++ written settings)
 
 -- the options of each command
-abbrev pub takes_key : Name → Key → Bool
+abbrev pub takes_key : CommandName → Key → Bool
 takes_key names.Machine keys.Limit = true
 takes_key names.Machine keys.Show = true
 takes_key names.Machine keys.Mul = true
@@ -78,14 +78,14 @@ takes_key names.Gen keys.Run = true
 takes_key _ _ = false
 
 -- what each command can show of a run: only a run of the processor has moves
-abbrev pub has_lines : Name → Show → Bool
+abbrev pub has_lines : CommandName → Show → Bool
 has_lines names.Run lines = true
 has_lines names.Machine shows.Report = true
 has_lines names.Machine shows.Retired = true
 has_lines _ _ = false
 
 -- whether a command can show what a time is made of
-abbrev pub has_sites : Name → Bool
+abbrev pub has_sites : CommandName → Bool
 has_sites names.Time = true
 has_sites _ = false
 
@@ -98,7 +98,7 @@ abbrev pub most_seed : ℕ
 most_seed = 4294967295
 
 -- a value that the option may have
-abbrev pub is_value : Name → Setting → Bool
+abbrev pub is_value : CommandName → Setting → Bool
 is_value name (limit_to digits) = is_number most_limit digits
 is_value name (show_lines lines) = has_lines name lines
 is_value name show_sites = has_sites name
@@ -108,7 +108,7 @@ is_value name with_mul = true
 is_value name with_run = true
 
 -- the command has the option, and it may have that value
-abbrev pub takes : Name → Setting → Bool
+abbrev pub takes : CommandName → Setting → Bool
 takes name setting = takes_key name (key_of setting) && is_value name setting
 
 -- what options settle

@@ -5,8 +5,8 @@ use lib.Pointwise.{pointwise}
 use Rattle.run_options.specs.Limits.{most_limit}
 use Rattle.run_options.specs.declared.show.Show.{Show}
 use Rattle.run_options.specs.declared.show.Show.TheVariants as shows
-use Rattle.cli_arguments.specs.declared.names.Name.{Name}
-use Rattle.cli_arguments.specs.declared.names.Name.TheVariants as names
+use Rattle.cli_arguments.specs.declared.names.CommandName.{CommandName}
+use Rattle.cli_arguments.specs.declared.names.CommandName.TheVariants as names
 use Rattle.cli_arguments.specs.declared.options.Key.{Key}
 use Rattle.cli_arguments.specs.declared.options.Key.TheVariants as keys
 use Rattle.cli_arguments.specs.declared.reading.Subject.{Subject}
@@ -20,7 +20,7 @@ abbrev pub is_text : List ℕ → List ℕ → Bool
 is_text word text = pointwise nat_eq word text
 
 -- the command that a word names
-unfoldable pub name_in : List ℕ → Option Name
+unfoldable pub name_in : List ℕ → Option CommandName
 name_in word =
     if is_text word (codes "machine") then Some names.Machine
     else if is_text word (codes "run") then Some names.Run
@@ -85,11 +85,11 @@ has_key given key = is_settled given (matter_of key)
 
 -- what is known after the words that were read: nothing yet, a command with that many positional words, options after
 -- them, or an option whose value comes next
-pub data State : Type 0 where
-  start : State
-  placed : Subject → State
-  options : Subject → Given → State
-  valued : Subject → Given → Key → State
+pub data ReadingState : Type 0 where
+  start : ReadingState
+  placed : Subject → ReadingState
+  options : Subject → Given → ReadingState
+  valued : Subject → Given → Key → ReadingState
 
 -- something under a condition
 abbrev pub when : {A : Type 0} → Bool → A → Option A
@@ -97,19 +97,19 @@ when true x = Some x
 when false x = None
 
 -- a command without positional words yet, and the command with one more
-abbrev pub bare : Name → Subject
+abbrev pub bare : CommandName → Subject
 bare name = record { name = name; count = 0 }
 
 abbrev pub one_more : Subject → Subject
 one_more subject = record { name = subject.name; count = subject.count + 1 }
 
 -- after the first word
-abbrev pub after_name : Option Name → Option State
+abbrev pub after_name : Option CommandName → Option ReadingState
 after_name None = None
 after_name (Some name) = Some (placed (bare name))
 
 -- after an option's own word
-abbrev pub after_key : Subject → Given → Key → State
+abbrev pub after_key : Subject → Given → Key → ReadingState
 after_key subject given keys.Limit = valued subject given keys.Limit
 after_key subject given keys.Show = valued subject given keys.Show
 after_key subject given keys.Script = valued subject given keys.Script
@@ -118,7 +118,7 @@ after_key subject given keys.Mul = options subject (record given { mul = true })
 after_key subject given keys.Run = options subject (record given { run = true })
 
 -- the same, where the command has the option and what it settles is not settled yet
-abbrev pub after_option : Subject → Given → Option Key → Option State
+abbrev pub after_option : Subject → Given → Option Key → Option ReadingState
 after_option subject given None = None
 after_option subject given (Some key) =
     when (takes_key subject.name key && not (has_key given key)) (after_key subject given key)
@@ -128,19 +128,19 @@ abbrev pub has_place : Subject → List ℕ → Bool
 has_place subject word = nat_lt subject.count (most subject.name) && is_positional subject.name word
 
 -- after one more positional word, or after the first option's own word where there are enough of them
-abbrev pub after_place : Subject → List ℕ → Option State
+abbrev pub after_place : Subject → List ℕ → Option ReadingState
 after_place subject word =
     if has_place subject word then Some (placed (one_more subject))
     else if nat_le (fewest subject.name) subject.count then after_option subject nothing_given (key_in word)
     else None
 
 -- what is given with one more value: lines that the command can show
-abbrev pub with_lines : Name → Given → Option Show → Option Given
+abbrev pub with_lines : CommandName → Given → Option Show → Option Given
 with_lines name given None = None
 with_lines name given (Some lines) = when (has_lines name lines) (record given { show = Some lines })
 
 -- or what a time is made of
-abbrev pub with_shown : Name → Given → List ℕ → Option Given
+abbrev pub with_shown : CommandName → Given → List ℕ → Option Given
 with_shown name given word =
     if is_text word (codes "sites") then when (has_sites name) (record given { sites = true })
     else with_lines name given (lines_in word)
@@ -156,7 +156,7 @@ with_seed given None = None
 with_seed given (Some seed) = Some (record given { schedule = Some (by_seed seed) })
 
 -- what is given with the value of an option
-unfoldable pub with_value : Name → Given → Key → List ℕ → Option Given
+unfoldable pub with_value : CommandName → Given → Key → List ℕ → Option Given
 with_value name given keys.Limit word = with_limit given (number_in most_limit word)
 with_value name given keys.Show word = with_shown name given word
 with_value name given keys.Script word =
@@ -166,12 +166,12 @@ with_value name given keys.Mul word = None
 with_value name given keys.Run word = None
 
 -- after an option's value
-abbrev pub after_value : Subject → Option Given → Option State
+abbrev pub after_value : Subject → Option Given → Option ReadingState
 after_value subject None = None
 after_value subject (Some given) = Some (options subject given)
 
 -- what is known after one more word, which has no place where there is no answer
-unfoldable pub follow : State → List ℕ → Option State
+unfoldable pub follow : ReadingState → List ℕ → Option ReadingState
 follow start word = after_name (name_in word)
 follow (placed subject) word = after_place subject word
 follow (options subject given) word = after_option subject given (key_in word)
@@ -182,7 +182,7 @@ abbrev pub positional_in : ℕ → List (List ℕ) → List (List ℕ)
 positional_in count words = take count (drop 1 words)
 
 -- what is asked where no word is left, or nothing where one is missing
-unfoldable pub completed : List (List ℕ) → State → Option Asked
+unfoldable pub completed : List (List ℕ) → ReadingState → Option Asked
 completed words start = None
 completed words (placed subject) = asked_by subject.name (positional_in subject.count words) nothing_given
 completed words (options subject given) = asked_by subject.name (positional_in subject.count words) given

@@ -3,15 +3,15 @@ use Rattle.std.specs.Prelude.{map, string_bytes, option_map}
 use Rattle.cli_arguments.specs.declared.options.Options.{Options}
 use Rattle.cli_arguments.specs.declared.options.Schedule as rust_schedule
 use Rattle.cli_arguments.specs.declared.options.Schedule.TheVariants as schedules
-use Rattle.cli_arguments.specs.declared.reading.Reading as rust_reading
-use Rattle.cli_arguments.specs.declared.reading.Reading.TheVariants as readings
+use Rattle.cli_arguments.specs.declared.reading.ArgumentReading as rust_reading
+use Rattle.cli_arguments.specs.declared.reading.ArgumentReading.TheVariants as readings
 use Rattle.cli_arguments.specs.declared.command.Command.{Command}
 use Rattle.cli_arguments.specs.declared.command.Command.TheVariants as commands
 use Rattle.cli_arguments.specs.declared.command.LayoutWord.{LayoutWord}
 use Rattle.cli_arguments.specs.declared.command.LayoutWord.TheVariants as layout_words
 use Rattle.cli_arguments.specs.Options.{Schedule, by_script, by_seed, by_rule, Given}
-use Rattle.cli_arguments.specs.Words.{Layout, plain, in_file, layout_in, Asked, machine, run, moves, rounds, debug, time, audit, check, asm, listing, gen, help, version}
-use Rattle.cli_arguments.specs.Reading.{State, start, placed, options, valued}
+use Rattle.cli_arguments.specs.Words.{NamedLayout, plain, in_file, layout_in, Asked, machine, run, moves, rounds, debug, time, audit, check, asm, listing, gen, help, version}
+use Rattle.cli_arguments.specs.ArgumentReading.{ReadingState, start, placed, options, valued}
 
 -- what chooses the moves
 abbrev pub schedule_view : rust_schedule.Schedule → Schedule
@@ -31,14 +31,14 @@ given_of o = record {
 }
 
 -- what is known after the words that were read
-abbrev pub state_of : rust_reading.Reading → State
+abbrev pub state_of : rust_reading.ArgumentReading → ReadingState
 state_of readings.Start = start
 state_of (readings.Placed subject) = placed subject
 state_of (readings.Options subject given) = options subject (given_of given)
 state_of (readings.Value subject given key) = valued subject (given_of given) key
 
 -- where a layout is
-abbrev pub layout_of : LayoutWord → Layout
+abbrev pub layout_of : LayoutWord → NamedLayout
 layout_of layout_words.Plain = plain
 layout_of (layout_words.File name) = in_file name.now
 

@@ -6,15 +6,15 @@ use lib.Pointwise.{pointwise}
 use Rattle.run_options.specs.Limits.{most_limit, most_statements}
 use Rattle.run_options.specs.declared.show.Show.{Show}
 use Rattle.run_options.specs.declared.show.Show.TheVariants as shows
-use Rattle.cli_arguments.specs.declared.names.Name.{Name}
-use Rattle.cli_arguments.specs.declared.names.Name.TheVariants as names
+use Rattle.cli_arguments.specs.declared.names.CommandName.{CommandName}
+use Rattle.cli_arguments.specs.declared.names.CommandName.TheVariants as names
 use Rattle.cli_arguments.specs.Values.{count_in}
 use Rattle.cli_arguments.specs.Commands.{word_of, fewest, most, is_positional}
 use Rattle.cli_arguments.specs.Options.{Setting, written, takes, default_limit, NoneTwice, Schedule, by_rule, Given, given_in}
 
 -- the words are a command's, with its positional words and after them options of that command, which
 -- settle nothing twice
-pub record IsCommand (words : List (List ℕ)) (name : Name) (positional : List (List ℕ))
+pub record IsCommand (words : List (List ℕ)) (name : CommandName) (positional : List (List ℕ))
     (settings : List Setting) : Type 0 where
   pub words_are : words ≡ word_of name ∷ (positional ++ written settings)
   pub enough : fewest name ≤ length positional
@@ -24,24 +24,24 @@ pub record IsCommand (words : List (List ℕ)) (name : Name) (positional : List 
   pub none_twice : NoneTwice settings
 
 -- where a layout is: built in, or in a file
-pub data Layout : Type 0 where
-  plain : Layout
-  in_file : (name : List ℕ) → Layout
+pub data NamedLayout : Type 0 where
+  plain : NamedLayout
+  in_file : (name : List ℕ) → NamedLayout
 
 -- the word `plain` names the built-in layout, and any other word names a file
-abbrev pub layout_in : List ℕ → Layout
+abbrev pub layout_in : List ℕ → NamedLayout
 layout_in word = if pointwise nat_eq word (codes "plain") then plain else in_file word
 
 -- what words ask: a command, the files that they name, and what the options say
 pub data Asked : Type 0 where
   machine : (program : List ℕ) (limit : ℕ) (retired : Bool) (mul : Bool) → Asked
-  run : Layout → (program : List ℕ) → Schedule → (limit : ℕ) (lines : Show) → Asked
-  moves : Layout → (program : List ℕ) → Schedule → (limit : ℕ) → Asked
-  rounds : Layout → (program : List ℕ) (limit : ℕ) → Asked
-  debug : Layout → (program : List ℕ) → Asked
-  time : (delays : List ℕ) (program : List ℕ) (layouts : List Layout) (limit : ℕ) (sites : Bool) → Asked
-  audit : Layout → (program : List ℕ) (trace : List ℕ) → Asked
-  check : Layout → Asked
+  run : NamedLayout → (program : List ℕ) → Schedule → (limit : ℕ) (lines : Show) → Asked
+  moves : NamedLayout → (program : List ℕ) → Schedule → (limit : ℕ) → Asked
+  rounds : NamedLayout → (program : List ℕ) (limit : ℕ) → Asked
+  debug : NamedLayout → (program : List ℕ) → Asked
+  time : (delays : List ℕ) (program : List ℕ) (layouts : List NamedLayout) (limit : ℕ) (sites : Bool) → Asked
+  audit : NamedLayout → (program : List ℕ) (trace : List ℕ) → Asked
+  check : NamedLayout → Asked
   asm : (source : List ℕ) → Asked
   listing : (program : List ℕ) → Asked
   gen : (number : ℕ) (runs : Bool) → Asked
@@ -67,7 +67,7 @@ is_retired _ = false
 
 -- what a command asks with its positional words and what its options give; nothing where a word is missing, which for
 -- `moves` may be the script
-abbrev pub asked_by : Name → List (List ℕ) → Given → Option Asked
+abbrev pub asked_by : CommandName → List (List ℕ) → Given → Option Asked
 asked_by names.Machine (program ∷ []) given =
     Some (machine program (limit_of given) (is_retired (lines_of given)) given.mul)
 asked_by names.Run (layout ∷ program ∷ []) given =
@@ -91,7 +91,7 @@ asked_by _ _ _ = None
 
 -- the words are accepted, and ask this
 pub record Asks (words : List (List ℕ)) (asked : Asked) : Type 0 where
-  pub name : Name
+  pub name : CommandName
   pub positional : List (List ℕ)
   pub settings : List Setting
   pub command : IsCommand words name positional settings

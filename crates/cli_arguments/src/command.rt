@@ -1,16 +1,16 @@
 //! What the words of the command line ask.
-#![tactic(auto, unfolding(crate::specs::Reading::completed))]
+#![tactic(auto, unfolding(crate::specs::ArgumentReading::completed))]
 
 ghost use Rattle.std.specs.Prelude.{◌≡◌, ◌≤◌, [], ◌∷◌, IfOk, MatchResult, drop, length, map, string_bytes, option_map, take};
 ghost use Rattle.cli_arguments.specs.Options.{Given};
 ghost use Rattle.cli_arguments.specs.Words.{Asks, IsBadAt, IsBounded, asked_by, layout_in};
-ghost use Rattle.cli_arguments.specs.Reading.{completed};
+ghost use Rattle.cli_arguments.specs.ArgumentReading.{completed};
 ghost use Rattle.cli_arguments.specs.Views.{state_of, given_of, asked_of, layout_of};
 
-use crate::names::Name;
+use crate::names::CommandName;
 use crate::numbers::read_count;
 use crate::options::{Options, Schedule};
-use crate::reading::Reading;
+use crate::reading::ArgumentReading;
 use run_options::Show;
 
 /// The limit where `--limit` is not given.
@@ -137,23 +137,23 @@ impl<'a> LayoutWord<'a> {
 }
 
 /// A command without positional words.
-fn bare<'a>(name: Name) -> Option<Command<'a>>
+fn bare<'a>(name: CommandName) -> Option<Command<'a>>
     ensures { (given : Given) → option_map asked_of result ≡ asked_by name [] given }
 {
     match name {
-        Name::Help | Name::HelpOption => Some(Command::Help),
-        Name::Version => Some(Command::Version),
-        Name::Machine | Name::Run | Name::Moves | Name::Rounds | Name::Debug => None,
-        Name::Time | Name::Audit | Name::Check | Name::Asm | Name::List | Name::Gen => None,
+        CommandName::Help | CommandName::HelpOption => Some(Command::Help),
+        CommandName::Version => Some(Command::Version),
+        CommandName::Machine | CommandName::Run | CommandName::Moves | CommandName::Rounds | CommandName::Debug => None,
+        CommandName::Time | CommandName::Audit | CommandName::Check | CommandName::Asm | CommandName::List | CommandName::Gen => None,
     }
 }
 
 /// A command with one positional word.
-fn with_one<'a>(name: Name, word: &'a str, options: Options<'a>) -> Option<Command<'a>>
+fn with_one<'a>(name: CommandName, word: &'a str, options: Options<'a>) -> Option<Command<'a>>
     ensures { option_map asked_of result ≡ asked_by name (word.entry.now ∷ []) (given_of options.entry) }
 {
     match name {
-        Name::Machine => Some(Command::Machine {
+        CommandName::Machine => Some(Command::Machine {
             program: word,
             options: MachineOptions {
                 limit: options.limit.unwrap_or(DEFAULT_LIMIT),
@@ -161,26 +161,26 @@ fn with_one<'a>(name: Name, word: &'a str, options: Options<'a>) -> Option<Comma
                 mul: options.mul,
             },
         }),
-        Name::Check => Some(Command::Check {
+        CommandName::Check => Some(Command::Check {
             layout: LayoutWord::from_word(word),
         }),
-        Name::Asm => Some(Command::Asm { source: word }),
-        Name::List => Some(Command::List { program: word }),
-        Name::Gen => {
+        CommandName::Asm => Some(Command::Asm { source: word }),
+        CommandName::List => Some(Command::List { program: word }),
+        CommandName::Gen => {
             let number = read_count(word)?;
             Some(Command::Gen {
                 number,
                 run: options.run,
             })
         }
-        Name::Run | Name::Moves | Name::Rounds | Name::Debug | Name::Time | Name::Audit => None,
-        Name::Help | Name::HelpOption | Name::Version => None,
+        CommandName::Run | CommandName::Moves | CommandName::Rounds | CommandName::Debug | CommandName::Time | CommandName::Audit => None,
+        CommandName::Help | CommandName::HelpOption | CommandName::Version => None,
     }
 }
 
 /// A command with two: a layout and a program.
 fn with_two<'a>(
-    name: Name,
+    name: CommandName,
     layout: &'a str,
     program: &'a str,
     options: Options<'a>,
@@ -191,7 +191,7 @@ fn with_two<'a>(
     let layout = LayoutWord::from_word(layout);
     let limit = options.limit.unwrap_or(DEFAULT_LIMIT);
     match name {
-        Name::Run => Some(Command::Run {
+        CommandName::Run => Some(Command::Run {
             layout,
             program,
             options: RunOptions {
@@ -200,7 +200,7 @@ fn with_two<'a>(
                 show: options.show.unwrap_or(Show::Report),
             },
         }),
-        Name::Moves => {
+        CommandName::Moves => {
             let schedule = options.schedule?;
             Some(Command::Moves {
                 layout,
@@ -209,20 +209,20 @@ fn with_two<'a>(
                 limit,
             })
         }
-        Name::Rounds => Some(Command::Rounds {
+        CommandName::Rounds => Some(Command::Rounds {
             layout,
             program,
             limit,
         }),
-        Name::Debug => Some(Command::Debug { layout, program }),
-        Name::Machine | Name::Time | Name::Audit | Name::Check | Name::Asm | Name::List => None,
-        Name::Gen | Name::Help | Name::HelpOption | Name::Version => None,
+        CommandName::Debug => Some(Command::Debug { layout, program }),
+        CommandName::Machine | CommandName::Time | CommandName::Audit | CommandName::Check | CommandName::Asm | CommandName::List => None,
+        CommandName::Gen | CommandName::Help | CommandName::HelpOption | CommandName::Version => None,
     }
 }
 
 /// A command with three or more.
 fn with_more<'a>(
-    name: Name,
+    name: CommandName,
     first: &'a str,
     program: &'a str,
     others: &'a [String],
@@ -233,7 +233,7 @@ fn with_more<'a>(
         (first.entry.now ∷ program.entry.now ∷ map string_bytes others.entry.now) (given_of options.entry) }
 {
     match (name, others) {
-        (Name::Time, layouts) => Some(Command::Time {
+        (CommandName::Time, layouts) => Some(Command::Time {
             delays: first,
             program,
             layouts,
@@ -242,7 +242,7 @@ fn with_more<'a>(
                 sites: options.sites,
             },
         }),
-        (Name::Audit, [trace]) => Some(Command::Audit {
+        (CommandName::Audit, [trace]) => Some(Command::Audit {
             layout: LayoutWord::from_word(first),
             program,
             trace: trace.as_str(),
@@ -252,7 +252,7 @@ fn with_more<'a>(
 }
 
 /// A command with these positional words and options, or None where a word is missing.
-fn with_words<'a>(name: Name, positional: &'a [String], options: Options<'a>) -> Option<Command<'a>>
+fn with_words<'a>(name: CommandName, positional: &'a [String], options: Options<'a>) -> Option<Command<'a>>
     ensures { option_map asked_of result
         ≡ asked_by name (map string_bytes positional.entry.now) (given_of options.entry) }
 {
@@ -275,20 +275,20 @@ fn positional(words: &[String], count: usize) -> &[String]
 }
 
 /// What is asked where no word is left, or None where one is missing.
-#[tactic(auto, using(crate::proofs::Completions::mapped), unfolding(crate::specs::Reading::completed))]
-fn complete<'a>(words: &'a [String], reading: Reading<'a>) -> Option<Command<'a>>
+#[tactic(auto, using(crate::proofs::Completions::mapped), unfolding(crate::specs::ArgumentReading::completed))]
+fn complete<'a>(words: &'a [String], reading: ArgumentReading<'a>) -> Option<Command<'a>>
     ensures { option_map asked_of result ≡ completed (map string_bytes words.entry.now) (state_of reading.entry) }
 {
     match reading {
-        Reading::Placed(subject) => with_words(
+        ArgumentReading::Placed(subject) => with_words(
             subject.name,
             positional(words, subject.count),
             Options::new(),
         ),
-        Reading::Options(subject, options) => {
+        ArgumentReading::Options(subject, options) => {
             with_words(subject.name, positional(words, subject.count), options)
         }
-        Reading::Start | Reading::Value(..) => None,
+        ArgumentReading::Start | ArgumentReading::Value(..) => None,
     }
 }
 
@@ -299,7 +299,7 @@ pub fn read_words(words: &[String]) -> Result<Command<'_>, u32>
         (λ index. IsBadAt (map string_bytes words.now) index) }
     ensures bounded { IfOk result (λ command. IsBounded (asked_of command)) }
 {
-    let mut reading = Reading::Start;
+    let mut reading = ArgumentReading::Start;
     // No command has more than twenty-two words, so the index stays small.
     let mut index: u32 = 0;
     for word in words {

@@ -1,16 +1,16 @@
 //! The commands by their first words, and which positional words they have.
-#![tactic(auto, unfolding(crate::specs::Commands::is_positional, crate::specs::Reading::name_in))]
+#![tactic(auto, unfolding(crate::specs::Commands::is_positional, crate::specs::ArgumentReading::name_in))]
 
 ghost use Rattle.std.specs.Prelude.{◌≡◌};
 ghost use Rattle.cli_arguments.specs.Values.{is_file_name};
 ghost use Rattle.cli_arguments.specs.Commands.{fewest, most, counts, is_positional};
-ghost use Rattle.cli_arguments.specs.Reading.{name_in};
+ghost use Rattle.cli_arguments.specs.ArgumentReading.{name_in};
 
 use crate::numbers::read_count;
 
 /// The commands.
 #[derive(Clone, Copy)]
-pub(crate) enum Name {
+pub(crate) enum CommandName {
     Machine,
     Run,
     Moves,
@@ -27,26 +27,26 @@ pub(crate) enum Name {
     Version,
 }
 
-impl Name {
+impl CommandName {
     /// The command that begins with this word.
     pub(crate) fn from_word(word: &str) -> Option<Self>
         ensures { result ≡ name_in word.now }
     {
         match word {
-            "machine" => Some(Name::Machine),
-            "run" => Some(Name::Run),
-            "moves" => Some(Name::Moves),
-            "rounds" => Some(Name::Rounds),
-            "debug" => Some(Name::Debug),
-            "time" => Some(Name::Time),
-            "audit" => Some(Name::Audit),
-            "check" => Some(Name::Check),
-            "asm" => Some(Name::Asm),
-            "list" => Some(Name::List),
-            "gen" => Some(Name::Gen),
-            "help" => Some(Name::Help),
-            "--help" => Some(Name::HelpOption),
-            "--version" => Some(Name::Version),
+            "machine" => Some(CommandName::Machine),
+            "run" => Some(CommandName::Run),
+            "moves" => Some(CommandName::Moves),
+            "rounds" => Some(CommandName::Rounds),
+            "debug" => Some(CommandName::Debug),
+            "time" => Some(CommandName::Time),
+            "audit" => Some(CommandName::Audit),
+            "check" => Some(CommandName::Check),
+            "asm" => Some(CommandName::Asm),
+            "list" => Some(CommandName::List),
+            "gen" => Some(CommandName::Gen),
+            "help" => Some(CommandName::Help),
+            "--help" => Some(CommandName::HelpOption),
+            "--version" => Some(CommandName::Version),
             _ => None,
         }
     }
@@ -56,10 +56,10 @@ impl Name {
         ensures { result ≡ fewest self }
     {
         match self {
-            Name::Help | Name::HelpOption | Name::Version => 0,
-            Name::Machine | Name::Check | Name::Asm | Name::List | Name::Gen => 1,
-            Name::Run | Name::Moves | Name::Rounds | Name::Debug => 2,
-            Name::Time | Name::Audit => 3,
+            CommandName::Help | CommandName::HelpOption | CommandName::Version => 0,
+            CommandName::Machine | CommandName::Check | CommandName::Asm | CommandName::List | CommandName::Gen => 1,
+            CommandName::Run | CommandName::Moves | CommandName::Rounds | CommandName::Debug => 2,
+            CommandName::Time | CommandName::Audit => 3,
         }
     }
 
@@ -68,7 +68,7 @@ impl Name {
         ensures { result ≡ most self }
     {
         match self {
-            Name::Time => 10,
+            CommandName::Time => 10,
             name => name.fewest(),
         }
     }
@@ -77,7 +77,7 @@ impl Name {
     fn counts(self) -> bool
         ensures { result ≡ counts self }
     {
-        matches!(self, Name::Gen)
+        matches!(self, CommandName::Gen)
     }
 
     /// Whether a word may stand among its positional words.

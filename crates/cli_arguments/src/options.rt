@@ -1,12 +1,12 @@
 //! The options of the commands, and what they give.
-#![tactic(auto, unfolding(crate::specs::Reading::key_in, crate::specs::Reading::lines_in, crate::specs::Reading::with_value))]
+#![tactic(auto, unfolding(crate::specs::ArgumentReading::key_in, crate::specs::ArgumentReading::lines_in, crate::specs::ArgumentReading::with_value))]
 
 ghost use Rattle.std.specs.Prelude.{◌≡◌, option_map};
 ghost use Rattle.cli_arguments.specs.Options.{takes_key, has_lines};
-ghost use Rattle.cli_arguments.specs.Reading.{key_in, lines_in, has_key, nothing_given, with_shown, with_value};
+ghost use Rattle.cli_arguments.specs.ArgumentReading.{key_in, lines_in, has_key, nothing_given, with_shown, with_value};
 ghost use Rattle.cli_arguments.specs.Views.{given_of};
 
-use crate::names::{Name, is_file_name};
+use crate::names::{CommandName, is_file_name};
 use crate::numbers::read_number;
 use run_options::Show;
 
@@ -66,16 +66,16 @@ impl Key {
     }
 
     /// Whether a command has this option.
-    pub(crate) fn is_of(self, name: Name) -> bool
+    pub(crate) fn is_of(self, name: CommandName) -> bool
         ensures { result ≡ takes_key name self }
     {
         match (name, self) {
-            (Name::Machine, Key::Limit | Key::Show | Key::Mul) => true,
-            (Name::Run, Key::Limit | Key::Show | Key::Script | Key::Seed) => true,
-            (Name::Moves, Key::Limit | Key::Script) => true,
-            (Name::Rounds, Key::Limit) => true,
-            (Name::Time, Key::Limit | Key::Show) => true,
-            (Name::Gen, Key::Run) => true,
+            (CommandName::Machine, Key::Limit | Key::Show | Key::Mul) => true,
+            (CommandName::Run, Key::Limit | Key::Show | Key::Script | Key::Seed) => true,
+            (CommandName::Moves, Key::Limit | Key::Script) => true,
+            (CommandName::Rounds, Key::Limit) => true,
+            (CommandName::Time, Key::Limit | Key::Show) => true,
+            (CommandName::Gen, Key::Run) => true,
             _ => false,
         }
     }
@@ -94,12 +94,12 @@ fn lines_of(word: &str) -> Option<Show>
 }
 
 /// Whether a command can show this of a run: only a run of the processor has moves.
-fn can_show(name: Name, show: Show) -> bool
+fn can_show(name: CommandName, show: Show) -> bool
     ensures { result ≡ has_lines name show }
 {
     matches!(
         (name, show),
-        (Name::Run, _) | (Name::Machine, Show::Report | Show::Retired)
+        (CommandName::Run, _) | (CommandName::Machine, Show::Report | Show::Retired)
     )
 }
 
@@ -132,11 +132,11 @@ impl<'a> Options<'a> {
     }
 
     /// The options with what is to be shown, where the command has it.
-    fn with_shown(self, name: Name, word: &str) -> Option<Self>
+    fn with_shown(self, name: CommandName, word: &str) -> Option<Self>
         ensures { option_map given_of result ≡ with_shown name (given_of self.entry) word.now }
     {
         if word == "sites" {
-            return matches!(name, Name::Time).then_some(Options {
+            return matches!(name, CommandName::Time).then_some(Options {
                 sites: true,
                 ..self
             });
@@ -149,7 +149,7 @@ impl<'a> Options<'a> {
     }
 
     /// The options with the value of one more, where the command allows it.
-    pub(crate) fn with_value(self, name: Name, key: Key, word: &'a str) -> Option<Self>
+    pub(crate) fn with_value(self, name: CommandName, key: Key, word: &'a str) -> Option<Self>
         ensures { option_map given_of result ≡ with_value name (given_of self.entry) key word.entry.now }
     {
         match key {

@@ -1,23 +1,23 @@
 //! The words read one by one: what is known after each of them.
-#![tactic(auto, unfolding(crate::specs::Reading::follow))]
+#![tactic(auto, unfolding(crate::specs::ArgumentReading::follow))]
 
 ghost use Rattle.std.specs.Prelude.{◌≡◌, ◌+◌, ◌<◌, ◌^◌, option_map};
-ghost use Rattle.cli_arguments.specs.Reading.{follow, has_place, one_more, after_option, after_place, nothing_given};
+ghost use Rattle.cli_arguments.specs.ArgumentReading.{follow, has_place, one_more, after_option, after_place, nothing_given};
 ghost use Rattle.cli_arguments.specs.Views.{given_of, state_of};
 
-use crate::names::Name;
+use crate::names::CommandName;
 use crate::options::{Key, Options};
 
 /// A command with this many positional words.
 #[derive(Clone, Copy)]
 pub(crate) struct Subject {
-    pub(crate) name: Name,
+    pub(crate) name: CommandName,
     pub(crate) count: usize,
 }
 
 /// What is known after the words that were read.
 #[derive(Clone, Copy)]
-pub(crate) enum Reading<'a> {
+pub(crate) enum ArgumentReading<'a> {
     /// No word yet.
     Start,
     /// The command and the positional words that stood there.
@@ -53,7 +53,7 @@ fn after_subject<'a>(
     subject: Subject,
     options: Options<'a>,
     key: Option<Key>,
-) -> Option<Reading<'a>>
+) -> Option<ArgumentReading<'a>>
     ensures { option_map state_of result ≡ after_option subject (given_of options.entry) key }
 {
     let key = key?;
@@ -61,32 +61,32 @@ fn after_subject<'a>(
         return None;
     }
     match key {
-        Key::Mul => Some(Reading::Options(
+        Key::Mul => Some(ArgumentReading::Options(
             subject,
             Options {
                 mul: true,
                 ..options
             },
         )),
-        Key::Run => Some(Reading::Options(
+        Key::Run => Some(ArgumentReading::Options(
             subject,
             Options {
                 run: true,
                 ..options
             },
         )),
-        Key::Limit | Key::Show | Key::Script | Key::Seed => Some(Reading::Value(
+        Key::Limit | Key::Show | Key::Script | Key::Seed => Some(ArgumentReading::Value(
             subject, options, key,
         )),
     }
 }
 
 /// What is known after one more positional word, or after the first option's own word.
-fn after_place<'a>(subject: Subject, word: &'a str) -> Option<Reading<'a>>
+fn after_place<'a>(subject: Subject, word: &'a str) -> Option<ArgumentReading<'a>>
     ensures { option_map state_of result ≡ after_place subject word.entry.now }
 {
     if subject.has_place(word) {
-        return Some(Reading::Placed(subject.one_more()));
+        return Some(ArgumentReading::Placed(subject.one_more()));
     }
     if subject.name.fewest() > subject.count {
         return None;
@@ -94,23 +94,23 @@ fn after_place<'a>(subject: Subject, word: &'a str) -> Option<Reading<'a>>
     after_subject(subject, Options::new(), Key::from_word(word))
 }
 
-impl<'a> Reading<'a> {
+impl<'a> ArgumentReading<'a> {
     /// What is known after one more word, or None where that word has no place.
     pub(crate) fn follow(self, word: &'a str) -> Option<Self>
         ensures { option_map state_of result ≡ follow (state_of self.entry) word.entry.now }
     {
         match self {
-            Reading::Start => {
-                let name = Name::from_word(word)?;
-                Some(Reading::Placed(Subject { name, count: 0 }))
+            ArgumentReading::Start => {
+                let name = CommandName::from_word(word)?;
+                Some(ArgumentReading::Placed(Subject { name, count: 0 }))
             }
-            Reading::Placed(subject) => after_place(subject, word),
-            Reading::Options(subject, options) => {
+            ArgumentReading::Placed(subject) => after_place(subject, word),
+            ArgumentReading::Options(subject, options) => {
                 after_subject(subject, options, Key::from_word(word))
             }
-            Reading::Value(subject, options, key) => {
+            ArgumentReading::Value(subject, options, key) => {
                 let options = options.with_value(subject.name, key, word)?;
-                Some(Reading::Options(subject, options))
+                Some(ArgumentReading::Options(subject, options))
             }
         }
     }

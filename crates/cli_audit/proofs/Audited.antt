@@ -9,7 +9,7 @@ use Rattle.cf_audit.specs.Audits.{Audits, AgreesWithAll, IsAgreement, RetiresSeq
 use Rattle.cf_audit.specs.Turns.{input_tested}
 use Rattle.cli_files.specs.Causes.{files_answered, input_answered, output_answered}
 use Rattle.cli_files.specs.declared.status.Status.{Status}
-use Rattle.cli_audit.specs.Audit.{status_of, text_of, RetiresAsMachine, AnswersText, IsAccepted, AcceptsRuns, ComesOfTrace}
+use Rattle.cli_audit.specs.Audit.{status_of, text_of, RetiresAsMachine, AnswersText, AcceptsTrace, AcceptsRuns, ComesOfTrace}
 use Rattle.cli_audit.specs.Reports.{trace_of}
 
 -- the lines of a trace that agrees are those of the machine on whose hart the processor was opened
@@ -29,7 +29,7 @@ answers plan hart new text before after (found.Wrong number kind) (stop, wrong, 
     (record { stop = stop; wrong = wrong; input = stands.input }, refl)
 answers plan hart new text before after found.ReadFault stops lines = ((new, stops), refl)
 
-accepted : (n : ℕ) (a : Audit) → IsAgreement n a → IsAccepted n (status_of a) (text_of a)
+accepted : (n : ℕ) (a : Audit) → IsAgreement n a → AcceptsTrace n (status_of a) (text_of a)
 accepted n (found.Agrees m) same = ap trace_of same
 accepted n (found.Wrong number kind) h = h
 accepted n found.ReadFault h = tt

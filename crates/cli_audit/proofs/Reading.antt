@@ -1,6 +1,6 @@
 -- The files that `audit` reads.
 use Rattle.std.proofs.Common.{ℕ, List, [], ◌∷◌, ◌++◌, ◌⊎◌, ◌+◌, Option, inl, inr}
-use Rattle.cf_io.specs.Reads.{Told}
+use Rattle.cf_io.specs.ReadsFile.{FilesSeen}
 use Rattle.rv_machine.specs.Hart.{Hart}
 use Rattle.cf_layout.specs.Layout.{Plan}
 use Rattle.cli_files.specs.Loading.{LacksLoaded}
@@ -11,7 +11,7 @@ use Rattle.cli_audit.specs.Audit.{AuditAsked, AuditSide, ReadsTrace, StopsAtTrac
 use Rattle.cf_audit.specs.Limits.{most_trace}
 use Rattle.cli_audit.specs.Traces.{LacksTrace}
 
-trace-lacking : (name : List ℕ) (a b : Option Told) (answer : Status) (report : List ℕ) →
+trace-lacking : (name : List ℕ) (a b : Option FilesSeen) (answer : Status) (report : List ℕ) →
     LacksTrace name a b answer report → WereRead (name ∷ []) a b
 trace-lacking name a b answer report (inl r) = were-all (name ∷ []) a b (one-read (most_trace + 1) a b name r.text r.front)
 trace-lacking name a b answer report (inr r) = were-lacking _ _ name a b answer report r
@@ -19,14 +19,14 @@ trace-lacking name a b answer report (inr r) = were-lacking _ _ name a b answer 
 abbrev pub audit_files : AuditAsked → List (List ℕ)
 audit_files asked = (layout_files asked.layout ++ asked.program ∷ []) ++ asked.trace ∷ []
 
-trace-read : (asked : AuditAsked) (a b : Option Told) (plan : Plan) (hart : Hart) (text : List ℕ) →
+trace-read : (asked : AuditAsked) (a b : Option FilesSeen) (plan : Plan) (hart : Hart) (text : List ℕ) →
     ReadsTrace asked a b plan hart text → AllRead (audit_files asked) a b
 trace-read asked a b plan hart text r =
     more-read (layout_files asked.layout ++ asked.program ∷ []) (asked.trace ∷ []) a r.between b
     (loaded-read asked.layout asked.program a r.between plan hart r.loaded)
     (one-read (most_trace + 1) r.between b asked.trace text r.traced.front)
 
-trace-stops : (asked : AuditAsked) (a b : Option Told) (answer : Status) (report : List ℕ) →
+trace-stops : (asked : AuditAsked) (a b : Option FilesSeen) (answer : Status) (report : List ℕ) →
     StopsAtTrace asked a b answer report → WereRead (audit_files asked) a b
 trace-stops asked a b answer report s =
     were-after (layout_files asked.layout ++ asked.program ∷ []) (asked.trace ∷ []) a s.between b

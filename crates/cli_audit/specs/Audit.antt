@@ -1,6 +1,6 @@
 -- What the command `audit` answers, and what it leaves of the outside.
 use Rattle.std.specs.Prelude.{◌≡◌, ◌⊎◌, ℕ, List, codes, Option, Some, None}
-use Rattle.cf_io.specs.Reads.{Told}
+use Rattle.cf_io.specs.ReadsFile.{FilesSeen}
 use Rattle.rv_machine.specs.Hart.{Hart}
 use Rattle.rv_machine.specs.Streams.{Becomes}
 use Rattle.cf_layout.specs.Layout.{Plan}
@@ -12,7 +12,7 @@ use Rattle.run_scripts.specs.declared.trace_refusal.TraceKind.{TraceKind}
 use Rattle.cf_audit.specs.Audits.{RetiresAs}
 use Rattle.cf_audit.specs.Traces.{IsTrace, GoesWrong, StopsAtCall}
 use Rattle.texts.specs.Lines.{line}
-use Rattle.cli_arguments.specs.Words.{Layout}
+use Rattle.cli_arguments.specs.Words.{NamedLayout}
 use Rattle.cli_files.specs.Loading.{IsLoaded, LacksLoaded}
 use Rattle.cli_files.specs.Outside.{Outside}
 use Rattle.cli_files.specs.declared.status.Status.{Status}
@@ -25,19 +25,19 @@ use Rattle.cli_audit.specs.Traces.{IsTraceAt, LacksTrace}
 
 -- what the words ask of `audit`: where the layout is, and the files with the program and the trace
 pub record AuditAsked : Type 0 where
-  pub layout : Layout
+  pub layout : NamedLayout
   pub program : List ℕ
   pub trace : List ℕ
 
-abbrev pub audit_asked : Layout → List ℕ → List ℕ → AuditAsked
+abbrev pub audit_asked : NamedLayout → List ℕ → List ℕ → AuditAsked
 audit_asked layout program trace = record { layout = layout; program = program; trace = trace }
 
 -- what `audit` deals with at one moment: the files, and what is left of the program's input
 pub record AuditSide : Type 0 where
-  pub files : Option Told
+  pub files : Option FilesSeen
   pub input : Option (List ℕ)
 
-abbrev pub side : Option Told → Option (List ℕ) → AuditSide
+abbrev pub side : Option FilesSeen → Option (List ℕ) → AuditSide
 side files input = record { files = files; input = input }
 
 abbrev pub side_of : Outside → AuditSide
@@ -93,16 +93,16 @@ AnswersText plan hart text before after status.NoMemory report =
 AnswersText plan hart text before after _ report = ⊥
 
 -- the answer for the trace of a run of n moves, unless the input fails or memory is refused
-abbrev pub IsAccepted : ℕ → Status → List ℕ → Type 0
-IsAccepted n status.Done report = report ≡ trace_of n
-IsAccepted n (status.BadTrace why) report = ⊥
-IsAccepted n _ report = Unit {0}
+abbrev pub AcceptsTrace : ℕ → Status → List ℕ → Type 0
+AcceptsTrace n status.Done report = report ≡ trace_of n
+AcceptsTrace n (status.BadTrace why) report = ⊥
+AcceptsTrace n _ report = Unit {0}
 
 -- over an input that tells what it has left, each trace of a run is answered in this way
 abbrev pub AcceptsRuns : Plan → Hart → List ℕ → Option (List ℕ) → Status → List ℕ → Type 0
 AcceptsRuns plan hart text None answer report = Unit {0}
 AcceptsRuns plan hart text (Some rest) answer report =
-    (n : ℕ) (last : Moment) → IsTrace (opened plan hart) (Some rest) text n last → IsAccepted n answer report
+    (n : ℕ) (last : Moment) → IsTrace (opened plan hart) (Some rest) text n last → AcceptsTrace n answer report
 
 -- what comes of a layout, a hart and a text
 pub record ComesOfTrace (plan : Plan) (hart : Hart) (text : List ℕ) (before after : Option (List ℕ))
@@ -111,9 +111,9 @@ pub record ComesOfTrace (plan : Plan) (hart : Hart) (text : List ℕ) (before af
   pub accepts : AcceptsRuns plan hart text before answer report
 
 -- layout, program and trace were read, in this order
-pub record ReadsTrace (asked : AuditAsked) (before after : Option Told) (plan : Plan) (hart : Hart)
+pub record ReadsTrace (asked : AuditAsked) (before after : Option FilesSeen) (plan : Plan) (hart : Hart)
     (text : List ℕ) : Type 0 where
-  pub between : Option Told
+  pub between : Option FilesSeen
   pub loaded : IsLoaded asked.layout asked.program before between plan hart
   pub traced : IsTraceAt asked.trace between after text
 
@@ -127,11 +127,11 @@ pub record AuditsTrace (asked : AuditAsked) (before after : AuditSide) (answer :
   pub comes : ComesOfTrace plan hart text before.input after.input answer report
 
 -- the layout and the program are there, and the trace is not
-pub record StopsAtTrace (asked : AuditAsked) (before after : Option Told) (answer : Status)
+pub record StopsAtTrace (asked : AuditAsked) (before after : Option FilesSeen) (answer : Status)
     (report : List ℕ) : Type 0 where
   pub plan : Plan
   pub hart : Hart
-  pub between : Option Told
+  pub between : Option FilesSeen
   pub loaded : IsLoaded asked.layout asked.program before between plan hart
   pub lacks : LacksTrace asked.trace between after answer report
 

@@ -1,6 +1,6 @@
 -- The trace that a file holds, and why it holds none.
 use Rattle.std.specs.Prelude.{◌≡◌, ◌<◌, ◌≤◌, ◌+◌, ◌⊎◌, ℕ, List, length, codes, Option}
-use Rattle.cf_io.specs.Reads.{Told}
+use Rattle.cf_io.specs.ReadsFile.{FilesSeen}
 use Rattle.cf_audit.specs.Limits.{most_trace}
 use Rattle.cli_files.specs.Files.{IsFrontOf, LacksBytes}
 use Rattle.cli_files.specs.declared.status.Status.{Status}
@@ -10,12 +10,12 @@ use Rattle.cli_files.specs.declared.status.Which.TheVariants as which
 use Rattle.report_refusals.specs.Traces.{bad_trace}
 
 -- the file's first bytes, one more than a trace may have, are not too many, and are this text
-pub record IsTraceAt (name : List ℕ) (before after : Option Told) (text : List ℕ) : Type 0 where
+pub record IsTraceAt (name : List ℕ) (before after : Option FilesSeen) (text : List ℕ) : Type 0 where
   pub front : IsFrontOf (most_trace + 1) before after name text
   pub fits : length text ≤ most_trace
 
 -- they are too many
-pub record IsTooLong (name : List ℕ) (before after : Option Told) (answer : Status)
+pub record TraceTooLong (name : List ℕ) (before after : Option FilesSeen) (answer : Status)
     (report : List ℕ) : Type 0 where
   pub text : List ℕ
   pub front : IsFrontOf (most_trace + 1) before after name text
@@ -24,7 +24,7 @@ pub record IsTooLong (name : List ℕ) (before after : Option Told) (answer : St
   pub reports : report ≡ bad_trace fault.TooLong
 
 -- why the file of this name gives no trace, the status that says so, and the report
-abbrev pub LacksTrace : List ℕ → Option Told → Option Told → Status → List ℕ → Type 0
+abbrev pub LacksTrace : List ℕ → Option FilesSeen → Option FilesSeen → Status → List ℕ → Type 0
 LacksTrace name before after answer report =
-    IsTooLong name before after answer report
+    TraceTooLong name before after answer report
     ⊎ LacksBytes which.Trace (codes "read fault trace") name before after answer report

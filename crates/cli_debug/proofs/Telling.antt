@@ -4,22 +4,22 @@ use Rattle.cf_io.specs.Puts.{Writes}
 use Rattle.cf_io.proofs.Owing.{writes-again}
 use Rattle.cf_debug.specs.declared.answer.Debugged.{Debugged}
 use Rattle.cf_debug.specs.declared.answer.Debugged.TheVariants.{Done, Limit, ReadFault, WriteFault, ReportFault}
-use Rattle.cf_debug.specs.Replies.{Desk}
-use Rattle.cf_debug.specs.Sessions.{AnswersWhole, Ends, EndsAtFault, EndsAtLast, EndsAtLimit, EndsAtLine, EndsSession, Session}
+use Rattle.cf_debug.specs.Replies.{DebuggerState}
+use Rattle.cf_debug.specs.Sessions.{AnswersWhole, LineLeaves, EndsAtFault, EndsAtLast, EndsAtLimit, EndsAtLine, EndsSession, Session}
 
 -- the session with the report beside it
 abbrev pub reporting : Session → List ℕ → Session
 reporting s told = record s { report = Some told }
 
 -- this was put to the report, and the session ends in the same way over an empty one
-pub record Tells (before after : Session) (begin new : Desk) (ended : Debugged) : Type 0 where
+pub record Tells (before after : Session) (begin new : DebuggerState) (ended : Debugged) : Type 0 where
   pub lines : List ℕ
   pub put : Writes before.report after.report lines
   pub ends : EndsSession (reporting before []) (reporting after lines) begin new ended
 
 -- by `end`
-tells-end : (before after : Session) (begin new : Desk) → EndsAtLine before after begin new Done → Tells before after begin new Done
-unfolding Ends EndsSession
+tells-end : (before after : Session) (begin new : DebuggerState) → EndsAtLine before after begin new Done → Tells before after begin new Done
+unfolding LineLeaves EndsSession
 tells-end before after begin new e =
     let text : List ℕ = e.answers.0 in
     record {
@@ -39,7 +39,7 @@ tells-end before after begin new e =
     }
 
 -- at the end of the commands
-tells-last : (before after : Session) (begin new : Desk) → EndsAtLast before after begin new → Tells before after begin new Done
+tells-last : (before after : Session) (begin new : DebuggerState) → EndsAtLast before after begin new → Tells before after begin new Done
 unfolding EndsSession
 tells-last before after begin new e = record {
   lines = e.answers.0;
@@ -56,7 +56,7 @@ tells-last before after begin new e = record {
 }
 
 -- the whole lines, over an empty report
-whole : (bytes : List ℕ) (begin now : Desk) (written after : Option (List ℕ)) (a : AnswersWhole bytes begin now written after) →
+whole : (bytes : List ℕ) (begin now : DebuggerState) (written after : Option (List ℕ)) (a : AnswersWhole bytes begin now written after) →
     AnswersWhole bytes begin now (Some []) (Some a.answers.0)
 whole bytes begin now written after a = record {
   lines = a.lines;
@@ -66,7 +66,7 @@ whole bytes begin now written after a = record {
 }
 
 -- where a take failed
-tells-fault : (before after : Session) (begin new : Desk) → EndsAtFault before after begin new → Tells before after begin new ReadFault
+tells-fault : (before after : Session) (begin new : DebuggerState) → EndsAtFault before after begin new → Tells before after begin new ReadFault
 unfolding EndsSession
 tells-fault before after begin new e = record {
   lines = e.answers.answers.0;
@@ -79,7 +79,7 @@ tells-fault before after begin new e = record {
 }
 
 -- at the limit
-tells-limit : (before after : Session) (begin new : Desk) → EndsAtLimit before after begin new → Tells before after begin new Limit
+tells-limit : (before after : Session) (begin new : DebuggerState) → EndsAtLimit before after begin new → Tells before after begin new Limit
 unfolding EndsSession
 tells-limit before after begin new e = record {
   lines = e.answers.answers.0;
@@ -94,8 +94,8 @@ tells-limit before after begin new e = record {
 }
 
 -- where the output failed
-tells-output : (before after : Session) (begin new : Desk) → EndsAtLine before after begin new WriteFault → Tells before after begin new WriteFault
-unfolding Ends EndsSession
+tells-output : (before after : Session) (begin new : DebuggerState) → EndsAtLine before after begin new WriteFault → Tells before after begin new WriteFault
+unfolding LineLeaves EndsSession
 tells-output before after begin new e =
     let text : List ℕ = e.answers.0 in
     let more : List ℕ = e.ends.0 in
@@ -115,7 +115,7 @@ tells-output before after begin new e =
       };
     }
 
-pub tells : (before after : Session) (begin new : Desk) (ended : Debugged) → ended ≢ ReportFault →
+pub tells : (before after : Session) (begin new : DebuggerState) (ended : Debugged) → ended ≢ ReportFault →
     EndsSession before after begin new ended → Tells before after begin new ended
 unfolding EndsSession
 tells before after begin new Done works (inl e) = tells-end before after begin new e

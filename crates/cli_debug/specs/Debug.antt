@@ -7,10 +7,10 @@ use Rattle.cf_semantics.specs.moves.Kept.{Kept}
 use Rattle.cf_core.specs.Processors.{Processor, opened}
 use Rattle.cf_debug.specs.declared.answer.Debugged.{Debugged}
 use Rattle.cf_debug.specs.declared.answer.Debugged.TheVariants.{Done, Limit, ReadFault, WriteFault, ReportFault}
-use Rattle.cf_debug.specs.Making.{bench_of}
+use Rattle.cf_debug.specs.Making.{processor_state}
 use Rattle.cf_debug.specs.Sessions.{Debugs, StaysOnRun, session_of}
 use Rattle.texts.specs.Lines.{line}
-use Rattle.cli_arguments.specs.Words.{Layout}
+use Rattle.cli_arguments.specs.Words.{NamedLayout}
 use Rattle.cli_files.specs.Loading.{IsLoaded, LacksLoaded}
 use Rattle.cli_files.specs.Memory.{LacksProcessor}
 use Rattle.cli_files.specs.Outside.{Outside}
@@ -40,8 +40,8 @@ pub record HasSession (plan : Plan) (hart : Hart) (before after : Streams) (blan
     (ended : Debugged) : Type 0 where
   pub last : Processor
   pub kept : List Kept
-  pub session : Debugs (session_of (bench_of (opened plan hart) [] before.output) before.input blank)
-      (session_of (bench_of last kept after.output) after.input full) ended
+  pub session : Debugs (session_of (processor_state (opened plan hart) [] before.output) before.input blank)
+      (session_of (processor_state last kept after.output) after.input full) ended
   pub on_run : StaysOnRun (opened plan hart) last ended
 
 -- a session took place; this is the whole report: the answers to its commands, and after them how it ended
@@ -64,7 +64,7 @@ abbrev pub BreaksSession : Plan → Hart → (before after : Streams) → (blank
 BreaksSession plan hart before after blank full = HasSession plan hart before after blank full ReportFault
 
 -- the layout and the program are there, and this came of them
-pub record DebugsProgram (layout : Layout) (program : List ℕ) (before after : Outside) (answer : Status)
+pub record DebugsProgram (layout : NamedLayout) (program : List ℕ) (before after : Outside) (answer : Status)
     (report : List ℕ) : Type 0 where
   pub plan : Plan
   pub hart : Hart
@@ -72,18 +72,18 @@ pub record DebugsProgram (layout : Layout) (program : List ℕ) (before after : 
   pub comes : ComesOfCommands plan hart before.streams after.streams answer report
 
 -- one of them is missing, and the streams were left alone
-pub record RefusesDebug (layout : Layout) (program : List ℕ) (before after : Outside) (answer : Status)
+pub record RefusesDebug (layout : NamedLayout) (program : List ℕ) (before after : Outside) (answer : Status)
     (report : List ℕ) : Type 0 where
   pub lacks : LacksLoaded layout program before.files after.files answer report
   pub streams : after.streams ≡ before.streams
 
 -- the answer of `debug` and its report
-abbrev pub AnswersDebug : Layout → List ℕ → Outside → Outside → Status → List ℕ → Type 0
+abbrev pub AnswersDebug : NamedLayout → List ℕ → Outside → Outside → Status → List ℕ → Type 0
 AnswersDebug layout program before after answer report =
     DebugsProgram layout program before after answer report ⊎ RefusesDebug layout program before after answer report
 
 -- both are there, and the report failed during the session
-pub record BreaksDebug (layout : Layout) (program : List ℕ) (before after : Outside)
+pub record BreaksDebug (layout : NamedLayout) (program : List ℕ) (before after : Outside)
     (blank full : Option (List ℕ)) : Type 0 where
   pub plan : Plan
   pub hart : Hart

@@ -7,7 +7,7 @@ ghost use Rattle.rv_machine.specs.Streams.{streams_of};
 ghost use Rattle.cli_arguments.specs.Views.{layout_of};
 ghost use Rattle.cf_debug.specs.declared.answer.Debugged.TheVariants.{ReportFault};
 ghost use Rattle.cli_files.specs.Causes.{input_answered, output_answered};
-ghost use Rattle.cli_files.specs.Deciding.{Counts, Decides, files_decided};
+ghost use Rattle.cli_files.specs.Deciding.{FaultsCounted, Decides, files_decided};
 ghost use Rattle.cli_files.specs.Outside.{outside_of};
 ghost use Rattle.cli_debug.specs.Debug.{AnswersDebug, BreaksDebug, BreaksSession, ComesOfCommands, status_of as status_for, closing_of as closing_for};
 
@@ -55,8 +55,8 @@ fn debug_loaded<S: Source, K: Sink, R: Sink>(
         (streams_of (S.left input.new) (K.written output.new)) (R.written report.old) (R.written report.new))
         (R.written report.old) (R.written report.new) result }
     ensures files { files_decided result ≡ Ok tt }
-    ensures input { Counts input_answered (S.faults input.old) (S.faults input.new) result }
-    ensures output { Counts output_answered (K.faults output.old) (K.faults output.new) result }
+    ensures input { FaultsCounted input_answered (S.faults input.old) (S.faults input.new) result }
+    ensures output { FaultsCounted output_answered (K.faults output.old) (K.faults output.new) result }
     ensures report { HasCause (R.faults report.old) (R.faults report.new) result }
 {
     let Ok(mut candidates) = Candidates::new(alloc) else {
@@ -105,8 +105,8 @@ pub fn debug_program<F: Files, S: Source, K: Sink, R: Sink>(
         (K.written output.new) (K.faults output.new)) (R.written report.old) (R.written report.new))
         (R.written report.old) (R.written report.new) result }
     ensures files { HasCause (F.faults files.old) (F.faults files.new) (files_decided result) }
-    ensures input { Counts input_answered (S.faults input.old) (S.faults input.new) result }
-    ensures output { Counts output_answered (K.faults output.old) (K.faults output.new) result }
+    ensures input { FaultsCounted input_answered (S.faults input.old) (S.faults input.new) result }
+    ensures output { FaultsCounted output_answered (K.faults output.old) (K.faults output.new) result }
     ensures report { HasCause (R.faults report.old) (R.faults report.new) result }
 {
     match load(alloc, layout, program, files) {

@@ -4,11 +4,11 @@ use Rattle.elf_view.proofs.Executables.{refused-no_elf}
 use Rattle.mem_regions.specs.declared.Part.{Part}
 use Rattle.mem_regions.specs.declared.refusal.LoadErr.{LoadErr}
 use Rattle.mem_regions.specs.declared.refusal.LoadErr.TheVariants.{Overlap, TooMany, TooLarge, WrapsAround, NoMemory}
-use Rattle.mem_regions.specs.Causes.{IsAccepted, IsCause}
+use Rattle.mem_regions.specs.Causes.{AreAccepted, IsLoadCause}
 use Rattle.mem_regions.specs.Refusal.{refusal, unless}
 use Rattle.mem_regions.proofs.Causes.{refused-cause}
 use Rattle.mem_regions.proofs.Parts.{refusal_is_told}
-use Rattle.cli_files.specs.Image.{IsProgram, IsRefused, elf_parts, flat_part, stack_part}
+use Rattle.cli_files.specs.Image.{IsProgramFile, IsRefused, elf_parts, flat_part, stack_part}
 use Rattle.report_refusals.specs.declared.faults.ProgramErr.{ProgramErr}
 use Rattle.report_refusals.specs.declared.faults.ProgramErr.TheVariants.{TooLong, Elf, Load}
 
@@ -17,18 +17,18 @@ abbrev no_part : Part
 no_part = record { base = 0; start = 0; len = 0; size = 0; write = false; exec = false }
 
 -- what a refusal says of parts is not true of those that are accepted
-not_both : (parts : List Part) (e : LoadErr) → IsAccepted parts → refusal parts ≡ Some e → IsCause parts e → ⊥
+not_both : (parts : List Part) (e : LoadErr) → AreAccepted parts → refusal parts ≡ Some e → IsLoadCause parts e → ⊥
 not_both parts (TooMany n) a is c = omega (arith, c.0, a.few)
 not_both parts (WrapsAround i) a is c = a.in_space i no_part c.within (c.wraps no_part)
 not_both parts (TooLarge n) a is c = omega (arith, c.0, a.small)
 not_both parts (Overlap i j) a is c = a.apart i j c.before c.within no_part no_part (c.share no_part no_part)
 not_both parts NoMemory a is c = cc (is, refusal_is_told parts NoMemory (sym (ap unless is)))
 
-pub never-refused : (image : List ℕ) (error : ProgramErr) → IsRefused image error → IsProgram image → ⊥
+pub never-refused : (image : List ℕ) (error : ProgramErr) → IsRefused image error → IsProgramFile image → ⊥
 never-refused image TooLong long p = omega (arith, long, p.fits)
 never-refused image (Elf e) (fits, elf, refused) p = refused-no_elf image e refused (p.formed elf)
 never-refused image (Load e) (fits, elf, formed, refused) p =
     let parts : List Part = elf_parts image in
-    let accepted : IsAccepted parts =
-    subst (λ (b : Bool). IsAccepted (if b then parts else flat_part (length image) ∷ stack_part ∷ [])) elf p.loads in
+    let accepted : AreAccepted parts =
+    subst (λ (b : Bool). AreAccepted (if b then parts else flat_part (length image) ∷ stack_part ∷ [])) elf p.loads in
     not_both parts e accepted refused (refused-cause parts e (sym (ap unless refused)))

@@ -1,6 +1,6 @@
 -- A layout that a word names, or that it lacks.
 use Rattle.std.proofs.Common.{ℕ, ◌+◌, List, Option, Result, Ok, Err, IfOk, IfErr, inl}
-use Rattle.cf_io.specs.Reads.{Told}
+use Rattle.cf_io.specs.ReadsFile.{FilesSeen}
 use Rattle.cf_layout.specs.Layout.{Plan}
 use Rattle.layout_file.specs.Answers.{Describes}
 use Rattle.cli_arguments.specs.Words.{in_file}
@@ -10,14 +10,14 @@ use Rattle.cli_files.specs.Layouts.{IsLayoutAt, IsNoLayout, LacksLayout}
 use Rattle.cli_files.specs.declared.answer.Answer.{Answer}
 
 -- a file that describes a layout is where it is
-pub layout-described : (before after : Option Told) (name file : List ℕ) (r : Result Plan Answer) →
+pub layout-described : (before after : Option FilesSeen) (name file : List ℕ) (r : Result Plan Answer) →
     IsFrontOf (most_layout_bytes + 1) before after name file → IfOk r (λ plan. Describes file plan) →
     IfOk r (IsLayoutAt (in_file name) before after)
 layout-described before after name file (Ok plan) front h = (file, front, h)
 layout-described before after name file (Err answer) front h = tt
 
 -- a file that is refused gives no layout
-pub layout-refused : (before after : Option Told) (name file : List ℕ) (r : Result Plan Answer) →
+pub layout-refused : (before after : Option FilesSeen) (name file : List ℕ) (r : Result Plan Answer) →
     IsFrontOf (most_layout_bytes + 1) before after name file →
     IfErr r (λ answer. IsNoLayout file answer.status answer.closing) →
     IfErr r (λ answer. LacksLayout (in_file name) before after answer.status answer.closing)

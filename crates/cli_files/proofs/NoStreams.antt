@@ -1,13 +1,13 @@
 -- No answer that is given in place of what a file holds says that the program's input or output failed.
 use Rattle.std.proofs.Common.{◌≡◌, ℕ, List, Option, Result, Ok, Err, inl, inr, refl, arith}
 use Rattle.cf_io.specs.Causes.{HasCause}
-use Rattle.cf_io.specs.Reads.{Told}
-use Rattle.cli_arguments.specs.Words.{Layout, plain, in_file}
+use Rattle.cf_io.specs.ReadsFile.{FilesSeen}
+use Rattle.cli_arguments.specs.Words.{NamedLayout, plain, in_file}
 use Rattle.cli_files.specs.Causes.{input_answered, output_answered}
 use Rattle.cli_files.specs.Layouts.{IsNoLayout, LacksLayout}
 use Rattle.cli_files.specs.Loading.{LacksLoaded}
 use Rattle.cli_files.specs.Programs.{IsNoProgram, LacksProgram}
-use Rattle.cli_files.specs.RunFiles.{RunAsked, LacksFile}
+use Rattle.cli_files.specs.RunFiles.{RunAsked, LacksRunFile}
 use Rattle.cli_files.specs.Scripts.{LacksScript}
 use Rattle.cli_files.specs.declared.status.Status.{Status}
 
@@ -29,7 +29,7 @@ no-program-says : (image : List ℕ) (answer : Status) (report : List ℕ) → I
 no-program-says image answer report (inl (error, refused, is, reports)) = record { input = rw is; output = rw is }
 no-program-says image answer report (inr (is, reports)) = record { input = rw is; output = rw is }
 
-pub lacks-layout-says : (word : Layout) (before after : Option Told) (answer : Status) (report : List ℕ) →
+pub lacks-layout-says : (word : NamedLayout) (before after : Option FilesSeen) (answer : Status) (report : List ℕ) →
     LacksLayout word before after answer report → SaysNoStream answer
 lacks-layout-says plain before after answer report h = absurd h
 lacks-layout-says (in_file name) before after answer report (inl r) = no-layout-says r.file answer report r.why
@@ -38,7 +38,7 @@ lacks-layout-says (in_file name) before after answer report (inr (inl r)) =
 lacks-layout-says (in_file name) before after answer report (inr (inr r)) =
     record { input = rw r.status_is; output = rw r.status_is }
 
-pub lacks-program-says : (name : List ℕ) (before after : Option Told) (answer : Status) (report : List ℕ) →
+pub lacks-program-says : (name : List ℕ) (before after : Option FilesSeen) (answer : Status) (report : List ℕ) →
     LacksProgram name before after answer report → SaysNoStream answer
 lacks-program-says name before after answer report (inl r) = no-program-says r.image answer report r.why
 lacks-program-says name before after answer report (inr (inl r)) =
@@ -46,7 +46,7 @@ lacks-program-says name before after answer report (inr (inl r)) =
 lacks-program-says name before after answer report (inr (inr r)) =
     record { input = rw r.status_is; output = rw r.status_is }
 
-lacks-script-says : (name : List ℕ) (before after : Option Told) (answer : Status) (report : List ℕ) →
+lacks-script-says : (name : List ℕ) (before after : Option FilesSeen) (answer : Status) (report : List ℕ) →
     LacksScript name before after answer report → SaysNoStream answer
 lacks-script-says name before after answer report (inl r) =
     record { input = rw r.status_is; output = rw r.status_is }
@@ -55,15 +55,15 @@ lacks-script-says name before after answer report (inr (inl r)) =
 lacks-script-says name before after answer report (inr (inr r)) =
     record { input = rw r.status_is; output = rw r.status_is }
 
-pub lacks-loaded-says : (layout : Layout) (program : List ℕ) (before after : Option Told) (answer : Status)
+pub lacks-loaded-says : (layout : NamedLayout) (program : List ℕ) (before after : Option FilesSeen) (answer : Status)
     (report : List ℕ) → LacksLoaded layout program before after answer report → SaysNoStream answer
 lacks-loaded-says layout program before after answer report (inl h) =
     lacks-layout-says layout before after answer report h
 lacks-loaded-says layout program before after answer report (inr h) =
     lacks-program-says program h.between after answer report h.lacks
 
-pub lacks-file-says : (asked : RunAsked) (before after : Option Told) (answer : Status) (report : List ℕ) →
-    LacksFile asked before after answer report → SaysNoStream answer
+pub lacks-file-says : (asked : RunAsked) (before after : Option FilesSeen) (answer : Status) (report : List ℕ) →
+    LacksRunFile asked before after answer report → SaysNoStream answer
 lacks-file-says asked before after answer report (inl h) =
     lacks-loaded-says asked.layout asked.program before after answer report h
 lacks-file-says asked before after answer report (inr h) =

@@ -20,6 +20,6 @@ files_decided (Ok answer) = files_answered answer.status
 files_decided (Err failed) = Ok tt
 
 -- a count of faults, given what was decided: it rose exactly where the answer says so; where the report failed it has not fallen
-abbrev pub Counts : (Status → Result (Unit {0}) (Unit {0})) → ℕ → ℕ → Result Answer Failed → Type 0
-Counts answered before now (Ok answer) = HasCause before now (answered answer.status)
-Counts answered before now (Err failed) = before ≤ now
+abbrev pub FaultsCounted : (Status → Result (Unit {0}) (Unit {0})) → ℕ → ℕ → Result Answer Failed → Type 0
+FaultsCounted answered before now (Ok answer) = HasCause before now (answered answer.status)
+FaultsCounted answered before now (Err failed) = before ≤ now

@@ -6,7 +6,7 @@ use Rattle.elf_view.specs.Refusal.{starts_with_elf}
 use Rattle.elf_view.specs.Refusal.{refusal as elf_refusal}
 use Rattle.elf_view.specs.Segments.{LoadSegment, segments_of}
 use Rattle.mem_regions.specs.declared.Part.{Part}
-use Rattle.mem_regions.specs.Causes.{IsAccepted}
+use Rattle.mem_regions.specs.Causes.{AreAccepted}
 use Rattle.mem_regions.specs.Loading.{loaded}
 use Rattle.mem_regions.specs.Refusal.{refusal as load_refusal}
 use Rattle.rv_machine.specs.Hart.{Hart}
@@ -69,10 +69,10 @@ unfoldable pub opened : List ℕ → Hart
 opened image = start_hart (loaded image (parts_of image)) (entry_of image)
 
 -- the file is a program: it is not too long, is a sound ELF file if it begins as one, and its parts can be loaded
-pub record IsProgram (image : List ℕ) : Type 0 where
+pub record IsProgramFile (image : List ℕ) : Type 0 where
   pub fits : length image ≤ most_bytes
   pub formed : starts_with_elf image ≡ true → IsElf image
-  pub loads : IsAccepted (parts_of image)
+  pub loads : AreAccepted (parts_of image)
 
 -- why the file is no program: it is too long; or else it begins as an ELF file and fails the tests of its form; or else the parts of that ELF file cannot be loaded
 abbrev pub IsRefused : List ℕ → ProgramErr → Type 0

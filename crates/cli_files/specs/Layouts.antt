@@ -1,14 +1,14 @@
 -- The layout that a word of the command line names, and why it names none.
 use Rattle.std.specs.Prelude.{◌≡◌, ◌≢◌, ◌⊎◌, ℕ, ◌+◌, List, codes, Option}
-use Rattle.cf_io.specs.Reads.{Told}
+use Rattle.cf_io.specs.ReadsFile.{FilesSeen}
 use Rattle.cf_layout.specs.Layout.{Plan}
 use Rattle.cf_layout.specs.Plain as built_in
 use Rattle.layout_file.specs.declared.fault.FileErr.{FileErr}
 use Rattle.layout_file.specs.declared.fault.FileErr.TheVariants as err
-use Rattle.layout_file.specs.Answers.{Fails, Describes}
+use Rattle.layout_file.specs.Answers.{LayoutFails, Describes}
 use Rattle.layout_file.specs.Limits.{most_layout_bytes}
 use Rattle.report_refusals.specs.Layouts.{bad_layout}
-use Rattle.cli_arguments.specs.Words.{Layout, plain, in_file}
+use Rattle.cli_arguments.specs.Words.{NamedLayout, plain, in_file}
 use Rattle.cli_files.specs.Files.{IsFrontOf, LacksBytes}
 use Rattle.cli_files.specs.Memory.{SaysNoMemory}
 use Rattle.cli_files.specs.declared.status.Status.{Status}
@@ -17,7 +17,7 @@ use Rattle.cli_files.specs.declared.status.Which.TheVariants as which
 
 -- the word names this layout: the built-in one, or the one that is described by its file's first bytes, one more than a
 -- layout may have
-abbrev pub IsLayoutAt : Layout → Option Told → Option Told → Plan → Type 0
+abbrev pub IsLayoutAt : NamedLayout → Option FilesSeen → Option FilesSeen → Plan → Type 0
 IsLayoutAt plain before after plan = (plan ≡ built_in.plain) × (after ≡ before)
 IsLayoutAt (in_file name) before after plan =
     (file : List ℕ) × IsFrontOf (most_layout_bytes + 1) before after name file × Describes file plan
@@ -25,19 +25,19 @@ IsLayoutAt (in_file name) before after plan =
 -- the content of a file is no layout, and the status and the report say why; or memory for it was refused
 abbrev pub IsNoLayout : List ℕ → Status → List ℕ → Type 0
 IsNoLayout file answer report =
-    ((error : FileErr) × Fails file error × (error ≢ err.NoMemory)
+    ((error : FileErr) × LayoutFails file error × (error ≢ err.NoMemory)
     × (answer ≡ status.BadLayout error) × (report ≡ bad_layout error))
     ⊎ SaysNoMemory answer report
 
 -- the file was read, and gives no layout
-pub record RefusesLayout (name : List ℕ) (before after : Option Told) (answer : Status)
+pub record RefusesLayout (name : List ℕ) (before after : Option FilesSeen) (answer : Status)
     (report : List ℕ) : Type 0 where
   pub file : List ℕ
   pub front : IsFrontOf (most_layout_bytes + 1) before after name file
   pub why : IsNoLayout file answer report
 
 -- why the word names no layout, the status that says so, and the report; the built-in layout is always there
-abbrev pub LacksLayout : Layout → Option Told → Option Told → Status → List ℕ → Type 0
+abbrev pub LacksLayout : NamedLayout → Option FilesSeen → Option FilesSeen → Status → List ℕ → Type 0
 LacksLayout plain before after answer report = ⊥
 LacksLayout (in_file name) before after answer report =
     RefusesLayout name before after answer report

@@ -1,30 +1,30 @@
 -- The layout and the program that a command works on, read one after the other.
 use Rattle.std.specs.Prelude.{◌⊎◌, ℕ, List, Option}
-use Rattle.cf_io.specs.Reads.{Told}
+use Rattle.cf_io.specs.ReadsFile.{FilesSeen}
 use Rattle.rv_machine.specs.Hart.{Hart}
 use Rattle.cf_layout.specs.Layout.{Plan}
-use Rattle.cli_arguments.specs.Words.{Layout}
+use Rattle.cli_arguments.specs.Words.{NamedLayout}
 use Rattle.cli_files.specs.Layouts.{IsLayoutAt, LacksLayout}
 use Rattle.cli_files.specs.Programs.{IsProgramAt, LacksProgram}
 use Rattle.cli_files.specs.declared.status.Status.{Status}
 
 -- the word names this layout, and after it the program was read, which begins on this hart
-pub record IsLoaded (layout : Layout) (name : List ℕ) (before after : Option Told) (plan : Plan)
+pub record IsLoaded (layout : NamedLayout) (name : List ℕ) (before after : Option FilesSeen) (plan : Plan)
     (hart : Hart) : Type 0 where
-  pub between : Option Told
+  pub between : Option FilesSeen
   pub laid : IsLayoutAt layout before between plan
   pub program : IsProgramAt name between after hart
 
 -- the layout is there, and the program is not
-pub record StopsAtProgram (layout : Layout) (name : List ℕ) (before after : Option Told) (answer : Status)
+pub record StopsAtProgram (layout : NamedLayout) (name : List ℕ) (before after : Option FilesSeen) (answer : Status)
     (report : List ℕ) : Type 0 where
   pub plan : Plan
-  pub between : Option Told
+  pub between : Option FilesSeen
   pub laid : IsLayoutAt layout before between plan
   pub lacks : LacksProgram name between after answer report
 
 -- the first of the two that is not there, the status that says why, and the report
-abbrev pub LacksLoaded : Layout → List ℕ → Option Told → Option Told → Status → List ℕ → Type 0
+abbrev pub LacksLoaded : NamedLayout → List ℕ → Option FilesSeen → Option FilesSeen → Status → List ℕ → Type 0
 LacksLoaded layout program before after answer report =
     LacksLayout layout before after answer report
     ⊎ StopsAtProgram layout program before after answer report

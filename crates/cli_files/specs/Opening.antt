@@ -1,10 +1,10 @@
 -- What holds of a program file that was not opened.
 use Rattle.std.specs.Prelude.{List, ℕ}
-use Rattle.cli_files.specs.Image.{IsProgram, IsRefused}
+use Rattle.cli_files.specs.Image.{IsProgramFile, IsRefused}
 use Rattle.cli_files.specs.declared.opening.OpenErr.{OpenErr}
 use Rattle.cli_files.specs.declared.opening.OpenErr.TheVariants as err
 
 -- it is refused, and is no program; lack of memory says nothing of it
 abbrev pub IsNotOpened : List ℕ → OpenErr → Type 0
-IsNotOpened image (err.Refused error) = IsRefused image error × ¬ IsProgram image
+IsNotOpened image (err.Refused error) = IsRefused image error × ¬ IsProgramFile image
 IsNotOpened image err.NoMemory = Unit {0}

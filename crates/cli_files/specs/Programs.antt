@@ -1,9 +1,9 @@
 -- The program that a file holds, and why it holds none.
 use Rattle.std.specs.Prelude.{◌≡◌, ◌+◌, ◌⊎◌, ℕ, List, codes, Option}
-use Rattle.cf_io.specs.Reads.{Told}
+use Rattle.cf_io.specs.ReadsFile.{FilesSeen}
 use Rattle.rv_machine.specs.Hart.{Hart}
 use Rattle.cli_files.specs.Files.{IsFrontOf, LacksBytes}
-use Rattle.cli_files.specs.Image.{most_bytes, IsProgram, IsRefused, opened}
+use Rattle.cli_files.specs.Image.{most_bytes, IsProgramFile, IsRefused, opened}
 use Rattle.cli_files.specs.Memory.{SaysNoMemory}
 use Rattle.report_refusals.specs.Programs.{bad_program}
 use Rattle.report_refusals.specs.declared.faults.ProgramErr.{ProgramErr}
@@ -12,10 +12,10 @@ use Rattle.cli_files.specs.declared.status.Status.TheVariants as status
 use Rattle.cli_files.specs.declared.status.Which.TheVariants as which
 
 -- the file's first bytes, one more than a program may have, are a program, which begins on this hart
-pub record IsProgramAt (name : List ℕ) (before after : Option Told) (hart : Hart) : Type 0 where
+pub record IsProgramAt (name : List ℕ) (before after : Option FilesSeen) (hart : Hart) : Type 0 where
   pub image : List ℕ
   pub front : IsFrontOf (most_bytes + 1) before after name image
-  pub program : IsProgram image
+  pub program : IsProgramFile image
   pub begins : hart ≡ opened image
 
 -- the image is no program, and the status and the report say why; or memory for it was refused
@@ -26,14 +26,14 @@ IsNoProgram image answer report =
     ⊎ SaysNoMemory answer report
 
 -- the file was read, and gives no program
-pub record RefusesProgram (name : List ℕ) (before after : Option Told) (answer : Status)
+pub record RefusesProgram (name : List ℕ) (before after : Option FilesSeen) (answer : Status)
     (report : List ℕ) : Type 0 where
   pub image : List ℕ
   pub front : IsFrontOf (most_bytes + 1) before after name image
   pub why : IsNoProgram image answer report
 
 -- why the file of this name gives no program, the status that says so, and the report
-abbrev pub LacksProgram : List ℕ → Option Told → Option Told → Status → List ℕ → Type 0
+abbrev pub LacksProgram : List ℕ → Option FilesSeen → Option FilesSeen → Status → List ℕ → Type 0
 LacksProgram name before after answer report =
     RefusesProgram name before after answer report
     ⊎ LacksBytes which.Program (codes "read fault program") name before after answer report

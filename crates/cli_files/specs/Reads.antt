@@ -1,17 +1,17 @@
 -- Which files were read: those that the words name, one after another, each once, up to the last that was wanted.
 use Rattle.std.specs.Prelude.{◌≡◌, ◌<◌, ◌≤◌, ◌⊎◌, ℕ, List, [], ◌∷◌, ◌++◌, length, take, Option, Some, None}
 use Rattle.cf_io.specs.Causes.{raised}
-use Rattle.cf_io.specs.Reads.{Told}
+use Rattle.cf_io.specs.ReadsFile.{FilesSeen}
 use Rattle.cli_arguments.specs.Options.{Schedule, by_script, by_seed, by_rule}
-use Rattle.cli_arguments.specs.Words.{Layout, plain, in_file}
+use Rattle.cli_arguments.specs.Words.{NamedLayout, plain, in_file}
 
 -- the file of a layout; the built-in one has none
-abbrev pub layout_files : Layout → List (List ℕ)
+abbrev pub layout_files : NamedLayout → List (List ℕ)
 layout_files plain = []
 layout_files (in_file name) = name ∷ []
 
 -- those of some layouts, in their order
-abbrev pub files_of_layouts : List Layout → List (List ℕ)
+abbrev pub files_of_layouts : List NamedLayout → List (List ℕ)
 files_of_layouts [] = []
 files_of_layouts (word ∷ words) = layout_files word ++ files_of_layouts words
 
@@ -22,13 +22,13 @@ script_files (by_seed seed) = []
 script_files by_rule = []
 
 -- the first `count` of the names were read, in their order and no others; after them one read may have found no memory
-pub record ReadsFirst (names : List (List ℕ)) (before after : Told) : Type 0 where
+pub record ReadsFirst (names : List (List ℕ)) (before after : FilesSeen) : Type 0 where
   pub count : ℕ
   pub within : count ≤ length names
   pub read : after.read ≡ before.read ++ take count names
   pub unheld : (after.unheld ≡ before.unheld) ⊎ ((after.unheld ≡ raised before.unheld) × (count < length names))
 
 -- files that tell were read in this way
-abbrev pub WereRead : List (List ℕ) → Option Told → Option Told → Type 0
+abbrev pub WereRead : List (List ℕ) → Option FilesSeen → Option FilesSeen → Type 0
 WereRead names None after = Unit {0}
-WereRead names (Some told) after = (now : Told) × (after ≡ Some now) × ReadsFirst names told now
+WereRead names (Some told) after = (now : FilesSeen) × (after ≡ Some now) × ReadsFirst names told now

@@ -1,11 +1,11 @@
 -- The files that `run` reads, one after another: the layout's, the program's and, where a script gives the moves, the script's.
 use Rattle.std.specs.Prelude.{◌≡◌, ◌⊎◌, ℕ, List, Option}
 use Rattle.run_options.specs.declared.show.Show.{Show}
-use Rattle.cf_io.specs.Reads.{Told}
+use Rattle.cf_io.specs.ReadsFile.{FilesSeen}
 use Rattle.rv_machine.specs.Hart.{Hart}
 use Rattle.cf_layout.specs.Layout.{Plan}
 use Rattle.cli_arguments.specs.Options.{Schedule}
-use Rattle.cli_arguments.specs.Words.{Layout}
+use Rattle.cli_arguments.specs.Words.{NamedLayout}
 use Rattle.cli_files.specs.Loading.{IsLoaded, LacksLoaded}
 use Rattle.cli_files.specs.Outside.{Outside}
 use Rattle.cli_files.specs.Schedules.{ReadySchedule, IsScheduled, LacksSchedule}
@@ -13,13 +13,13 @@ use Rattle.cli_files.specs.declared.status.Status.{Status}
 
 -- what the words ask of `run`: where the layout is, the file with the program, what chooses the moves, the number of retired instructions at which the run stops, and what it shows
 pub record RunAsked : Type 0 where
-  pub layout : Layout
+  pub layout : NamedLayout
   pub program : List ℕ
   pub schedule : Schedule
   pub limit : ℕ
   pub show : Show
 
-abbrev pub run_asked : Layout → List ℕ → Schedule → ℕ → Show → RunAsked
+abbrev pub run_asked : NamedLayout → List ℕ → Schedule → ℕ → Show → RunAsked
 run_asked layout program schedule limit show = record {
   layout = layout;
   program = program;
@@ -29,44 +29,44 @@ run_asked layout program schedule limit show = record {
 }
 
 -- all are there: after layout and program this schedule was read
-pub record IsReady (asked : RunAsked) (before after : Option Told) (plan : Plan) (hart : Hart)
+pub record RunFilesRead (asked : RunAsked) (before after : Option FilesSeen) (plan : Plan) (hart : Hart)
     (schedule : ReadySchedule) : Type 0 where
-  pub between : Option Told
+  pub between : Option FilesSeen
   pub loaded : IsLoaded asked.layout asked.program before between plan hart
   pub scheduled : IsScheduled asked.schedule between after schedule
 
 -- the layout and the program are there, and the script's file gives no script
-pub record StopsAtScript (asked : RunAsked) (before after : Option Told) (answer : Status)
+pub record StopsAtScript (asked : RunAsked) (before after : Option FilesSeen) (answer : Status)
     (report : List ℕ) : Type 0 where
   pub plan : Plan
   pub hart : Hart
-  pub between : Option Told
+  pub between : Option FilesSeen
   pub loaded : IsLoaded asked.layout asked.program before between plan hart
   pub lacks : LacksSchedule asked.schedule between after answer report
 
 -- the first of them that is not there, the status that says why, and the report
-abbrev pub LacksFile : RunAsked → Option Told → Option Told → Status → List ℕ → Type 0
-LacksFile asked before after answer report =
+abbrev pub LacksRunFile : RunAsked → Option FilesSeen → Option FilesSeen → Status → List ℕ → Type 0
+LacksRunFile asked before after answer report =
     LacksLoaded asked.layout asked.program before after answer report
     ⊎ StopsAtScript asked before after answer report
 
 -- all files are there, and this comes of them
-pub record ReadsFiles (Comes : Plan → Hart → ReadySchedule → Type 0) (asked : RunAsked)
+pub record ReadsRunFiles (Comes : Plan → Hart → ReadySchedule → Type 0) (asked : RunAsked)
     (before after : Outside) : Type 0 where
   pub plan : Plan
   pub hart : Hart
   pub schedule : ReadySchedule
-  pub ready : IsReady asked before.files after.files plan hart schedule
+  pub ready : RunFilesRead asked before.files after.files plan hart schedule
   pub comes : Comes plan hart schedule
 
 -- one of them is missing, and the streams were left alone
 pub record RefusesRun (asked : RunAsked) (before after : Outside) (answer : Status)
     (report : List ℕ) : Type 0 where
-  pub lacks : LacksFile asked before.files after.files answer report
+  pub lacks : LacksRunFile asked before.files after.files answer report
   pub streams : after.streams ≡ before.streams
 
 -- the answer of a command that reads these files, and its report
 abbrev pub AnswersFiles : (Plan → Hart → ReadySchedule → Type 0) → RunAsked → Outside → Outside → Status →
     List ℕ → Type 0
 AnswersFiles Comes asked before after answer report =
-    ReadsFiles Comes asked before after ⊎ RefusesRun asked before after answer report
+    ReadsRunFiles Comes asked before after ⊎ RefusesRun asked before after answer report

@@ -1,6 +1,6 @@
 -- What chooses the moves of a run, once its files are read.
 use Rattle.std.specs.Prelude.{◌≡◌, ◌≤◌, ℕ, List, length, vec_items, Option}
-use Rattle.cf_io.specs.Reads.{Told}
+use Rattle.cf_io.specs.ReadsFile.{FilesSeen}
 use Rattle.cli_arguments.specs.Options.{Schedule, by_script, by_seed, by_rule}
 use Rattle.run_scripts.specs.Limits.{most_script}
 use Rattle.cli_files.specs.Scripts.{IsScriptAt, LacksScript}
@@ -15,7 +15,7 @@ pub data ReadySchedule : Type 0 where
   in_turn : ReadySchedule
 
 -- what becomes of the schedule that the words ask for: a script's file is read, and where there is no script, no file is
-abbrev pub IsScheduled : Schedule → Option Told → Option Told → ReadySchedule → Type 0
+abbrev pub IsScheduled : Schedule → Option FilesSeen → Option FilesSeen → ReadySchedule → Type 0
 IsScheduled (by_script file) before after (in_script text) = IsScriptAt file before after text
 IsScheduled (by_script file) before after (drawn_from seed) = ⊥
 IsScheduled (by_script file) before after in_turn = ⊥
@@ -29,7 +29,7 @@ FitsScript (drawn_from seed) = Unit {0}
 FitsScript in_turn = Unit {0}
 
 -- the words ask for the script in a file, and that file gives none: the status that says why, and the report
-pub record LacksSchedule (schedule : Schedule) (before after : Option Told) (answer : Status)
+pub record LacksSchedule (schedule : Schedule) (before after : Option FilesSeen) (answer : Status)
     (report : List ℕ) : Type 0 where
   pub file : List ℕ
   pub asks : schedule ≡ by_script file

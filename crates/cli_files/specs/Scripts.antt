@@ -1,6 +1,6 @@
 -- The script that a file holds, and why it holds none.
 use Rattle.std.specs.Prelude.{◌≡◌, ◌<◌, ◌≤◌, ◌+◌, ◌⊎◌, ℕ, List, length, codes, Option}
-use Rattle.cf_io.specs.Reads.{Told}
+use Rattle.cf_io.specs.ReadsFile.{FilesSeen}
 use Rattle.run_scripts.specs.Limits.{most_script}
 use Rattle.texts.specs.Lines.{line}
 use Rattle.cli_files.specs.Files.{IsFrontOf, LacksBytes}
@@ -10,12 +10,12 @@ use Rattle.cli_files.specs.declared.status.Status.TheVariants as status
 use Rattle.cli_files.specs.declared.status.Which.TheVariants as which
 
 -- the file's first bytes, one more than a script may have, are not too many, and are this text
-pub record IsScriptAt (name : List ℕ) (before after : Option Told) (text : List ℕ) : Type 0 where
+pub record IsScriptAt (name : List ℕ) (before after : Option FilesSeen) (text : List ℕ) : Type 0 where
   pub front : IsFrontOf (most_script + 1) before after name text
   pub fits : length text ≤ most_script
 
 -- they are too many
-pub record IsTooLong (name : List ℕ) (before after : Option Told) (answer : Status)
+pub record ScriptTooLong (name : List ℕ) (before after : Option FilesSeen) (answer : Status)
     (report : List ℕ) : Type 0 where
   pub text : List ℕ
   pub front : IsFrontOf (most_script + 1) before after name text
@@ -24,7 +24,7 @@ pub record IsTooLong (name : List ℕ) (before after : Option Told) (answer : St
   pub reports : report ≡ line (codes "bad script: TooLong")
 
 -- why the file of this name gives no script, the status that says so, and the report
-abbrev pub LacksScript : List ℕ → Option Told → Option Told → Status → List ℕ → Type 0
+abbrev pub LacksScript : List ℕ → Option FilesSeen → Option FilesSeen → Status → List ℕ → Type 0
 LacksScript name before after answer report =
-    IsTooLong name before after answer report
+    ScriptTooLong name before after answer report
     ⊎ LacksBytes which.Script (codes "read fault script") name before after answer report

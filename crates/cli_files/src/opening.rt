@@ -2,11 +2,11 @@
 
 ghost use Rattle.std.specs.Prelude.{◌≡◌, ◌≤◌, IfOk, IfErr, MatchResult, All, length, true, false};
 ghost use Rattle.elf_view.specs.Refusal.{starts_with_elf};
-ghost use Rattle.mem_regions.specs.Causes.{IsAccepted};
+ghost use Rattle.mem_regions.specs.Causes.{AreAccepted};
 ghost use Rattle.mem_regions.specs.Loading.{LiesIn, loaded};
 ghost use Rattle.mem_regions.specs.Refusal.{refusal, refusal_told};
 ghost use Rattle.rv_machine.specs.Machine.{start_hart};
-ghost use Rattle.cli_files.specs.Image.{IsProgram, most_bytes, opened};
+ghost use Rattle.cli_files.specs.Image.{IsProgramFile, most_bytes, opened};
 ghost use Rattle.cli_files.specs.Opening.{IsNotOpened};
 
 use crate::parts::{MOST_PARTS, STACK, count_parts, parts_of};
@@ -41,7 +41,7 @@ pub fn is_elf(image: &[u8]) -> bool
 /// A machine at the entry, with these parts of the file as its memory.
 fn load(alloc: Global, image: &[u8], parts: &[Part], entry: u32) -> Result<Machine, LoadErr>
     requires { All (LiesIn image.now) parts.now }
-    ensures accepted { IfOk result (λ machine. IsAccepted parts.now) }
+    ensures accepted { IfOk result (λ machine. AreAccepted parts.now) }
     ensures machine { IfOk result (λ machine. machine ≡ start_hart (loaded image.now parts.now) entry) }
     ensures refused { IfErr result (λ error. refusal parts.now ≡ refusal_told error) }
 {
@@ -53,7 +53,7 @@ fn load(alloc: Global, image: &[u8], parts: &[Part], entry: u32) -> Result<Machi
 fn open_flat(alloc: Global, image: &[u8]) -> Result<Machine, OpenErr>
     requires fits { length image.now ≤ most_bytes }
     requires flat { starts_with_elf image.now ≡ false }
-    ensures program { IfOk result (λ machine. IsProgram image.now) }
+    ensures program { IfOk result (λ machine. IsProgramFile image.now) }
     ensures machine { IfOk result (λ machine. machine ≡ opened image.now) }
     ensures refused { IfErr result (IsNotOpened image.now) }
 {
@@ -77,7 +77,7 @@ fn open_flat(alloc: Global, image: &[u8]) -> Result<Machine, OpenErr>
 fn open_elf(alloc: Global, image: &[u8]) -> Result<Machine, OpenErr>
     requires fits { length image.now ≤ most_bytes }
     requires elf { starts_with_elf image.now ≡ true }
-    ensures program { IfOk result (λ machine. IsProgram image.now) }
+    ensures program { IfOk result (λ machine. IsProgramFile image.now) }
     ensures machine { IfOk result (λ machine. machine ≡ opened image.now) }
     ensures refused { IfErr result (IsNotOpened image.now) }
 {
@@ -103,7 +103,7 @@ fn open_elf(alloc: Global, image: &[u8]) -> Result<Machine, OpenErr>
 /// read, written and executed, and begins there. The stack comes after them.
 #[tactic(auto, unfolding(crate::specs::Image::opened))]
 pub fn open(alloc: Global, image: &[u8]) -> Result<Machine, OpenErr>
-    ensures program { IfOk result (λ machine. IsProgram image.now) }
+    ensures program { IfOk result (λ machine. IsProgramFile image.now) }
     ensures machine { IfOk result (λ machine. machine ≡ opened image.now) }
     ensures count { IfOk result (λ machine. machine.retired ≡ 0) }
     ensures refused { IfErr result (IsNotOpened image.now) }
@@ -120,7 +120,7 @@ pub fn open(alloc: Global, image: &[u8]) -> Result<Machine, OpenErr>
 
 /// The machine that a file starts that was opened before, and so is a program: nothing but memory can be refused for it.
 pub fn open_again(alloc: Global, image: &[u8]) -> Result<Machine, AllocError>
-    requires { IsProgram image.now }
+    requires { IsProgramFile image.now }
     ensures machine { IfOk result (λ machine. machine ≡ opened image.now) }
     ensures count { IfOk result (λ machine. machine.retired ≡ 0) }
 {

@@ -3,7 +3,7 @@
 ghost use Rattle.std.specs.Prelude.{◌≡◌, IfOk, IfErr};
 ghost use Rattle.cf_io.specs.Causes.{HasCause};
 ghost use Rattle.cli_files.specs.Causes.{files_read};
-ghost use Rattle.cli_files.specs.Image.{IsProgram, opened};
+ghost use Rattle.cli_files.specs.Image.{IsProgramFile, opened};
 ghost use Rattle.cli_files.specs.Programs.{IsProgramAt, LacksProgram, IsNoProgram};
 
 use crate::answer::{Answer, no_memory, no_program, unread};
@@ -15,7 +15,7 @@ use std::alloc::Global;
 
 /// The machine that a program file starts, or the answer where it starts none.
 pub fn open_image(alloc: Global, image: &[u8]) -> Result<Machine, Answer>
-    ensures program { IfOk result (λ machine. IsProgram image.now) }
+    ensures program { IfOk result (λ machine. IsProgramFile image.now) }
     ensures machine { IfOk result (λ machine. machine ≡ opened image.now) }
     ensures count { IfOk result (λ machine. machine.retired ≡ 0) }
     ensures refused { IfErr result (λ answer. IsNoProgram image.now answer.status answer.closing) }

@@ -4,7 +4,7 @@ ghost use Rattle.std.specs.Prelude.{◌≡◌, IfOk, IfErr};
 ghost use Rattle.cf_io.specs.Causes.{HasCause};
 ghost use Rattle.cli_files.specs.Causes.{files_read};
 ghost use Rattle.cli_arguments.specs.Views.{layout_of, schedule_view as asked_schedule};
-ghost use Rattle.cli_files.specs.RunFiles.{run_asked, IsReady, LacksFile};
+ghost use Rattle.cli_files.specs.RunFiles.{run_asked, RunFilesRead, LacksRunFile};
 ghost use Rattle.cli_files.specs.Schedules.{schedule_view, FitsScript};
 
 use crate::answer::Answer;
@@ -18,7 +18,7 @@ use std::alloc::Global;
 
 /// What a run of the processor begins with: its layout, the machine that the program starts, and what chooses the moves.
 #[derive(Drop)]
-pub struct Ready {
+pub struct ReadyRun {
     pub layout: Layout,
     pub machine: Machine,
     pub schedule: ReadySchedule,
@@ -32,14 +32,14 @@ pub fn read_files<F: Files>(
     program: &str,
     options: RunOptions<'_>,
     files: &mut F,
-) -> Result<Ready, Answer>
-    ensures ready { IfOk result (λ ready. IsReady
+) -> Result<ReadyRun, Answer>
+    ensures ready { IfOk result (λ ready. RunFilesRead
         (run_asked (layout_of layout.entry) program.now (asked_schedule options.entry.schedule) options.entry.limit options.entry.show)
         (F.told files.old) (F.told files.new)
         ready.layout ready.machine (schedule_view ready.schedule)) }
     ensures count { IfOk result (λ ready. ready.machine.retired ≡ 0) }
     ensures fits { IfOk result (λ ready. FitsScript (schedule_view ready.schedule)) }
-    ensures lacks { IfErr result (λ answer. LacksFile
+    ensures lacks { IfErr result (λ answer. LacksRunFile
         (run_asked (layout_of layout.entry) program.now (asked_schedule options.entry.schedule) options.entry.limit options.entry.show)
         (F.told files.old) (F.told files.new)
         answer.status answer.closing) }
@@ -50,7 +50,7 @@ pub fn read_files<F: Files>(
         Err(answer) => return Err(answer),
     };
     match schedule_at(alloc, options.schedule, files) {
-        Ok(schedule) => Ok(Ready {
+        Ok(schedule) => Ok(ReadyRun {
             layout: loaded.layout,
             machine: loaded.machine,
             schedule,

@@ -3,7 +3,7 @@ use Rattle.std.proofs.Common.{◌≡◌, ◌∙◌, ap, subst, ℕ, List, [], �
 use Rattle.std.specs.Prelude.{codes, slice_get}
 use Rattle.std.specs.Result.{IsErr}
 use Rattle.cf_io.specs.Puts.{Writes, WritesFront}
-use Rattle.cf_io.specs.Reads.{Told}
+use Rattle.cf_io.specs.ReadsFile.{FilesSeen}
 use Rattle.cf_io.specs.declared.failed.Failed.{Failed}
 use Rattle.cf_io.proofs.Owing.{writes-again}
 use Rattle.rv_machine.specs.Hart.{Hart}
@@ -12,20 +12,20 @@ use Rattle.std.proofs.lemmas.Bool.{false≢true}
 use Rattle.cf_report.specs.Putting.{PutsText}
 use Rattle.texts.specs.Lines.{line}
 use Rattle.cli_arguments.specs.declared.command.TimeOptions.{TimeOptions}
-use Rattle.cli_arguments.specs.Words.{Layout}
+use Rattle.cli_arguments.specs.Words.{NamedLayout}
 use Rattle.cli_files.specs.Deciding.{Decides}
 use Rattle.cli_files.specs.declared.answer.Answer.{Answer}
 use Rattle.cli_files.specs.declared.status.Status.TheVariants as status
 use Rattle.cli_time.specs.Asked.{TimeAsked}
 use Rattle.cli_time.specs.Leasts.{IsFirstLeast}
 use Rattle.cli_time.specs.Lines.{least_line, time_lines}
-use Rattle.cli_time.specs.Reading.{IsReady}
+use Rattle.cli_time.specs.Reading.{TimeFilesRead}
 use Rattle.cli_time.specs.Runs.{PutsAll, PutsFewer}
 use Rattle.cli_time.specs.Times.{AnswersTime, BreaksTime, BreaksTimes, MeasuresAll, TimesOf}
 
 -- the layout that is named is the first with the least time
-measures-all : (words : List Layout) (options : TimeOptions) (delays : List ℕ) (plans : List Plan) (hart : Hart) (blank told : Option (List ℕ))
-    (times : List ℕ) (place : ℕ) (named : Layout) → (h : PutsAll words options delays plans hart blank told times) →
+measures-all : (words : List NamedLayout) (options : TimeOptions) (delays : List ℕ) (plans : List Plan) (hart : Hart) (blank told : Option (List ℕ))
+    (times : List ℕ) (place : ℕ) (named : NamedLayout) → (h : PutsAll words options delays plans hart blank told times) →
     IsFirstLeast times place → slice_get words place ≡ Some named → MeasuresAll words options delays plans hart h.measured named
 measures-all words options delays plans hart blank told times place named h least is = record {
   each = h.each;
@@ -36,8 +36,8 @@ measures-all words options delays plans hart blank told times place named h leas
 }
 
 -- it was named
-pub times-all : (words : List Layout) (options : TimeOptions) (delays : List ℕ) (plans : List Plan) (hart : Hart) (blank told full : Option (List ℕ))
-    (times : List ℕ) (place : ℕ) (named : Layout) (answer : Answer) → PutsAll words options delays plans hart blank told times →
+pub times-all : (words : List NamedLayout) (options : TimeOptions) (delays : List ℕ) (plans : List Plan) (hart : Hart) (blank told full : Option (List ℕ))
+    (times : List ℕ) (place : ℕ) (named : NamedLayout) (answer : Answer) → PutsAll words options delays plans hart blank told times →
     IsFirstLeast times place → slice_get words place ≡ Some named → Writes told full (least_line named) →
     answer.status ≡ status.Done → answer.closing ≡ [] →
     Decides (TimesOf words options delays plans hart) (BreaksTimes words options delays plans hart blank full) blank full (Ok answer)
@@ -55,8 +55,8 @@ times-all words options delays plans hart blank told full times place named answ
     )
 
 -- the report failed at that line
-pub times-break : (words : List Layout) (options : TimeOptions) (delays : List ℕ) (plans : List Plan) (hart : Hart) (blank told full : Option (List ℕ))
-    (times : List ℕ) (place : ℕ) (named : Layout) → PutsAll words options delays plans hart blank told times →
+pub times-break : (words : List NamedLayout) (options : TimeOptions) (delays : List ℕ) (plans : List Plan) (hart : Hart) (blank told full : Option (List ℕ))
+    (times : List ℕ) (place : ℕ) (named : NamedLayout) → PutsAll words options delays plans hart blank told times →
     IsFirstLeast times place → slice_get words place ≡ Some named → WritesFront told full (least_line named) →
     BreaksTimes words options delays plans hart blank full
 times-break words options delays plans hart blank told full times place named h least is front =
@@ -69,8 +69,8 @@ times-break words options delays plans hart blank told full times place named h 
       front = front;
     })
 
-pub times-broken : {T E : Type 0} (words : List Layout) (options : TimeOptions) (delays : List ℕ) (plans : List Plan) (hart : Hart)
-    (blank told full : Option (List ℕ)) (i j : ℕ) (times : List ℕ) (place : ℕ) (named : Layout) (r : Result T E) (e : E) (result : Result Answer Failed) →
+pub times-broken : {T E : Type 0} (words : List NamedLayout) (options : TimeOptions) (delays : List ℕ) (plans : List Plan) (hart : Hart)
+    (blank told full : Option (List ℕ)) (i j : ℕ) (times : List ℕ) (place : ℕ) (named : NamedLayout) (r : Result T E) (e : E) (result : Result Answer Failed) →
     PutsAll words options delays plans hart blank told times → IsFirstLeast times place → slice_get words place ≡ Some named →
     PutsText told full i j (least_line named) r → r ≡ Err e → IsErr result →
     Decides (TimesOf words options delays plans hart) (BreaksTimes words options delays plans hart blank full) blank full result
@@ -81,8 +81,8 @@ times-broken {T = T} {E = E} words options delays plans hart blank told full i j
     times-break words options delays plans hart blank told full times place named h least is q.front
 
 -- it was named, and that is all
-pub times-named : {T E : Type 0} (words : List Layout) (options : TimeOptions) (delays : List ℕ) (plans : List Plan) (hart : Hart)
-    (blank told full : Option (List ℕ)) (i j : ℕ) (times : List ℕ) (place : ℕ) (named : Layout) (r : Result T E) (t : T) (answer : Answer) →
+pub times-named : {T E : Type 0} (words : List NamedLayout) (options : TimeOptions) (delays : List ℕ) (plans : List Plan) (hart : Hart)
+    (blank told full : Option (List ℕ)) (i j : ℕ) (times : List ℕ) (place : ℕ) (named : NamedLayout) (r : Result T E) (t : T) (answer : Answer) →
     PutsAll words options delays plans hart blank told times → IsFirstLeast times place → slice_get words place ≡ Some named →
     PutsText told full i j (least_line named) r → r ≡ Ok t → answer.status ≡ status.Done → answer.closing ≡ [] →
     Decides (TimesOf words options delays plans hart) (BreaksTimes words options delays plans hart blank full) blank full (Ok answer)
@@ -91,7 +91,7 @@ times-named {T = T} {E = E} words options delays plans hart blank told full i j 
     times-all words options delays plans hart blank told full times place named answer h least is q.all done closed
 
 -- memory was refused before that
-pub times-fewer : (words : List Layout) (options : TimeOptions) (delays : List ℕ) (plans : List Plan) (hart : Hart) (blank full : Option (List ℕ))
+pub times-fewer : (words : List NamedLayout) (options : TimeOptions) (delays : List ℕ) (plans : List Plan) (hart : Hart) (blank full : Option (List ℕ))
     (answer : Answer) → PutsFewer words options delays plans hart blank full →
     answer.status ≡ status.NoMemory → answer.closing ≡ line (codes "no memory") →
     Decides (TimesOf words options delays plans hart) (BreaksTimes words options delays plans hart blank full) blank full (Ok answer)
@@ -109,8 +109,8 @@ times-fewer words options delays plans hart blank full answer h is closed =
     )
 
 -- what comes of the files is what the command answers
-pub answers-time : (asked : TimeAsked) (before after : Option Told) (delays : List ℕ) (plans : List Plan) (hart : Hart)
-    (blank full : Option (List ℕ)) (result : Result Answer Failed) → IsReady asked.files before after delays plans hart →
+pub answers-time : (asked : TimeAsked) (before after : Option FilesSeen) (delays : List ℕ) (plans : List Plan) (hart : Hart)
+    (blank full : Option (List ℕ)) (result : Result Answer Failed) → TimeFilesRead asked.files before after delays plans hart →
     Decides (TimesOf asked.files.layouts asked.options delays plans hart) (BreaksTimes asked.files.layouts asked.options delays plans hart blank full) blank full result →
     Decides (AnswersTime asked before after) (BreaksTime asked before after blank full) blank full result
 answers-time asked before after delays plans hart blank full (Ok answer) ready (lines, put, comes) =

@@ -7,10 +7,10 @@ use Rattle.std.proofs.lemmas.Option.{slice_get-get_or}
 use Rattle.std.proofs.lemmas.List.Concat.{flat_map-append}
 use Rattle.std.proofs.lemmas.List.Elements.{filter-append}
 use Rattle.run_scripts.specs.Kinds.{name_at, names}
-use Rattle.cli_time.specs.SiteLines.{Count, count_text, counts_text, is_made}
+use Rattle.cli_time.specs.SiteLines.{KindCount, count_text, counts_text, is_made}
 use Rattle.cli_time.proofs.Lists.{take-next}
 
-counts-append : (xs ys : List Count) → counts_text (xs ++ ys) ≡ counts_text xs ++ counts_text ys
+counts-append : (xs ys : List KindCount) → counts_text (xs ++ ys) ≡ counts_text xs ++ counts_text ys
 unfolding counts_text
 counts-append xs ys =
     ap (flat_map count_text) (filter-append is_made xs ys)
@@ -54,8 +54,8 @@ pub counts-next : (text numbers : List ℕ) (i : ℕ) → i < 14 → i < length 
     (text ++ counts_text (take i (zip names numbers))) ++ counts_text ((name_at i, get_or numbers i 0) ∷ [])
     ≡ text ++ counts_text (take (i + 1) (zip names numbers))
 counts-next text numbers i kinds within =
-    let counts : List Count = zip names numbers in
-    let next : Count = (name_at i, get_or numbers i 0) in
+    let counts : List KindCount = zip names numbers in
+    let next : KindCount = (name_at i, get_or numbers i 0) in
     append_assoc text (counts_text (take i counts)) (counts_text (next ∷ []))
     ∙ ap (λ (more : List ℕ). text ++ more) (sym (counts-append (take i counts) (next ∷ []))
     ∙ ap counts_text (sym (take-next counts i next (count-at numbers i kinds within))))
@@ -71,4 +71,4 @@ pub counts-all : (text numbers : List ℕ) (i : ℕ) → 14 ≤ i →
 counts-all text numbers i h =
     let size = fourteen in
     let few = zip-few names numbers in
-    ap (λ (counts : List Count). text ++ counts_text counts) (take_all i (zip names numbers) (omega (arith, h, size, few)))
+    ap (λ (counts : List KindCount). text ++ counts_text counts) (take_all i (zip names numbers) (omega (arith, h, size, few)))

@@ -1,9 +1,9 @@
 -- The files that `time` reads.
 use Rattle.std.proofs.Common.{◌+◌, ℕ, List, [], ◌∷◌, ◌++◌, Option, inl, inr}
-use Rattle.cf_io.specs.Reads.{Told}
+use Rattle.cf_io.specs.ReadsFile.{FilesSeen}
 use Rattle.rv_machine.specs.Hart.{Hart}
 use Rattle.cf_layout.specs.Layout.{Plan}
-use Rattle.cli_arguments.specs.Words.{Layout}
+use Rattle.cli_arguments.specs.Words.{NamedLayout}
 use Rattle.cli_files.specs.Reads.{layout_files, files_of_layouts, WereRead}
 use Rattle.cli_files.specs.declared.status.Status.{Status}
 use Rattle.cli_files.proofs.Reading.{AllRead, none-read, one-read, more-read, were-all, were-before, were-after, were-lacking, layout-read, layout-lacking, program-read, program-lacking}
@@ -11,20 +11,20 @@ use Rattle.cli_time.specs.Asked.{TimeAsked, TimeFiles}
 use Rattle.cf_timed.specs.Limits.{most_delays}
 use Rattle.cli_time.specs.DelayFiles.{IsDelaysAt, LacksDelays}
 use Rattle.cli_time.specs.LayoutFiles.{AreLayoutsAt, LacksLayouts}
-use Rattle.cli_time.specs.Reading.{IsLaid, IsReady, LacksFile}
-use Rattle.cli_time.specs.Times.{ReadsFiles, AnswersTime, BreaksTime}
+use Rattle.cli_time.specs.Reading.{DelaysAndLayoutsRead, TimeFilesRead, LacksTimeFile}
+use Rattle.cli_time.specs.Times.{ReadsTimeFiles, AnswersTime, BreaksTime}
 
 -- the delays
-delays-read : (name : List ℕ) (a b : Option Told) (delays : List ℕ) → IsDelaysAt name a b delays → AllRead (name ∷ []) a b
+delays-read : (name : List ℕ) (a b : Option FilesSeen) (delays : List ℕ) → IsDelaysAt name a b delays → AllRead (name ∷ []) a b
 delays-read name a b delays d = one-read (most_delays + 1) a b name d.text d.front
 
-delays-lacking : (name : List ℕ) (a b : Option Told) (answer : Status) (report : List ℕ) →
+delays-lacking : (name : List ℕ) (a b : Option FilesSeen) (answer : Status) (report : List ℕ) →
     LacksDelays name a b answer report → WereRead (name ∷ []) a b
 delays-lacking name a b answer report (inl r) = were-all (name ∷ []) a b (one-read (most_delays + 1) a b name r.text r.front)
 delays-lacking name a b answer report (inr r) = were-lacking _ _ name a b answer report r
 
 -- the layouts
-layouts-read : (words : List Layout) (a b : Option Told) (plans : List Plan) → AreLayoutsAt words a b plans → AllRead (files_of_layouts words) a b
+layouts-read : (words : List NamedLayout) (a b : Option FilesSeen) (plans : List Plan) → AreLayoutsAt words a b plans → AllRead (files_of_layouts words) a b
 layouts-read [] a b [] same = none-read a b same
 layouts-read [] a b (plan ∷ plans) h = absurd h
 layouts-read (word ∷ words) a b [] h = absurd h
@@ -32,7 +32,7 @@ layouts-read (word ∷ words) a b (plan ∷ plans) (between, first, more) =
     more-read (layout_files word) (files_of_layouts words) a between b (layout-read word a between plan first)
     (layouts-read words between b plans more)
 
-layouts-lacking : (words : List Layout) (a b : Option Told) (answer : Status) (report : List ℕ) →
+layouts-lacking : (words : List NamedLayout) (a b : Option FilesSeen) (answer : Status) (report : List ℕ) →
     LacksLayouts words a b answer report → WereRead (files_of_layouts words) a b
 layouts-lacking [] a b answer report h = absurd h
 layouts-lacking (word ∷ words) a b answer report (inl h) =
@@ -50,19 +50,19 @@ laid_files asked = (asked.delays ∷ []) ++ files_of_layouts asked.layouts
 abbrev pub time_files : TimeFiles → List (List ℕ)
 time_files asked = laid_files asked ++ asked.program ∷ []
 
-laid-read : (asked : TimeFiles) (a b : Option Told) (delays : List ℕ) (plans : List Plan) → IsLaid asked.delays asked.layouts a b delays plans → AllRead (laid_files asked) a b
+laid-read : (asked : TimeFiles) (a b : Option FilesSeen) (delays : List ℕ) (plans : List Plan) → DelaysAndLayoutsRead asked.delays asked.layouts a b delays plans → AllRead (laid_files asked) a b
 laid-read asked a b delays plans l =
     more-read (asked.delays ∷ []) (files_of_layouts asked.layouts) a l.between b (delays-read asked.delays a l.between delays l.delays_at)
     (layouts-read asked.layouts l.between b plans l.layouts)
 
-ready-read : (asked : TimeFiles) (a b : Option Told) (delays : List ℕ) (plans : List Plan) (hart : Hart) →
-    IsReady asked a b delays plans hart → AllRead (time_files asked) a b
+ready-read : (asked : TimeFiles) (a b : Option FilesSeen) (delays : List ℕ) (plans : List Plan) (hart : Hart) →
+    TimeFilesRead asked a b delays plans hart → AllRead (time_files asked) a b
 ready-read asked a b delays plans hart r =
     more-read (laid_files asked) (asked.program ∷ []) a r.between b (laid-read asked a r.between delays plans r.laid)
     (program-read asked.program r.between b hart r.program)
 
-file-lacking : (asked : TimeFiles) (a b : Option Told) (answer : Status) (report : List ℕ) →
-    LacksFile asked a b answer report → WereRead (time_files asked) a b
+file-lacking : (asked : TimeFiles) (a b : Option FilesSeen) (answer : Status) (report : List ℕ) →
+    LacksTimeFile asked a b answer report → WereRead (time_files asked) a b
 file-lacking asked a b answer report (inl h) =
     were-before (laid_files asked) (asked.program ∷ []) a b
     (were-before (asked.delays ∷ []) (files_of_layouts asked.layouts) a b (delays-lacking asked.delays a b answer report h))
@@ -74,15 +74,15 @@ file-lacking asked a b answer report (inr (inr h)) =
     were-after (laid_files asked) (asked.program ∷ []) a h.between b (laid-read asked a h.between h.delays h.plans h.laid)
     (program-lacking asked.program h.between b answer report h.lacks)
 
-files-read : (Comes : List ℕ → List Plan → Hart → Type 0) (asked : TimeFiles) (a b : Option Told) →
-    ReadsFiles Comes asked a b → WereRead (time_files asked) a b
+files-read : (Comes : List ℕ → List Plan → Hart → Type 0) (asked : TimeFiles) (a b : Option FilesSeen) →
+    ReadsTimeFiles Comes asked a b → WereRead (time_files asked) a b
 files-read Comes asked a b r = were-all (time_files asked) a b (ready-read asked a b r.delays r.plans r.hart r.ready)
 
-pub timed-read : (asked : TimeAsked) (a b : Option Told) (answer : Status) (report : List ℕ) →
+pub timed-read : (asked : TimeAsked) (a b : Option FilesSeen) (answer : Status) (report : List ℕ) →
     AnswersTime asked a b answer report → WereRead (time_files asked.files) a b
 timed-read asked a b answer report (inl r) = files-read _ asked.files a b r
 timed-read asked a b answer report (inr h) = file-lacking asked.files a b answer report h
 
-pub broken-read : (asked : TimeAsked) (a b : Option Told) (blank full : Option (List ℕ)) →
+pub broken-read : (asked : TimeAsked) (a b : Option FilesSeen) (blank full : Option (List ℕ)) →
     BreaksTime asked a b blank full → WereRead (time_files asked.files) a b
 broken-read asked a b blank full r = files-read _ asked.files a b r

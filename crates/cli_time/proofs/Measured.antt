@@ -6,7 +6,7 @@ use Rattle.rv_machine.specs.Hart.{Hart}
 use Rattle.cf_layout.specs.Layout.{Plan}
 use Rattle.cf_core.specs.Processors.{Processor, opened}
 use Rattle.cf_run.specs.Ending.{EndsAlike, EndsAsMachine, EndsSequentially}
-use Rattle.cf_run.specs.Moving.{Place, place_of}
+use Rattle.cf_run.specs.Moving.{RunPlace, place_of}
 use Rattle.cf_run.specs.declared.answer.Scripted.TheVariants.{Ran}
 use Rattle.cf_timed.specs.declared.answer.Timed.{Timed}
 use Rattle.cf_timed.specs.declared.answer.Timed.TheVariants as timed
@@ -19,7 +19,7 @@ use Rattle.run_ledger.specs.declared.breakdown.Breakdown.{Breakdown}
 use Rattle.run_ledger.specs.declared.ledger.Ledger.{Ledger}
 use Rattle.cli_arguments.specs.declared.command.TimeOptions.{TimeOptions}
 use Rattle.cf_run.proofs.Opened.{can-run}
-use Rattle.cli_time.specs.Measures.{Measures, Takes, made_of, quiet}
+use Rattle.cli_time.specs.Measures.{Measures, MeasuresRun, made_of, quiet}
 use Rattle.cli_time.specs.declared.measuring.Measured.{Measured}
 
 -- a count that is always 0 does not rise
@@ -28,7 +28,7 @@ never-rises u (Ok v) e h = absurd (cc)
 never-rises u (Err v) e h = let rose = h.rose in absurd (omega (arith, rose))
 
 -- a run whose input and output cannot fail ends as the sequential machine does
-as-machine : (limit : ℕ) (hart : Hart) (begin new : Place) (answer : Timed) →
+as-machine : (limit : ℕ) (hart : Hart) (begin new : RunPlace) (answer : Timed) →
     HasCauses 0 0 0 0 (answer_of answer) →
     EndsAlike limit hart begin new (Ran (answer_of answer)) → EndsAsMachine limit hart begin new (answer_of answer)
 as-machine limit hart begin new (timed.Exit status) causes h = h
@@ -41,7 +41,7 @@ as-machine limit hart begin new timed.WriteFault causes h = absurd (never-rises 
 pub takes : (delays : List ℕ) (options : TimeOptions) (core last : Processor) (clock : SiteTimes) (measured : Measured)
     (runs : RunsTimed delays options.limit (begins core quiet) last quiet clock measured.moves measured.answer) →
     measured.time ≡ clock.latest → measured.retired ≡ last.state.retired →
-    measured.sites ≡ made_of options.sites core.plan delays runs.right.moves → Takes delays options core.plan core measured
+    measured.sites ≡ made_of options.sites core.plan delays runs.right.moves → MeasuresRun delays options core.plan core measured
 takes delays options core last clock measured runs time retired sites = record {
   last = last;
   clock = clock;
@@ -55,14 +55,14 @@ takes delays options core last clock measured runs time retired sites = record {
 pub takes-sites : (delays : List ℕ) (limit : ℕ) (core last : Processor) (clock : SiteTimes) (ledger : Ledger) (measured : Measured) (made : Breakdown) →
     RunsNoted delays limit (begins core quiet) last quiet clock ledger measured.moves measured.answer →
     measured.time ≡ clock.latest → measured.retired ≡ last.state.retired → measured.sites ≡ Some made → made ≡ told_by ledger →
-    Takes delays (record { limit = limit; sites = true }) core.plan core measured
+    MeasuresRun delays (record { limit = limit; sites = true }) core.plan core measured
 takes-sites delays limit core last clock ledger measured made noted time retired shown told =
     takes delays (record { limit = limit; sites = true }) core last clock measured noted.timed time retired
     (shown ∙ ap Some (told ∙ noted.tells))
 
 -- and so it was measured
 of-opened : (delays : List ℕ) (options : TimeOptions) (plan : Plan) (hart : Hart) (measured : Measured) →
-    Takes delays options plan (opened plan hart) measured →
+    MeasuresRun delays options plan (opened plan hart) measured →
     HasCauses 0 0 0 0 (answer_of measured.answer) →
     Measures delays options plan hart measured
 unfolding EndsSequentially opened
@@ -79,16 +79,16 @@ opened-plan core plan hart is = ap (λ (p : Processor). p.plan) is
 
 pub measures : (used delays : List ℕ) (options : TimeOptions) (sites : Bool) (core : Processor) (plan : Plan) (hart start : Hart) (measured : Measured) →
     used ≡ delays → options.sites ≡ sites → core ≡ opened plan hart → hart ≡ start →
-    Takes used (record { limit = options.limit; sites = sites }) core.plan core measured →
+    MeasuresRun used (record { limit = options.limit; sites = sites }) core.plan core measured →
     HasCauses 0 0 0 0 (answer_of measured.answer) →
     Measures delays options plan start measured
 measures used delays options sites core plan hart start measured same shown is begins_on taken causes =
     subst (λ (h : Hart). Measures delays options plan h measured) begins_on
     (of-opened delays options plan hart measured
-    (subst (λ (ds : List ℕ). Takes ds options plan (opened plan hart) measured) same
-    (subst (λ (p : Processor). Takes used options plan p measured) is
-    (subst (λ (l : Plan). Takes used options l core measured) (opened-plan core plan hart is)
-    (subst (λ (b : Bool). Takes used (record { limit = options.limit; sites = b }) core.plan core measured) (sym shown) taken))))
+    (subst (λ (ds : List ℕ). MeasuresRun ds options plan (opened plan hart) measured) same
+    (subst (λ (p : Processor). MeasuresRun used options plan p measured) is
+    (subst (λ (l : Plan). MeasuresRun used options l core measured) (opened-plan core plan hart is)
+    (subst (λ (b : Bool). MeasuresRun used (record { limit = options.limit; sites = b }) core.plan core measured) (sym shown) taken))))
     causes)
 
 -- the clock is a clock of the processor's layout that was told of no move

@@ -9,7 +9,7 @@ use Rattle.rv_machine.specs.Hart.{Hart}
 use Rattle.cf_layout.specs.Layout.{Plan}
 use Rattle.cf_report.specs.Putting.{PutsText}
 use Rattle.cli_arguments.specs.declared.command.TimeOptions.{TimeOptions}
-use Rattle.cli_arguments.specs.Words.{Layout}
+use Rattle.cli_arguments.specs.Words.{NamedLayout}
 use Rattle.cli_time.specs.Lines.{layout_lines, time_lines}
 use Rattle.cli_time.specs.Measures.{Measures, MeasuresFirst}
 use Rattle.cli_time.specs.Runs.{PutsAll, PutsFewer}
@@ -30,7 +30,7 @@ measures-next delays options hart (p ∷ plans) (k ∷ earlier) plan next (first
     (first, measures-next delays options hart plans earlier plan next more e m)
 
 -- and its line
-pub lines-next : (options : TimeOptions) (words : List Layout) (earlier : List Measured) (word : Layout) (next : Measured) →
+pub lines-next : (options : TimeOptions) (words : List NamedLayout) (earlier : List Measured) (word : NamedLayout) (next : Measured) →
     slice_get words (length earlier) ≡ Some word →
     time_lines options.limit words (earlier ++ next ∷ []) ≡ time_lines options.limit words earlier ++ layout_lines options.limit word next
 lines-next options [] [] word next e = absurd (cc)
@@ -43,7 +43,7 @@ lines-next options (w ∷ words) (k ∷ earlier) word next e =
     ∙ sym (append_assoc (layout_lines options.limit w k) (time_lines options.limit words earlier) (layout_lines options.limit word next))
 
 -- the runs on the first layouts, with their times, have their lines, and the report did not fail
-pub record RowsPut (words : List Layout) (options : TimeOptions) (delays : List ℕ) (plans : List Plan) (hart : Hart)
+pub record RowsPut (words : List NamedLayout) (options : TimeOptions) (delays : List ℕ) (plans : List Plan) (hart : Hart)
     (blank told : Option (List ℕ)) (before now : ℕ) (place : ℕ) (times : List ℕ) : Type 0 where
   pub measured : List Measured
   pub each : MeasuresFirst delays options hart plans measured
@@ -52,7 +52,7 @@ pub record RowsPut (words : List Layout) (options : TimeOptions) (delays : List 
   pub put : Writes blank told (time_lines options.limit words measured)
   pub still : now ≡ before
 
-pub rows-start : (words : List Layout) (options : TimeOptions) (delays : List ℕ) (plans : List Plan) (hart : Hart)
+pub rows-start : (words : List NamedLayout) (options : TimeOptions) (delays : List ℕ) (plans : List Plan) (hart : Hart)
     (blank : Option (List ℕ)) (faults : ℕ) (times : List ℕ) → times ≡ [] →
     RowsPut words options delays plans hart blank blank faults faults 0 times
 rows-start words options delays plans hart blank faults times none = record {
@@ -65,8 +65,8 @@ rows-start words options delays plans hart blank faults times none = record {
 }
 
 -- the next line was put
-put-next : (words : List Layout) (options : TimeOptions) (delays : List ℕ) (plans : List Plan) (hart : Hart)
-    (blank told full : Option (List ℕ)) (before now later : ℕ) (place : ℕ) (times more : List ℕ) (word : Layout) (plan : Plan) (next : Measured) →
+put-next : (words : List NamedLayout) (options : TimeOptions) (delays : List ℕ) (plans : List Plan) (hart : Hart)
+    (blank told full : Option (List ℕ)) (before now later : ℕ) (place : ℕ) (times more : List ℕ) (word : NamedLayout) (plan : Plan) (next : Measured) →
     RowsPut words options delays plans hart blank told before now place times →
     slice_get words place ≡ Some word → slice_get plans place ≡ Some plan → Measures delays options plan hart next →
     Writes told full (layout_lines options.limit word next) → later ≡ now → more ≡ times ++ next.time ∷ [] →
@@ -84,8 +84,8 @@ put-next words options delays plans hart blank told full before now later place 
       still = still ∙ h.still;
     }
 
-pub rows-next : {T E : Type 0} (words : List Layout) (options : TimeOptions) (delays : List ℕ) (plans : List Plan) (hart : Hart)
-    (blank told full : Option (List ℕ)) (before now later : ℕ) (place : ℕ) (times more : List ℕ) (word : Layout) (plan : Plan) (next : Measured)
+pub rows-next : {T E : Type 0} (words : List NamedLayout) (options : TimeOptions) (delays : List ℕ) (plans : List Plan) (hart : Hart)
+    (blank told full : Option (List ℕ)) (before now later : ℕ) (place : ℕ) (times more : List ℕ) (word : NamedLayout) (plan : Plan) (next : Measured)
     (r : Result T E) (failed : Bool) →
     RowsPut words options delays plans hart blank told before now place times →
     slice_get words place ≡ Some word → slice_get plans place ≡ Some plan → Measures delays options plan hart next →
@@ -98,7 +98,7 @@ rows-next words options delays plans hart blank told full before now later place
     absurd (cc)
 
 -- all were
-pub rows-all : (words : List Layout) (options : TimeOptions) (delays : List ℕ) (plans : List Plan) (hart : Hart)
+pub rows-all : (words : List NamedLayout) (options : TimeOptions) (delays : List ℕ) (plans : List Plan) (hart : Hart)
     (blank told : Option (List ℕ)) (before now : ℕ) (place : ℕ) (times : List ℕ) →
     RowsPut words options delays plans hart blank told before now place times → place ≡ length plans →
     PutsAll words options delays plans hart blank told times
@@ -111,7 +111,7 @@ rows-all words options delays plans hart blank told before now place times h end
 }
 
 -- memory was refused for the next run
-pub rows-fewer : (words : List Layout) (options : TimeOptions) (delays : List ℕ) (plans : List Plan) (hart : Hart)
+pub rows-fewer : (words : List NamedLayout) (options : TimeOptions) (delays : List ℕ) (plans : List Plan) (hart : Hart)
     (blank told : Option (List ℕ)) (before now : ℕ) (place : ℕ) (times : List ℕ) →
     RowsPut words options delays plans hart blank told before now place times → place < length plans →
     PutsFewer words options delays plans hart blank told
@@ -123,8 +123,8 @@ rows-fewer words options delays plans hart blank told before now place times h b
 }
 
 -- the report failed at the next line
-pub rows-break : {T E : Type 0} (words : List Layout) (options : TimeOptions) (delays : List ℕ) (plans : List Plan) (hart : Hart)
-    (blank told full : Option (List ℕ)) (before now later : ℕ) (place : ℕ) (times : List ℕ) (word : Layout) (plan : Plan) (next : Measured)
+pub rows-break : {T E : Type 0} (words : List NamedLayout) (options : TimeOptions) (delays : List ℕ) (plans : List Plan) (hart : Hart)
+    (blank told full : Option (List ℕ)) (before now later : ℕ) (place : ℕ) (times : List ℕ) (word : NamedLayout) (plan : Plan) (next : Measured)
     (r : Result T E) (failed : Bool) →
     RowsPut words options delays plans hart blank told before now place times →
     slice_get words place ≡ Some word → slice_get plans place ≡ Some plan → Measures delays options plan hart next →

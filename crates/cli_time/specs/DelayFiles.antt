@@ -1,6 +1,6 @@
 -- The delays that a file gives, and why it gives none.
 use Rattle.std.specs.Prelude.{◌≡◌, ◌<◌, ◌≤◌, ◌+◌, ◌⊎◌, ℕ, List, length, codes, Option, Ok, Err}
-use Rattle.cf_io.specs.Reads.{Told}
+use Rattle.cf_io.specs.ReadsFile.{FilesSeen}
 use Rattle.cf_timed.specs.DelayLines.{delays_in}
 use Rattle.cf_timed.specs.Limits.{most_delays}
 use Rattle.cli_files.specs.Files.{IsFrontOf, LacksBytes}
@@ -12,7 +12,7 @@ use Rattle.cli_files.specs.declared.status.Which.TheVariants as which
 use Rattle.report_refusals.specs.Delays.{bad_delays}
 
 -- the file's first bytes, one more than it may have, are not too many, and give these
-pub record IsDelaysAt (name : List ℕ) (before after : Option Told) (delays : List ℕ) : Type 0 where
+pub record IsDelaysAt (name : List ℕ) (before after : Option FilesSeen) (delays : List ℕ) : Type 0 where
   pub text : List ℕ
   pub front : IsFrontOf (most_delays + 1) before after name text
   pub fits : length text ≤ most_delays
@@ -29,13 +29,13 @@ RefusesText text answer report =
     (reason : DelaysFault) × IsNoText text reason × (answer ≡ status.BadDelays reason) × (report ≡ bad_delays reason)
 
 -- the file's first bytes give none
-pub record RefusesDelays (name : List ℕ) (before after : Option Told) (answer : Status) (report : List ℕ) : Type 0 where
+pub record RefusesDelays (name : List ℕ) (before after : Option FilesSeen) (answer : Status) (report : List ℕ) : Type 0 where
   pub text : List ℕ
   pub front : IsFrontOf (most_delays + 1) before after name text
   pub refuses : RefusesText text answer report
 
 -- why the file of this name gives no delays, the status that says so, and the report
-abbrev pub LacksDelays : List ℕ → Option Told → Option Told → Status → List ℕ → Type 0
+abbrev pub LacksDelays : List ℕ → Option FilesSeen → Option FilesSeen → Status → List ℕ → Type 0
 LacksDelays name before after answer report =
     RefusesDelays name before after answer report
     ⊎ LacksBytes which.Delays (codes "read fault delays") name before after answer report

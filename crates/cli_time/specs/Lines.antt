@@ -4,7 +4,7 @@ use Rattle.report_closing.specs.Lines.{line_of_run}
 use Rattle.texts.specs.Lines.{counted_line, line}
 use Rattle.cf_timed.specs.declared.answer.Timed.{Timed}
 use Rattle.cf_timed.specs.TimedRuns.{answer_of}
-use Rattle.cli_arguments.specs.Words.{Layout}
+use Rattle.cli_arguments.specs.Words.{NamedLayout}
 use Rattle.cli_time.specs.Asked.{name_of}
 use Rattle.cli_time.specs.SiteLines.{sites_text}
 use Rattle.cli_time.specs.declared.measuring.Measured.{Measured}
@@ -28,19 +28,19 @@ measured_text limit measured =
     ++ number_text (codes " moves ") measured.moves ++ counted_line (codes " retired ") measured.retired
 
 -- the line of a layout
-abbrev pub time_line : ℕ → Layout → Measured → List ℕ
+abbrev pub time_line : ℕ → NamedLayout → Measured → List ℕ
 time_line limit word measured = name_of word ++ measured_text limit measured
 
 -- the same, and after it the lines of what the time is made of, where that is shown
-abbrev pub layout_lines : ℕ → Layout → Measured → List ℕ
+abbrev pub layout_lines : ℕ → NamedLayout → Measured → List ℕ
 layout_lines limit word measured = time_line limit word measured ++ sites_text measured.sites
 
 -- the lines of the first layouts, as many as were measured
-abbrev pub time_lines : ℕ → List Layout → List Measured → List ℕ
+abbrev pub time_lines : ℕ → List NamedLayout → List Measured → List ℕ
 time_lines limit words [] = []
 time_lines limit [] (measured ∷ more) = []
 time_lines limit (word ∷ words) (measured ∷ more) = layout_lines limit word measured ++ time_lines limit words more
 
 -- the line that names the layout with the least time
-abbrev pub least_line : Layout → List ℕ
+abbrev pub least_line : NamedLayout → List ℕ
 least_line word = codes "least " ++ line (name_of word)

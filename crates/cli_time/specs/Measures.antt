@@ -25,7 +25,7 @@ abbrev pub made_of : Bool → Plan → List ℕ → List Move → Option Breakdo
 made_of sites plan delays moves = if sites then Some (breakdown plan delays moves) else None
 
 -- an opened processor of this layout makes the moves that are done first, and this was measured: how it ended, the greatest time of a move, how many moves there were, how many instructions retired, and what the time is made of, where that is shown
-pub record Takes (delays : List ℕ) (options : TimeOptions) (plan : Plan) (core : Processor) (measured : Measured) : Type 0 where
+pub record MeasuresRun (delays : List ℕ) (options : TimeOptions) (plan : Plan) (core : Processor) (measured : Measured) : Type 0 where
   pub last : Processor
   pub clock : SiteTimes
   pub runs : RunsTimed delays options.limit (begins core quiet) last quiet clock measured.moves measured.answer
@@ -35,7 +35,7 @@ pub record Takes (delays : List ℕ) (options : TimeOptions) (plan : Plan) (core
 
 -- the same of the layout's processor, opened on the hart
 pub record Measures (delays : List ℕ) (options : TimeOptions) (plan : Plan) (hart : Hart) (measured : Measured) : Type 0 where
-  pub takes : Takes delays options plan (opened plan hart) measured
+  pub takes : MeasuresRun delays options plan (opened plan hart) measured
   -- the time is the sum of the delays of a longest chain of the run
   pub longest : IsLongest plan delays takes.runs.right.moves measured.time
   -- ending and count are those of the sequential machine over the empty input, so the run ended by itself or at the limit

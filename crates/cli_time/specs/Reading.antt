@@ -1,9 +1,9 @@
 -- The files that `time` reads, one after another: that of the delays, those of the layouts in their order, and the program's.
 use Rattle.std.specs.Prelude.{◌⊎◌, ℕ, List, Option}
-use Rattle.cf_io.specs.Reads.{Told}
+use Rattle.cf_io.specs.ReadsFile.{FilesSeen}
 use Rattle.rv_machine.specs.Hart.{Hart}
 use Rattle.cf_layout.specs.Layout.{Plan}
-use Rattle.cli_arguments.specs.Words.{Layout}
+use Rattle.cli_arguments.specs.Words.{NamedLayout}
 use Rattle.cli_files.specs.Programs.{IsProgramAt, LacksProgram}
 use Rattle.cli_files.specs.declared.status.Status.{Status}
 use Rattle.cli_time.specs.Asked.{TimeFiles}
@@ -11,44 +11,44 @@ use Rattle.cli_time.specs.DelayFiles.{IsDelaysAt, LacksDelays}
 use Rattle.cli_time.specs.LayoutFiles.{AreLayoutsAt, LacksLayouts}
 
 -- the delays of this name and the layouts of these words are there
-pub record IsLaid (name : List ℕ) (words : List Layout) (before after : Option Told) (delays : List ℕ)
+pub record DelaysAndLayoutsRead (name : List ℕ) (words : List NamedLayout) (before after : Option FilesSeen) (delays : List ℕ)
     (plans : List Plan) : Type 0 where
-  pub between : Option Told
+  pub between : Option FilesSeen
   pub delays_at : IsDelaysAt name before between delays
   pub layouts : AreLayoutsAt words between after plans
 
 -- and after them the program, which begins on this hart
-pub record IsReady (asked : TimeFiles) (before after : Option Told) (delays : List ℕ) (plans : List Plan)
+pub record TimeFilesRead (asked : TimeFiles) (before after : Option FilesSeen) (delays : List ℕ) (plans : List Plan)
     (hart : Hart) : Type 0 where
-  pub between : Option Told
-  pub laid : IsLaid asked.delays asked.layouts before between delays plans
+  pub between : Option FilesSeen
+  pub laid : DelaysAndLayoutsRead asked.delays asked.layouts before between delays plans
   pub program : IsProgramAt asked.program between after hart
 
 -- the delays are there, and not all layouts
-pub record StopsAtLayout (name : List ℕ) (words : List Layout) (before after : Option Told) (answer : Status)
+pub record StopsAtLayout (name : List ℕ) (words : List NamedLayout) (before after : Option FilesSeen) (answer : Status)
     (report : List ℕ) : Type 0 where
   pub delays : List ℕ
-  pub between : Option Told
+  pub between : Option FilesSeen
   pub delays_at : IsDelaysAt name before between delays
   pub lacks : LacksLayouts words between after answer report
 
 -- the first of these that is not there, the status that says why, and the report
-abbrev pub LacksLaid : List ℕ → List Layout → Option Told → Option Told → Status → List ℕ → Type 0
-LacksLaid name words before after answer report =
+abbrev pub LacksDelaysOrLayouts : List ℕ → List NamedLayout → Option FilesSeen → Option FilesSeen → Status → List ℕ → Type 0
+LacksDelaysOrLayouts name words before after answer report =
     LacksDelays name before after answer report
     ⊎ StopsAtLayout name words before after answer report
 
 -- the delays and the layouts are there, and no program
-pub record StopsAtProgram (asked : TimeFiles) (before after : Option Told) (answer : Status) (report : List ℕ) : Type 0 where
+pub record TimingStopsAtProgram (asked : TimeFiles) (before after : Option FilesSeen) (answer : Status) (report : List ℕ) : Type 0 where
   pub delays : List ℕ
   pub plans : List Plan
-  pub between : Option Told
-  pub laid : IsLaid asked.delays asked.layouts before between delays plans
+  pub between : Option FilesSeen
+  pub laid : DelaysAndLayoutsRead asked.delays asked.layouts before between delays plans
   pub lacks : LacksProgram asked.program between after answer report
 
 -- the first of all files that is not there
-abbrev pub LacksFile : TimeFiles → Option Told → Option Told → Status → List ℕ → Type 0
-LacksFile asked before after answer report =
+abbrev pub LacksTimeFile : TimeFiles → Option FilesSeen → Option FilesSeen → Status → List ℕ → Type 0
+LacksTimeFile asked before after answer report =
     LacksDelays asked.delays before after answer report
     ⊎ (StopsAtLayout asked.delays asked.layouts before after answer report
-    ⊎ StopsAtProgram asked before after answer report)
+    ⊎ TimingStopsAtProgram asked before after answer report)

@@ -28,19 +28,19 @@ abbrev pub siding_numbers : Breakdown → List ℕ
 siding_numbers made = counted_from 0 (length made.layout.sidings)
 
 -- a kind of move by its name, and how many there are
-abbrev pub Count : Type 0
-Count = List ℕ × ℕ
+abbrev pub KindCount : Type 0
+KindCount = List ℕ × ℕ
 
 -- there are some
-abbrev pub is_made : Count → Bool
+abbrev pub is_made : KindCount → Bool
 is_made (name, number) = nat_lt 0 number
 
 -- both, after a space
-abbrev pub count_text : Count → List ℕ
+abbrev pub count_text : KindCount → List ℕ
 count_text (name, number) = codes " " ++ name ++ codes "=" ++ decimal number
 
 -- those kinds of which there are some
-unfoldable pub counts_text : List Count → List ℕ
+unfoldable pub counts_text : List KindCount → List ℕ
 counts_text counts = flat_map count_text (filter is_made counts)
 
 -- how many moves of each kind there are, in the order of the kinds

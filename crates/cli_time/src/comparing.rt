@@ -6,16 +6,16 @@ ghost use Rattle.cf_io.specs.Causes.{HasCause};
 ghost use Rattle.cli_arguments.specs.Words.{layout_in};
 ghost use Rattle.cli_files.specs.Causes.{input_answered, output_answered};
 ghost use Rattle.cli_files.specs.Deciding.{Decides, files_decided};
-ghost use Rattle.cli_files.specs.Image.{IsProgram, opened};
+ghost use Rattle.cli_files.specs.Image.{IsProgramFile, opened};
 ghost use Rattle.cli_time.specs.Asked.{time_asked};
-ghost use Rattle.cli_time.specs.Runs.{PutsAll, StopsAt, report_stopped};
+ghost use Rattle.cli_time.specs.Runs.{PutsAll, TimingStops, report_stopped};
 ghost use Rattle.cli_time.specs.Times.{AnswersTime, BreaksTime, BreaksTimes, TimesOf};
 
 use crate::layout_files::word_at;
 use crate::leasts::first_least;
 use crate::lines::{put_layout, put_least};
 use crate::measuring::measure;
-use crate::reading::{Ready, read_files};
+use crate::reading::{ReadyTimes, read_files};
 use arrayvec::ArrayVec;
 use cf_io::{Failed, Files, Sink};
 use cli_arguments::TimeOptions;
@@ -33,19 +33,19 @@ pub enum Stop {
 /// Runs the program on each layout, and puts the lines of each as they come. The times are given, in the order of the layouts.
 fn time_each<R: Sink>(
     alloc: Global,
-    ready: &Ready,
+    ready: &ReadyTimes,
     words: &[String],
     options: TimeOptions,
     report: &mut R,
 ) -> Result<ArrayVec<u64, 8>, Stop>
     requires limit { options.limit ≤ most_limit }
-    requires program { IsProgram (vec_items ready.now.image) }
+    requires program { IsProgramFile (vec_items ready.now.image) }
     requires words { length words.now ≡ length (vec_items ready.now.layouts) }
     requires few { length words.now ≤ 8 }
     ensures put { MatchResult result
         (λ times. PutsAll (map layout_in (map string_bytes words.now)) options ready.now.delays (vec_items ready.now.layouts)
         (opened (vec_items ready.now.image)) (R.written report.old) (R.written report.new) times.items)
-        (λ stop. StopsAt (map layout_in (map string_bytes words.now)) options ready.now.delays (vec_items ready.now.layouts)
+        (λ stop. TimingStops (map layout_in (map string_bytes words.now)) options ready.now.delays (vec_items ready.now.layouts)
         (opened (vec_items ready.now.image)) (R.written report.old) (R.written report.new) stop) }
     ensures cause { HasCause (R.faults report.old) (R.faults report.new) (report_stopped result) }
 {
@@ -74,13 +74,13 @@ fn time_each<R: Sink>(
 /// Runs the program on each layout, puts the lines of each, and names the first layout with the least time.
 fn compare_ready<R: Sink>(
     alloc: Global,
-    ready: &Ready,
+    ready: &ReadyTimes,
     words: &[String],
     options: TimeOptions,
     report: &mut R,
 ) -> Result<Answer, Failed>
     requires limit { options.limit ≤ most_limit }
-    requires program { IsProgram (vec_items ready.now.image) }
+    requires program { IsProgramFile (vec_items ready.now.image) }
     requires words { length words.now ≡ length (vec_items ready.now.layouts) }
     requires some { 1 ≤ length words.now }
     requires few { length words.now ≤ 8 }

@@ -4,8 +4,8 @@ ghost use Rattle.std.specs.Prelude.{◌≡◌, ◌≤◌, IfOk, false, true};
 ghost use Rattle.run_options.specs.Limits.{most_limit};
 ghost use Rattle.run_ledger.specs.Ledgers.{opened as opened_ledger};
 ghost use Rattle.cf_timed.specs.TimedRuns.{CanBegin, HasCauses, answer_of};
-ghost use Rattle.cli_files.specs.Image.{IsProgram, opened};
-ghost use Rattle.cli_time.specs.Measures.{Measures, Takes};
+ghost use Rattle.cli_files.specs.Image.{IsProgramFile, opened};
+ghost use Rattle.cli_time.specs.Measures.{Measures, MeasuresRun};
 
 use cf_core::Core;
 use cf_index::Candidates;
@@ -54,7 +54,7 @@ fn measurement(
 /// Runs an opened processor by a clock that was told of no move; no ledger is kept.
 fn take_time(core: &mut Core, candidates: &mut Candidates, clock: Clock, limit: u64) -> Measured
     requires begins { CanBegin limit core.old clock 0 }
-    ensures takes { Takes clock.delays (record { limit = limit; sites = false }) core.old.plan core.old result }
+    ensures takes { MeasuresRun clock.delays (record { limit = limit; sites = false }) core.old.plan core.old result }
     ensures causes { HasCauses 0 0 0 0 (answer_of result.answer) }
 {
     let mut clock = clock;
@@ -81,7 +81,7 @@ fn take_sites(
 ) -> Measured
     requires begins { CanBegin limit core.old clock 0 }
     requires ledger { ledger ≡ opened_ledger core.old.plan clock.delays }
-    ensures takes { Takes clock.delays (record { limit = limit; sites = true }) core.old.plan core.old result }
+    ensures takes { MeasuresRun clock.delays (record { limit = limit; sites = true }) core.old.plan core.old result }
     ensures causes { HasCauses 0 0 0 0 (answer_of result.answer) }
 {
     let mut clock = clock;
@@ -112,7 +112,7 @@ pub(crate) fn measure(
     options: TimeOptions,
 ) -> Result<Measured, AllocError>
     requires limit { options.limit ≤ most_limit }
-    requires program { IsProgram image.now }
+    requires program { IsProgramFile image.now }
     ensures { IfOk result (Measures delays options layout.now (opened image.now)) }
 {
     let machine = open_again(alloc, image)?;

@@ -4,10 +4,10 @@ ghost use Rattle.std.specs.Prelude.{◌≡◌, IfOk, IfErr, map, string_bytes, v
 ghost use Rattle.cf_io.specs.Causes.{HasCause};
 ghost use Rattle.cli_arguments.specs.Words.{layout_in};
 ghost use Rattle.cli_files.specs.Causes.{files_read};
-ghost use Rattle.cli_files.specs.Image.{IsProgram, opened};
+ghost use Rattle.cli_files.specs.Image.{IsProgramFile, opened};
 ghost use Rattle.cli_files.specs.Programs.{IsProgramAt, LacksProgram};
 ghost use Rattle.cli_time.specs.Asked.{files_asked};
-ghost use Rattle.cli_time.specs.Reading.{IsLaid, IsReady, LacksFile, LacksLaid};
+ghost use Rattle.cli_time.specs.Reading.{DelaysAndLayoutsRead, TimeFilesRead, LacksTimeFile, LacksDelaysOrLayouts};
 
 use crate::delay_files::delays_at;
 use crate::layout_files::layouts_at;
@@ -19,7 +19,7 @@ use std::alloc::Global;
 
 /// What the runs begin with: the delays, the layouts in their order, and the bytes of the program's file.
 #[derive(Drop)]
-pub(crate) struct Ready {
+pub(crate) struct ReadyTimes {
     pub(crate) delays: Delays,
     pub(crate) layouts: Vec<Layout>,
     pub(crate) image: Vec<u8>,
@@ -28,7 +28,7 @@ pub(crate) struct Ready {
 /// The bytes of the file of this name, which are a program, or the answer where they are no program.
 fn image_at<F: Files>(alloc: Global, name: &str, files: &mut F) -> Result<Vec<u8>, Answer>
     ensures ok { IfOk result (λ image. IsProgramAt name.now (F.told files.old) (F.told files.new) (opened (vec_items image))) }
-    ensures program { IfOk result (λ image. IsProgram (vec_items image)) }
+    ensures program { IfOk result (λ image. IsProgramFile (vec_items image)) }
     ensures refused { IfErr result (λ answer. LacksProgram name.now
         (F.told files.old) (F.told files.new) answer.status answer.closing) }
     ensures faults { HasCause (F.faults files.old) (F.faults files.new) (files_read result) }
@@ -45,7 +45,7 @@ fn image_at<F: Files>(alloc: Global, name: &str, files: &mut F) -> Result<Vec<u8
 
 /// The delays, and the layouts in their order.
 #[derive(Drop)]
-struct Laid {
+struct DelaysAndLayouts {
     delays: Delays,
     layouts: Vec<Layout>,
 }
@@ -56,10 +56,10 @@ fn laid_at<F: Files>(
     delays: &str,
     layouts: &[String],
     files: &mut F,
-) -> Result<Laid, Answer>
-    ensures laid { IfOk result (λ laid. IsLaid delays.now (map layout_in (map string_bytes layouts.now))
+) -> Result<DelaysAndLayouts, Answer>
+    ensures laid { IfOk result (λ laid. DelaysAndLayoutsRead delays.now (map layout_in (map string_bytes layouts.now))
         (F.told files.old) (F.told files.new) laid.delays (vec_items laid.layouts)) }
-    ensures lacks { IfErr result (λ answer. LacksLaid delays.now (map layout_in (map string_bytes layouts.now))
+    ensures lacks { IfErr result (λ answer. LacksDelaysOrLayouts delays.now (map layout_in (map string_bytes layouts.now))
         (F.told files.old) (F.told files.new) answer.status answer.closing) }
     ensures faults { HasCause (F.faults files.old) (F.faults files.new) (files_read result) }
 {
@@ -68,7 +68,7 @@ fn laid_at<F: Files>(
         Err(answer) => return Err(answer),
     };
     match layouts_at(alloc, layouts, files) {
-        Ok(layouts) => Ok(Laid { delays, layouts }),
+        Ok(layouts) => Ok(DelaysAndLayouts { delays, layouts }),
         Err(answer) => Err(answer),
     }
 }
@@ -80,12 +80,12 @@ pub(crate) fn read_files<F: Files>(
     program: &str,
     layouts: &[String],
     files: &mut F,
-) -> Result<Ready, Answer>
-    ensures ready { IfOk result (λ ready. IsReady
+) -> Result<ReadyTimes, Answer>
+    ensures ready { IfOk result (λ ready. TimeFilesRead
         (files_asked delays.now program.now (map layout_in (map string_bytes layouts.now)))
         (F.told files.old) (F.told files.new) ready.delays (vec_items ready.layouts) (opened (vec_items ready.image))) }
-    ensures program { IfOk result (λ ready. IsProgram (vec_items ready.image)) }
-    ensures lacks { IfErr result (λ answer. LacksFile
+    ensures program { IfOk result (λ ready. IsProgramFile (vec_items ready.image)) }
+    ensures lacks { IfErr result (λ answer. LacksTimeFile
         (files_asked delays.now program.now (map layout_in (map string_bytes layouts.now)))
         (F.told files.old) (F.told files.new) answer.status answer.closing) }
     ensures faults { HasCause (F.faults files.old) (F.faults files.new) (files_read result) }
@@ -95,7 +95,7 @@ pub(crate) fn read_files<F: Files>(
         Err(answer) => return Err(answer),
     };
     match image_at(alloc, program, files) {
-        Ok(image) => Ok(Ready {
+        Ok(image) => Ok(ReadyTimes {
             delays: laid.delays,
             layouts: laid.layouts,
             image,

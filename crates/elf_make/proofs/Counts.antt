@@ -5,7 +5,7 @@ use Rattle.std.specs.List.{count_by}
 use Rattle.std.proofs.lemmas.List.Recursion.{is_count_by}
 use Rattle.std.proofs.lemmas.List.{length-map}
 use Rattle.rv_asm.specs.declared.label.Label.{Label}
-use Rattle.rv_asm.specs.Labels.{Named, named}
+use Rattle.rv_asm.specs.Labels.{LabelView, named}
 use Rattle.rv_asm.specs.Small.{joined_names}
 use Rattle.elf_make.specs.Symbols.{is_bound, bound, closed, closed_names, in_order, names}
 use Rattle.elf_make.proofs.Entries.{names-append, length-names}
@@ -24,7 +24,7 @@ counted-locals labels =
     sym (is_count_by (λ (ls : List Label). length (bound false (map named ls))) (λ (label : Label). not label.global) refl
     (λ x xs. length-by (not x.global) (named x) (bound false (map named xs))) labels)
 
-pub length-bound : (g : Bool) (xs : List Named) → length (bound g xs) ≤ length xs
+pub length-bound : (g : Bool) (xs : List LabelView) → length (bound g xs) ≤ length xs
 length-bound g [] = omega arith
 length-bound g (x ∷ xs) =
     let step = length-by (is_bound g x) x (bound g xs) in
@@ -32,25 +32,25 @@ length-bound g (x ∷ xs) =
     omega (arith, step, either (is_bound g x) (length (bound g xs)) (length xs) rest)
 
 -- each name has one byte more with its NUL
-pub length-closed : (xs : List Named) → length (closed_names xs) ≡ length (joined_names xs) + length xs
+pub length-closed : (xs : List LabelView) → length (closed_names xs) ≡ length (joined_names xs) + length xs
 length-closed [] = refl
 length-closed (x ∷ xs) =
     omega (arith, length-names x xs, length-append x.name (0 ∷ []), length-append x.name (joined_names xs), length-closed xs)
 
-split : (g : Bool) (x : Named) (ps qs : List Named)
+split : (g : Bool) (x : LabelView) (ps qs : List LabelView)
     → length (closed_names (cond (not g) (x ∷ ps) ps)) + length (closed_names (cond g (x ∷ qs) qs)) ≡ length (closed x.name) + (length (closed_names ps) + length (closed_names qs))
 split true x ps qs = omega (arith, length-names x qs)
 split false x ps qs = omega (arith, length-names x ps)
 
 -- the names of all labels are those of the local ones and of the others
-pub length-halves : (xs : List Named) → length (closed_names (bound false xs)) + length (closed_names (bound true xs)) ≡ length (closed_names xs)
+pub length-halves : (xs : List LabelView) → length (closed_names (bound false xs)) + length (closed_names (bound true xs)) ≡ length (closed_names xs)
 length-halves [] = refl
 length-halves (x ∷ xs) =
     let rest = length-halves xs in
     let first = split x.global x (bound false xs) (bound true xs) in
     omega (arith, rest, first, length-names x xs)
 
-pub length-in_order : (xs : List Named) → length (closed_names (in_order xs)) ≡ length (closed_names xs)
+pub length-in_order : (xs : List LabelView) → length (closed_names (in_order xs)) ≡ length (closed_names xs)
 unfolding in_order
 length-in_order xs =
     ap (λ (n : List ℕ). length n) (names-append (bound false xs) (bound true xs))
@@ -58,26 +58,26 @@ length-in_order xs =
 
 pub ruleset counts = (counted-locals, length-bound)
 
-bound-by : (g : Bool) (x : Named) (ps qs : List Named)
+bound-by : (g : Bool) (x : LabelView) (ps qs : List LabelView)
     → length (cond (not g) (x ∷ ps) ps) + length (cond g (x ∷ qs) qs) ≡ 1 + (length ps + length qs)
 bound-by true x ps qs = omega arith
 bound-by false x ps qs = omega arith
 
-bound-all : (xs : List Named) → length (bound false xs) + length (bound true xs) ≡ length xs
+bound-all : (xs : List LabelView) → length (bound false xs) + length (bound true xs) ≡ length xs
 bound-all [] = refl
 bound-all (x ∷ xs) = omega (arith, bound-all xs, bound-by x.global x (bound false xs) (bound true xs))
 
 -- the order keeps all labels
-pub length-order : (xs : List Named) → length (in_order xs) ≡ length xs
+pub length-order : (xs : List LabelView) → length (in_order xs) ≡ length xs
 unfolding in_order
 length-order xs = length-append (bound false xs) (bound true xs) ∙ bound-all xs
 
-pub length-symbol_names : (xs : List Named) → length (names xs) ≡ 1 + length (closed_names xs)
+pub length-symbol_names : (xs : List LabelView) → length (names xs) ≡ 1 + length (closed_names xs)
 unfolding names
 length-symbol_names xs = omega (arith, length-in_order xs)
 
-pub length-named : (ls : List Label) (xs : List Named) → map named ls ≡ xs → length xs ≡ length ls
-length-named ls xs e = ap (λ (l : List Named). length l) (sym e) ∙ length-map ls named
+pub length-named : (ls : List Label) (xs : List LabelView) → map named ls ≡ xs → length xs ≡ length ls
+length-named ls xs e = ap (λ (l : List LabelView). length l) (sym e) ∙ length-map ls named
 
 pub ruleset sums = (length-symbol_names, length-closed)
 

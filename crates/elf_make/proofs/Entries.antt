@@ -4,35 +4,35 @@ use Rattle.std.specs.Prelude.{map, nat_lt, ◌&&◌}
 use Rattle.std.proofs.lemmas.Grind.{flat_map-append}
 use Rattle.std.proofs.lemmas.List.Folds.{list_all-append}
 use Rattle.std.proofs.lemmas.Bool.Decides.{nat_tests}
-use Rattle.rv_asm.specs.Labels.{Named}
+use Rattle.rv_asm.specs.Labels.{LabelView}
 use Rattle.elf_make.specs.Symbols.{is_bound, bound, closed, closed_names, in_order, entry, entries_from, are_addresses}
 
 -- a label in front, or not
-names-by : (b : Bool) (x : Named) (xs : List Named) → closed_names (cond b (x ∷ xs) xs) ≡ closed_names (cond b (x ∷ []) []) ++ closed_names xs
+names-by : (b : Bool) (x : LabelView) (xs : List LabelView) → closed_names (cond b (x ∷ xs) xs) ≡ closed_names (cond b (x ∷ []) []) ++ closed_names xs
 names-by true x xs = ap (λ (n : List ℕ). n ++ closed_names xs) (sym (append-nil (closed x.name)))
 names-by false x xs = refl
 
-pub bound-names : (g : Bool) (x : Named) (xs : List Named) → closed_names (bound g (x ∷ xs)) ≡ closed_names (bound g (x ∷ [])) ++ closed_names (bound g xs)
+pub bound-names : (g : Bool) (x : LabelView) (xs : List LabelView) → closed_names (bound g (x ∷ xs)) ≡ closed_names (bound g (x ∷ [])) ++ closed_names (bound g xs)
 bound-names g x xs = names-by (is_bound g x) x (bound g xs)
 
-length-names-by : (b : Bool) (x : Named) → length (closed_names (cond b (x ∷ []) [])) ≤ length (closed x.name)
+length-names-by : (b : Bool) (x : LabelView) → length (closed_names (cond b (x ∷ []) [])) ≤ length (closed x.name)
 length-names-by true x = rw (append-nil (closed x.name)) (omega arith)
 length-names-by false x = omega arith
 
 -- the names of one label, or of none
-bound-name-shorter : (g : Bool) (x : Named) → length (closed_names (bound g (x ∷ []))) ≤ length (closed x.name)
+bound-name-shorter : (g : Bool) (x : LabelView) → length (closed_names (bound g (x ∷ []))) ≤ length (closed x.name)
 bound-name-shorter g x = length-names-by (is_bound g x) x
 
-pub length-names : (x : Named) (xs : List Named) → length (closed_names (x ∷ xs)) ≡ length (closed x.name) + length (closed_names xs)
+pub length-names : (x : LabelView) (xs : List LabelView) → length (closed_names (x ∷ xs)) ≡ length (closed x.name) + length (closed_names xs)
 length-names x xs = length-append (closed x.name) (closed_names xs)
 
-pub bound-shorter : (g : Bool) (xs : List Named) → length (closed_names (bound g xs)) ≤ length (closed_names xs)
+pub bound-shorter : (g : Bool) (xs : List LabelView) → length (closed_names (bound g xs)) ≤ length (closed_names xs)
 bound-shorter g [] = omega arith
 bound-shorter g (x ∷ xs) =
     rw (bound-names g x xs, length-append (closed_names (bound g (x ∷ []))) (closed_names (bound g xs)), length-names x xs)
     (omega (arith, bound-name-shorter g x, bound-shorter g xs))
 
-pub entries-append : (at : ℕ) (xs ys : List Named) → entries_from at (xs ++ ys) ≡ entries_from at xs ++ entries_from (at + length (closed_names xs)) ys
+pub entries-append : (at : ℕ) (xs ys : List LabelView) → entries_from at (xs ++ ys) ≡ entries_from at xs ++ entries_from (at + length (closed_names xs)) ys
 entries-append at [] ys = let end : at + 0 ≡ at = omega arith in rw end refl
 entries-append at (x ∷ xs) ys =
     let after : (at + length (closed x.name)) + length (closed_names xs) ≡ at + length (closed_names (x ∷ xs)) = omega (arith, length-names x xs) in
@@ -41,34 +41,34 @@ entries-append at (x ∷ xs) ys =
     ∙ sym (append_assoc (entry at x) (entries_from (at + length (closed x.name)) xs) (entries_from ((at + length (closed x.name)) + length (closed_names xs)) ys))
     ∙ ap (λ (end : ℕ). (entry at x ++ entries_from (at + length (closed x.name)) xs) ++ entries_from end ys) after
 
-pub names-append : (xs ys : List Named) → closed_names (xs ++ ys) ≡ closed_names xs ++ closed_names ys
-names-append xs ys = flat_map-append (λ (label : Named). closed label.name) xs ys
+pub names-append : (xs ys : List LabelView) → closed_names (xs ++ ys) ≡ closed_names xs ++ closed_names ys
+names-append xs ys = flat_map-append (λ (label : LabelView). closed label.name) xs ys
 
 -- the labels of two lists were put after the first symbol
-pub symbols-put : (old none first second new : List ℕ) (start : ℕ) (xs ys : List Named)
+pub symbols-put : (old none first second new : List ℕ) (start : ℕ) (xs ys : List LabelView)
     → new ≡ second ++ entries_from start ys → second ≡ first ++ entries_from 1 xs → first ≡ old ++ none
     → start ≡ 1 + length (closed_names xs) → new ≡ old ++ (none ++ entries_from 1 (xs ++ ys))
 symbols-put old none first second new start xs ys e h k at =
     rw (e, h, k, at, entries-append 1 xs ys) (simp append_assoc)
 
 -- a label whose value has 32 bits, or no label
-one-address : (b : Bool) (x : Named) → x.value < 2 ^ 32 → are_addresses (cond b (x ∷ []) []) ≡ true
+one-address : (b : Bool) (x : LabelView) → x.value < 2 ^ 32 → are_addresses (cond b (x ∷ []) []) ≡ true
 one-address true x h = let test : nat_lt x.value (2 ^ 32) ≡ true = grind (arith, nat_tests) in rw test refl
 one-address false x h = refl
 
-pub bound-address : (g : Bool) (x : Named) → x.value < 2 ^ 32 → are_addresses (bound g (x ∷ [])) ≡ true
+pub bound-address : (g : Bool) (x : LabelView) → x.value < 2 ^ 32 → are_addresses (bound g (x ∷ [])) ≡ true
 bound-address g x h = one-address (is_bound g x) x h
 
-no-address : (b : Bool) (x : Named) → b ≡ false → are_addresses (cond b (x ∷ []) []) ≡ true
+no-address : (b : Bool) (x : LabelView) → b ≡ false → are_addresses (cond b (x ∷ []) []) ≡ true
 no-address true x e = absurd (cc)
 no-address false x e = refl
 
-pub unbound-address : (g : Bool) (x : Named) → is_bound g x ≡ false → are_addresses (bound g (x ∷ [])) ≡ true
+pub unbound-address : (g : Bool) (x : LabelView) → is_bound g x ≡ false → are_addresses (bound g (x ∷ [])) ≡ true
 unbound-address g x e = no-address (is_bound g x) x e
 
-pub both-addresses : (xs : List Named) → are_addresses (bound false xs) ≡ true → are_addresses (bound true xs) ≡ true → are_addresses (in_order xs) ≡ true
+pub both-addresses : (xs : List LabelView) → are_addresses (bound false xs) ≡ true → are_addresses (bound true xs) ≡ true → are_addresses (in_order xs) ≡ true
 unfolding in_order
-both-addresses xs h k = rw (list_all-append (λ (label : Named). nat_lt label.value (2 ^ 32)) (bound false xs) (bound true xs), h, k) refl
+both-addresses xs h k = rw (list_all-append (λ (label : LabelView). nat_lt label.value (2 ^ 32)) (bound false xs) (bound true xs), h, k) refl
 
 pub ruleset address = (bound-address, unbound-address)
 

@@ -2,8 +2,8 @@
 use Rattle.std.proofs.Common.{◌≡◌, ℕ, ◌+◌, ◌-◌, ◌*◌, ◌^◌, ◌<◌, ◌≤◌, Bool, true, false, List, [], ◌∷◌, ◌++◌, length, take, drop, replicate, refl, sym, ap, ◌∙◌, arith, append_assoc, length-append, length-drop}
 use Rattle.std.proofs.lemmas.List.{length-replicate}
 use Rattle.rv_asm.specs.declared.object.Object.{Object}
-use Rattle.rv_asm.specs.Labels.{Named}
-use Rattle.rv_asm.specs.Small.{IsSmall, joined_names}
+use Rattle.rv_asm.specs.Labels.{LabelView}
+use Rattle.rv_asm.specs.Small.{IsSmallObject, joined_names}
 use Rattle.elf_make.specs.declared.sizes.Sizes.{Sizes}
 use Rattle.elf_make.specs.Fields.{halves, words}
 use Rattle.elf_make.specs.Sizes.{padding, padded, zeros_after, text_at, data_at, symbols_at, symbols_len, names_at, section_names_at, section_names_len, section_names_end, sections_at, AreSmall}
@@ -53,16 +53,16 @@ pub after-front : (s : Sizes) (start : ℕ) (rest : List ℕ) → drop 116 (fron
 unfolding front identity halves words
 after-front s start rest = refl
 
-length-entry : (name : ℕ) (label : Named) → length (entry name label) ≡ 16
+length-entry : (name : ℕ) (label : LabelView) → length (entry name label) ≡ 16
 unfolding halves words
 length-entry name label = refl
 
-pub length-entries_from : (name : ℕ) (labels : List Named) → length (entries_from name labels) ≡ 16 * length labels
+pub length-entries_from : (name : ℕ) (labels : List LabelView) → length (entries_from name labels) ≡ 16 * length labels
 length-entries_from name [] = refl
 length-entries_from name (l ∷ ls) =
     omega (arith, length-append (entry name l) (entries_from (name + length (closed l.name)) ls), length-entry name l, length-entries_from (name + length (closed l.name)) ls)
 
-pub length-symbols : (labels : List Named) → length (symbol_table labels) ≡ 16 * (length labels + 1)
+pub length-symbols : (labels : List LabelView) → length (symbol_table labels) ≡ 16 * (length labels + 1)
 unfolding symbol_table
 length-symbols labels =
     omega (arith, length-append (replicate 16 0) (entries_from 1 (in_order labels)), length-entries_from 1 (in_order labels), length-order labels)
@@ -120,7 +120,7 @@ length-file o =
     omega (arith, n, length-drop (sections_at (sizes_of o)) (elf_file o), length-headers (sizes_of o))
 
 -- the sizes of an object that can be written are small
-pub small-sizes : (o : Object) → IsSmall o → AreSmall (sizes_of o)
+pub small-sizes : (o : Object) → IsSmallObject o → AreSmall (sizes_of o)
 small-sizes o h = record {
   text = h.text;
   data_section = h.data_section;

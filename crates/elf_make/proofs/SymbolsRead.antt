@@ -11,7 +11,7 @@ use Rattle.elf_view.specs.declared.headers.SymbolEntry.{SymbolEntry}
 use Rattle.elf_view.specs.Fields.{word, entries}
 use Rattle.elf_view.specs.Headers.{symbol_entry}
 use Rattle.elf_view.specs.Symbols.{NamedSymbol, symbol_of as symbol_read}
-use Rattle.rv_asm.specs.Labels.{Named}
+use Rattle.rv_asm.specs.Labels.{LabelView}
 use Rattle.rv_asm.specs.Small.{HasNoNul, joined_names}
 use Rattle.elf_make.specs.Fields.{halves, words}
 use Rattle.elf_make.specs.Symbols.{is_bound, bound, closed, closed_names, in_order, entry, entries_from}
@@ -19,14 +19,14 @@ use Rattle.elf_make.specs.Viewed.{symbol_of}
 use Rattle.elf_make.proofs.Located.{after-part, word-in, word-is}
 
 -- the value of a label is an address
-abbrev pub IsAddress : Named → Type 0
+abbrev pub IsAddress : LabelView → Type 0
 IsAddress label = label.value < 2 ^ 32
 
 abbrev IsNoNul : ℕ → Type 0
 IsNoNul byte = byte ≢ 0
 
 -- the entries that are read
-abbrev pub entries_read : ℕ → List Named → List SymbolEntry
+abbrev pub entries_read : ℕ → List LabelView → List SymbolEntry
 entries_read name [] = []
 entries_read name (l ∷ ls) =
     record { name = name; value = l.value; size = 0 } ∷ entries_read (name + length (closed l.name)) ls
@@ -34,7 +34,7 @@ entries_read name (l ∷ ls) =
 abbrev entry_with : ℕ → ℕ → ℕ → SymbolEntry
 entry_with name value size = record { name = name; value = value; size = size }
 
-entry-is : (name : ℕ) (l : Named) (rest : List ℕ) → name < 2 ^ 32 → l.value < 2 ^ 32
+entry-is : (name : ℕ) (l : LabelView) (rest : List ℕ) → name < 2 ^ 32 → l.value < 2 ^ 32
     → symbol_entry (entry name l ++ rest) 0 ≡ entry_with name l.value 0
 unfolding halves words word
 entry-is name l rest h k =
@@ -48,11 +48,11 @@ pub entry-in : (file part : List ℕ) (at : ℕ) → drop at file ≡ part → s
 entry-in file part at e =
     same-entry _ _ _ _ _ _ (word-in file part at 0 at e (omega arith)) (word-in file part at 4 (at + 4) e refl) (word-in file part at 8 (at + 8) e refl)
 
-length-entry : (name : ℕ) (l : Named) → length (entry name l) ≡ 16
+length-entry : (name : ℕ) (l : LabelView) → length (entry name l) ≡ 16
 unfolding halves words
 length-entry name l = refl
 
-pub entries-are : (labels : List Named) (file rest : List ℕ) (at name : ℕ) → drop at file ≡ entries_from name labels ++ rest
+pub entries-are : (labels : List LabelView) (file rest : List ℕ) (at name : ℕ) → drop at file ≡ entries_from name labels ++ rest
     → All IsAddress labels → name + length (closed_names labels) < 2 ^ 32
     → entries symbol_entry 16 file at (length labels) ≡ entries_read name labels
 entries-are [] file rest at name e h n = refl
@@ -93,7 +93,7 @@ back-no-nul (b ∷ bs) others h = back-no-nul bs others (All-tail IsNoNul b (bs 
 abbrev symbol_with : List ℕ → ℕ → ℕ → NamedSymbol
 symbol_with name value size = record { name = name; value = value; size = size }
 
-pub symbols-are : (labels : List Named) (names : List ℕ) (at : ℕ) → drop at names ≡ closed_names labels → HasNoNul (joined_names labels)
+pub symbols-are : (labels : List LabelView) (names : List ℕ) (at : ℕ) → drop at names ≡ closed_names labels → HasNoNul (joined_names labels)
     → map (symbol_read names) (entries_read at labels) ≡ map symbol_of labels
 symbols-are [] names at e h = refl
 symbols-are (l ∷ ls) names at e h =
@@ -108,7 +108,7 @@ abbrev pub IsNameBelow : ℕ → SymbolEntry → Type 0
 IsNameBelow size e = e.name < size
 
 -- each name begins before the end of all
-pub names-begin : (labels : List Named) (name size : ℕ) → name + length (closed_names labels) ≤ size
+pub names-begin : (labels : List LabelView) (name size : ℕ) → name + length (closed_names labels) ≤ size
     → All (IsNameBelow size) (entries_read name labels)
 names-begin [] name size h = All-nil (IsNameBelow size)
 names-begin (l ∷ ls) name size h =
@@ -117,7 +117,7 @@ names-begin (l ∷ ls) name size h =
     All-cons (IsNameBelow size) (entry_with name l.value 0) (entries_read (name + length (closed l.name)) ls) (omega arith) (names-begin ls (name + length (closed l.name)) size (omega arith))
 
 -- the last byte of the names is NUL
-pub names-end : (labels : List Named) → get_or (0 ∷ closed_names labels) (length (closed_names labels)) 0 ≡ 0
+pub names-end : (labels : List LabelView) → get_or (0 ∷ closed_names labels) (length (closed_names labels)) 0 ≡ 0
 names-end [] = refl
 names-end (l ∷ ls) =
     let whole : (0 ∷ closed_names (l ∷ ls)) ≡ (0 ∷ l.name) ++ (0 ∷ closed_names ls) = ap (λ (n : List ℕ). 0 ∷ n) (append_assoc l.name (0 ∷ []) (closed_names ls)) in
@@ -129,17 +129,17 @@ names-end (l ∷ ls) =
     ∙ names-end ls
 
 -- what holds of the labels holds of them in another order
-either-no-nul : (b : Bool) (x : Named) (xs : List Named) → HasNoNul x.name → HasNoNul (joined_names xs) → HasNoNul (joined_names (cond b (x ∷ xs) xs))
+either-no-nul : (b : Bool) (x : LabelView) (xs : List LabelView) → HasNoNul x.name → HasNoNul (joined_names xs) → HasNoNul (joined_names (cond b (x ∷ xs) xs))
 either-no-nul true x xs h k = All-append IsNoNul x.name (joined_names xs) h k
 either-no-nul false x xs h k = k
 
-bound-no-nul : (g : Bool) (labels : List Named) → HasNoNul (joined_names labels) → HasNoNul (joined_names (bound g labels))
+bound-no-nul : (g : Bool) (labels : List LabelView) → HasNoNul (joined_names labels) → HasNoNul (joined_names (bound g labels))
 bound-no-nul g [] h = h
 bound-no-nul g (l ∷ ls) h =
     either-no-nul (is_bound g l) l (bound g ls) (front-no-nul l.name (joined_names ls) h) (bound-no-nul g ls (back-no-nul l.name (joined_names ls) h))
 
-pub order-no-nul : (labels : List Named) → HasNoNul (joined_names labels) → HasNoNul (joined_names (in_order labels))
+pub order-no-nul : (labels : List LabelView) → HasNoNul (joined_names labels) → HasNoNul (joined_names (in_order labels))
 unfolding in_order
 order-no-nul labels h =
-    subst HasNoNul (sym (flat_map-append (λ (l : Named). l.name) (bound false labels) (bound true labels)))
+    subst HasNoNul (sym (flat_map-append (λ (l : LabelView). l.name) (bound false labels) (bound true labels)))
     (All-append IsNoNul (joined_names (bound false labels)) (joined_names (bound true labels)) (bound-no-nul false labels h) (bound-no-nul true labels h))

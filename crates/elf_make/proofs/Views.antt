@@ -11,14 +11,14 @@ use Rattle.elf_view.specs.declared.headers.SectionHeader.{SectionHeader}
 use Rattle.elf_view.specs.declared.headers.SymbolEntry.{SymbolEntry}
 use Rattle.elf_view.specs.Fields.{bytes_at, entries}
 use Rattle.elf_view.specs.Headers.{file_header, program_headers, symbol_entry, number_of_sections}
-use Rattle.elf_view.specs.Segments.{is_load, segment_of, segments_in, segments_of, LoadSegment, IsSound}
+use Rattle.elf_view.specs.Segments.{is_load, segment_of, segments_in, segments_of, LoadSegment, IsSoundSegment}
 use Rattle.elf_view.specs.Sections.{first_symbol_table, section_at, content_of, entries_of, IsReadable, HasNames}
 use Rattle.elf_view.specs.Symbols.{NamedSymbol, symbol_of as symbol_read, symbols_at, symbols_in, symbols_of}
 use Rattle.elf_view.specs.Executables.{HasIdentity, HasTarget, HasTables, IsElf}
 use Rattle.elf_view.proofs.Executables.{elf-accepted}
 use Rattle.rv_asm.specs.declared.object.Object.{Object}
-use Rattle.rv_asm.specs.Labels.{Named}
-use Rattle.rv_asm.specs.Small.{IsSmall, joined_names}
+use Rattle.rv_asm.specs.Labels.{LabelView}
+use Rattle.rv_asm.specs.Small.{IsSmallObject, joined_names}
 use Rattle.elf_make.specs.declared.sizes.Sizes.{Sizes}
 use Rattle.elf_make.specs.Fields.{halves, words}
 use Rattle.elf_make.specs.Headers.{identity}
@@ -43,7 +43,7 @@ record IsRead (o : Object) (file : List ℕ) : Type 0 where
   symbols : section_at file 3 ≡ symbols_header (sizes_of o)
   names : section_at file 4 ≡ names_header (sizes_of o)
 
-is-read : (o : Object) → IsSmall o → o.entry < 2 ^ 32 → IsRead o (elf_file o)
+is-read : (o : Object) → IsSmallObject o → o.entry < 2 ^ 32 → IsRead o (elf_file o)
 is-read o h e =
     let s = sizes_of o in
     let small = small-sizes o h in
@@ -82,7 +82,7 @@ segments-are o r =
     (part-at f o.data_bytes (from_data_padding o) (data_at s) d (data-placed o) refl)
 
 -- the entries of the symbol table
-symbol-entries : (o : Object) → IsSmall o → All IsAddress (in_order o.labels)
+symbol-entries : (o : Object) → IsSmallObject o → All IsAddress (in_order o.labels)
     → entries symbol_entry 16 (elf_file o) (symbols_begin (sizes_of o)) (symbols_len (sizes_of o) / 16) ≡ record { name = 0; value = 0; size = 0 } ∷ entries_read 1 (in_order o.labels)
 unfolding symbol_table
 symbol-entries o h a =
@@ -104,7 +104,7 @@ content-is : (o : Object) → content_of (elf_file o) (names_header (sizes_of o)
 content-is o = part-at (elf_file o) (names o.labels) (from_section_names o) (names_at (sizes_of o)) (length (names o.labels)) (names-placed o) refl
 
 -- the symbols
-symbols-seen : (o : Object) → IsSmall o → All IsAddress (in_order o.labels) → IsRead o (elf_file o)
+symbols-seen : (o : Object) → IsSmallObject o → All IsAddress (in_order o.labels) → IsRead o (elf_file o)
     → symbols_of (elf_file o) ≡ no_symbol ∷ map symbol_of (in_order o.labels)
 unfolding symbols_of names
 symbols-seen o h a r =
@@ -136,10 +136,10 @@ tables-are o file r =
       sections = λ some. omega (arith, r.long, six);
     }
 
-sound-text : (o : Object) (file : List ℕ) → IsRead o file → IsSound file (load_with 116 0x10000 (length o.text_bytes) (length o.text_bytes) 5)
+sound-text : (o : Object) (file : List ℕ) → IsRead o file → IsSoundSegment file (load_with 116 0x10000 (length o.text_bytes) (length o.text_bytes) 5)
 sound-text o file r = record { within = omega (arith, r.long, r.order); room = omega arith }
 
-sound-data : (o : Object) (file : List ℕ) → IsRead o file → IsSound file (load_with (data_at (sizes_of o)) 0x200000 (length o.data_bytes) (length o.data_bytes) 6)
+sound-data : (o : Object) (file : List ℕ) → IsRead o file → IsSoundSegment file (load_with (data_at (sizes_of o)) 0x200000 (length o.data_bytes) (length o.data_bytes) 6)
 sound-data o file r = record { within = omega (arith, r.long, r.order); room = omega arith }
 
 abbrev IsNoInterpreter : ProgramHeader → Type 0
@@ -149,7 +149,7 @@ loaded : (h : ProgramHeader) → h.kind ≡ 1 → IsNoInterpreter h
 loaded h e k = omega (arith, e, k)
 
 abbrev Sound : List ℕ → List ProgramHeader → Type 0
-Sound file headers = All (IsSound file) (filter is_load headers)
+Sound file headers = All (IsSoundSegment file) (filter is_load headers)
 
 last-name : (o : Object) → slice_index (content_of (elf_file o) (names_header (sizes_of o))) (length (names o.labels) - 1) ≡ 0
 unfolding names
@@ -159,7 +159,7 @@ last-name o =
     ap (λ (content : List ℕ). slice_index content (length (names o.labels) - 1)) (content-is o)
     ∙ ap (λ (k : ℕ). slice_index (0 ∷ closed_names ls) k) at ∙ names-end ls
 
-names-are : (o : Object) → IsSmall o → All IsAddress (in_order o.labels) → IsRead o (elf_file o)
+names-are : (o : Object) → IsSmallObject o → All IsAddress (in_order o.labels) → IsRead o (elf_file o)
     → HasNames (elf_file o) (names_header (sizes_of o)) (entries symbol_entry 16 (elf_file o) (symbols_begin (sizes_of o)) (symbols_len (sizes_of o) / 16))
 names-are o h a r =
     let ls = in_order o.labels in
@@ -174,7 +174,7 @@ names-are o h a r =
           (All-cons (IsNameBelow size) (record { name = 0; value = 0; size = 0 }) (entries_read 1 ls) (omega (arith, count)) names);
     }
 
-readable : (o : Object) → IsSmall o → All IsAddress (in_order o.labels) → IsRead o (elf_file o) → IsReadable (elf_file o) (symbols_header (sizes_of o))
+readable : (o : Object) → IsSmallObject o → All IsAddress (in_order o.labels) → IsRead o (elf_file o) → IsReadable (elf_file o) (symbols_header (sizes_of o))
 readable o h a r =
     let f = elf_file o in
     let s = sizes_of o in
@@ -190,7 +190,7 @@ readable o h a r =
       names = subst (λ (section : SectionHeader). HasNames f section es) (sym r.names) (names-are o h a r);
     }
 
-elf-is : (o : Object) → IsSmall o → All IsAddress (in_order o.labels) → IsRead o (elf_file o) → IsElf (elf_file o)
+elf-is : (o : Object) → IsSmallObject o → All IsAddress (in_order o.labels) → IsRead o (elf_file o) → IsElf (elf_file o)
 elf-is o h a r =
     let f = elf_file o in
     let s = sizes_of o in
@@ -204,14 +204,14 @@ elf-is o h a r =
       no_interpreter = subst (λ (headers : List ProgramHeader). All IsNoInterpreter headers) (sym r.programs)
           (All-cons IsNoInterpreter t (d ∷ []) (loaded t refl) (All-cons IsNoInterpreter d [] (loaded d refl) (All-nil IsNoInterpreter)));
       segments = subst (Sound f) (sym r.programs)
-          (All-cons (IsSound f) t (d ∷ []) (sound-text o f r) (All-cons (IsSound f) d [] (sound-data o f r) (All-nil (IsSound f))));
+          (All-cons (IsSoundSegment f) t (d ∷ []) (sound-text o f r) (All-cons (IsSoundSegment f) d [] (sound-data o f r) (All-nil (IsSoundSegment f))));
       symbols = λ index e.
           let same : 3 ≡ index = cc (r.table, e) in
           subst (λ (i : ℕ). IsReadable f (section_at f i)) same (subst (λ (table : SectionHeader). IsReadable f table) (sym r.symbols) (readable o h a r));
     }
 
 -- the file of an object is seen as that object
-pub viewed : (o : Object) → IsSmall o → o.entry < 2 ^ 32 → All IsAddress (in_order o.labels) → IsView o (elf_file o)
+pub viewed : (o : Object) → IsSmallObject o → o.entry < 2 ^ 32 → All IsAddress (in_order o.labels) → IsView o (elf_file o)
 viewed o h e a =
     let r = is-read o h e in
     let elf = elf-is o h a r in
@@ -223,13 +223,13 @@ viewed o h e a =
       symbols = symbols-seen o h a r;
     }
 
-is-address : (label : Named) → nat_lt label.value (2 ^ 32) ≡ true → IsAddress label
+is-address : (label : LabelView) → nat_lt label.value (2 ^ 32) ≡ true → IsAddress label
 is-address label e = grind (arith, nat_tests)
 
-addresses : (labels : List Named) → are_addresses labels ≡ true → All IsAddress labels
+addresses : (labels : List LabelView) → are_addresses labels ≡ true → All IsAddress labels
 addresses labels e =
-    All-weaker (λ (label : Named). nat_lt label.value (2 ^ 32) ≡ true) IsAddress is-address labels
-    (AllPass-from_list_all (λ (label : Named). nat_lt label.value (2 ^ 32)) labels e)
+    All-weaker (λ (label : LabelView). nat_lt label.value (2 ^ 32) ≡ true) IsAddress is-address labels
+    (AllPass-from_list_all (λ (label : LabelView). nat_lt label.value (2 ^ 32)) labels e)
 
-pub views : (o : Object) (file : List ℕ) → file ≡ elf_file o → IsSmall o → o.entry < 2 ^ 32 → are_addresses (in_order o.labels) ≡ true → IsView o file
+pub views : (o : Object) (file : List ℕ) → file ≡ elf_file o → IsSmallObject o → o.entry < 2 ^ 32 → are_addresses (in_order o.labels) ≡ true → IsView o file
 views o file e h start a = subst (IsView o) (sym e) (viewed o h start (addresses (in_order o.labels) a))

@@ -1,7 +1,7 @@
 -- The file of an object, as the parts that it is made of (Tool Interface Standard, Executable and Linking Format Specification, "File Format").
 use Rattle.std.specs.Prelude.{ℕ, false, List, ◌++◌, length}
 use Rattle.rv_asm.specs.declared.object.Object.{Object}
-use Rattle.rv_asm.specs.Labels.{Named}
+use Rattle.rv_asm.specs.Labels.{LabelView}
 use Rattle.elf_make.specs.declared.sizes.Sizes.{Sizes}
 use Rattle.elf_make.specs.Sizes.{zeros_after, section_names_end}
 use Rattle.elf_make.specs.Headers.{file_header, program_headers, section_headers}
@@ -27,7 +27,7 @@ contents text data_bytes =
     text ++ zeros_after (length text) ++ data_bytes ++ zeros_after (length data_bytes)
 
 -- the symbols and all names, with zeros after them
-unfoldable pub tables : List Named → Sizes → List ℕ
+unfoldable pub tables : List LabelView → Sizes → List ℕ
 tables labels s =
     symbol_table labels ++ names labels ++ section_names ++ zeros_after (section_names_end s)
 

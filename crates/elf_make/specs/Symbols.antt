@@ -1,7 +1,7 @@
 -- The symbols of the file and their names (Tool Interface Standard, Executable and Linking Format Specification, "Symbol Table" and "String Table").
 use Rattle.std.specs.Prelude.{ℕ, ◌+◌, ◌^◌, nat_lt, Bool, true, false, not, List, [], ◌∷◌, ◌++◌, filter, length, codes, replicate, if◌then◌else◌}
 use Rattle.std.specs.List.{flat_map, list_all}
-use Rattle.rv_asm.specs.Labels.{Named}
+use Rattle.rv_asm.specs.Labels.{LabelView}
 use Rattle.elf_make.specs.Fields.{halves, words}
 
 -- a name with the NUL that closes it
@@ -9,44 +9,44 @@ abbrev pub closed : List ℕ → List ℕ
 closed name = name ++ 0 ∷ []
 
 -- the label is exported, or it is not
-abbrev pub is_bound : (global : Bool) → Named → Bool
+abbrev pub is_bound : (global : Bool) → LabelView → Bool
 is_bound true label = label.global
 is_bound false label = not label.global
 
 -- the labels that are exported, or those that are not
-abbrev pub bound : (global : Bool) → List Named → List Named
+abbrev pub bound : (global : Bool) → List LabelView → List LabelView
 bound global labels = filter (is_bound global) labels
 
 -- the order of the symbols: local labels first, then the exported ones
-unfoldable pub in_order : List Named → List Named
+unfoldable pub in_order : List LabelView → List LabelView
 in_order labels = bound false labels ++ bound true labels
 
 -- the names of labels, each with its NUL
-abbrev pub closed_names : List Named → List ℕ
+abbrev pub closed_names : List LabelView → List ℕ
 closed_names labels = flat_map (λ label. closed label.name) labels
 
 -- the names of the symbols; the first, of the null symbol, is empty
-unfoldable pub names : List Named → List ℕ
+unfoldable pub names : List LabelView → List ℕ
 names labels = 0 ∷ closed_names (in_order labels)
 
 -- the entry of a label whose name begins at an index: name, value, no size, whether it is local or global (STB_LOCAL, STB_GLOBAL), and its section
-abbrev pub entry : ℕ → Named → List ℕ
+abbrev pub entry : ℕ → LabelView → List ℕ
 entry name label =
     words (name ∷ label.value ∷ 0 ∷ []) ++ (if label.global then 16 else 0) ∷ 0 ∷ []
     ++ halves ((if label.in_text then 1 else 2) ∷ [])
 
 -- the entries of labels; the name of the first begins at an index
-abbrev pub entries_from : ℕ → List Named → List ℕ
+abbrev pub entries_from : ℕ → List LabelView → List ℕ
 entries_from name [] = []
 entries_from name (label ∷ labels) =
     entry name label ++ entries_from (name + length (closed label.name)) labels
 
 -- the symbol table: the null symbol, then the labels
-unfoldable pub symbol_table : List Named → List ℕ
+unfoldable pub symbol_table : List LabelView → List ℕ
 symbol_table labels = replicate 16 0 ++ entries_from 1 (in_order labels)
 
 -- the values of labels are addresses of 32 bits
-abbrev pub are_addresses : List Named → Bool
+abbrev pub are_addresses : List LabelView → Bool
 are_addresses labels = list_all (λ label. nat_lt label.value (2 ^ 32)) labels
 
 -- the names of the sections

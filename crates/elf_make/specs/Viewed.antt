@@ -6,7 +6,7 @@ use Rattle.elf_view.specs.Refusal.{refusal}
 use Rattle.elf_view.specs.Segments.{LoadSegment, segments_of}
 use Rattle.elf_view.specs.Symbols.{NamedSymbol, symbols_of}
 use Rattle.rv_asm.specs.declared.object.Object.{Object}
-use Rattle.rv_asm.specs.Labels.{Named}
+use Rattle.rv_asm.specs.Labels.{LabelView}
 use Rattle.elf_make.specs.Sizes.{text_at, data_at}
 use Rattle.elf_make.specs.Symbols.{in_order}
 use Rattle.elf_make.specs.Files.{sizes_of}
@@ -38,7 +38,7 @@ abbrev pub no_symbol : NamedSymbol
 no_symbol = record { name = []; value = 0; size = 0 }
 
 -- the symbol of a label
-abbrev pub symbol_of : Named → NamedSymbol
+abbrev pub symbol_of : LabelView → NamedSymbol
 symbol_of label = record { name = label.name; value = label.value; size = 0 }
 
 -- the file is an executable that has the object's text and data, its labels and its entry

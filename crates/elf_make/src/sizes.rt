@@ -3,7 +3,7 @@
 
 ghost use Rattle.std.specs.Prelude.{◌≡◌, ◌≤◌, ◌<◌, length, map, false};
 ghost use Rattle.rv_asm.specs.Labels.{named};
-ghost use Rattle.rv_asm.specs.Small.{IsSmall, joined_names};
+ghost use Rattle.rv_asm.specs.Small.{IsSmallObject, joined_names};
 ghost use Rattle.elf_make.specs.Files.{sizes_of};
 ghost use Rattle.elf_make.specs.Sizes.{AreSmall, padding, padded, data_at, symbols_at, symbols_len, names_at, section_names_at, section_names_end, sections_at};
 ghost use Rattle.elf_make.specs.Symbols.{bound, closed_names, names};
@@ -83,7 +83,7 @@ impl Sizes {
     /// The sizes of an object.
     #[tactic(auto, using(crate::proofs::Counts::sizes))]
     pub fn of(object: &Object) -> Sizes
-        requires { IsSmall object.now }
+        requires { IsSmallObject object.now }
         ensures sizes { result ≡ sizes_of object.now }
         ensures small { AreSmall result }
     {

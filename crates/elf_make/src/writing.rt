@@ -1,7 +1,7 @@
 //! Writing a file.
 
 ghost use Rattle.std.specs.Prelude.{◌≡◌, ◌≤◌, ◌++◌, length, map, IfOk, OnOk, true};
-ghost use Rattle.rv_asm.specs.Small.{IsSmall};
+ghost use Rattle.rv_asm.specs.Small.{IsSmallObject};
 ghost use Rattle.rv_asm.specs.Labels.{named};
 ghost use Rattle.elf_make.specs.Sizes.{AreSmall, zeros_after};
 ghost use Rattle.elf_make.specs.Symbols.{closed_names, in_order, are_addresses};
@@ -72,7 +72,7 @@ fn push_tables(file: &mut Vec<u8>, labels: &[Label], sizes: Sizes) -> Result<(),
 /// the local ones first.
 #[tactic(auto, using(crate::proofs::Counts::sizes, crate::proofs::Views::views), unfolding(crate::specs::Files::elf_file))]
 pub fn write_elf(alloc: Global, object: &Object) -> Result<Vec<u8>, AllocError>
-    requires { IsSmall object.now }
+    requires { IsSmallObject object.now }
     ensures file { IfOk result (λ file. file.items ≡ elf_file object.now) }
     ensures view { IfOk result (λ file. IsView object.now file.items) }
 {

@@ -8,7 +8,7 @@ use Rattle.elf_view.specs.declared.refusal.ElfErr.{ElfErr}
 use Rattle.elf_view.specs.declared.refusal.ElfErr.TheVariants.{TooShort, OutsideFile, FileLargerThanMemory, BadSymbols}
 use Rattle.elf_view.specs.Fields.{FitsIn}
 use Rattle.elf_view.specs.Headers.{file_header, program_headers, number_of_sections}
-use Rattle.elf_view.specs.Segments.{is_load, IsSound, AreSound}
+use Rattle.elf_view.specs.Segments.{is_load, IsSoundSegment, AreSound}
 use Rattle.elf_view.proofs.Readable.{sound-readable}
 use Rattle.elf_view.specs.Sections.{IsReadable, first_symbol_table, section_at, is_sound_table}
 use Rattle.std.proofs.lemmas.List.Elements.{All-filter, filter_passes}
@@ -73,7 +73,7 @@ neither true b e h = e
 neither false b e h = cc
 
 -- a header that passes both tests of the segments is sound
-sound_header : (file : List ℕ) (h : ProgramHeader) → is_load h ≡ true → is_outside file h ≡ false → is_larger h ≡ false → IsSound file h
+sound_header : (file : List ℕ) (h : ProgramHeader) → is_load h ≡ true → is_outside file h ≡ false → is_larger h ≡ false → IsSoundSegment file h
 sound_header file h load inside small =
     let within : nat_lt (length file) (h.offset + h.filesz) ≡ false = neither (is_load h) _ inside load in
     let room : nat_lt h.memsz h.filesz ≡ false = neither (is_load h) _ small load in
@@ -82,8 +82,8 @@ sound_header file h load inside small =
 -- headers that pass both are sound
 sound_headers : (file : List ℕ) (hs : List ProgramHeader) → All (λ h. is_outside file h ≡ false) hs → All (λ h. is_larger h ≡ false) hs → AreSound file hs
 sound_headers file hs inside small =
-    let both : All (λ h. is_load h ≡ true → IsSound file h) hs = λ k d within. λ load. sound_header file (get_or hs k d) load (inside k d within) (small k d within) in
-    λ k d within. All-filter is_load (λ h. is_load h ≡ true → IsSound file h) hs both k d within (filter_passes is_load hs k d within)
+    let both : All (λ h. is_load h ≡ true → IsSoundSegment file h) hs = λ k d within. λ load. sound_header file (get_or hs k d) load (inside k d within) (small k d within) in
+    λ k d within. All-filter is_load (λ h. is_load h ≡ true → IsSoundSegment file h) hs both k d within (filter_passes is_load hs k d within)
 
 -- the segments of a file that passes all tests are sound
 pub segments_sound : (file : List ℕ) → refusal file ≡ None → AreSound file (program_headers file)

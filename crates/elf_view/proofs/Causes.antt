@@ -14,7 +14,7 @@ use Rattle.elf_view.specs.Fields.{places, ends_beyond, FitsIn}
 use Rattle.elf_view.specs.Headers.{file_header, program_headers, number_of_sections}
 use Rattle.elf_view.specs.Segments.{is_load, is_interpreter}
 use Rattle.elf_view.specs.Sections.{first_symbol_table, section_at, is_sound_table}
-use Rattle.elf_view.specs.Causes.{IsCause, IsFirstCut, IsFirstHeader, EndsBeyond, IsLarger}
+use Rattle.elf_view.specs.Causes.{IsElfCause, IsFirstCut, IsFirstHeader, EndsBeyond, IsLarger}
 use Rattle.elf_view.specs.Refusal.{where_so, first_of, starts_with_elf, no_file_header, not_elf, not_32_little, identity_refusal, not_executable, not_riscv, needs_compressed, needs_float, needs_rve, target_refusal, bad_program_size, bad_section_size, cut_program_header, cut_section_header, table_refusal, needs_interpreter, is_outside, is_larger, outside_file, larger_than_memory, segment_refusal, bad_table, bad_symbols, refusal}
 use Rattle.elf_view.proofs.Groups.{identity_tests, target_tests, segment_tests, groups, no_header}
 use Rattle.elf_view.proofs.Readable.{both_hold, both_true, never, readable-sound}
@@ -23,7 +23,7 @@ use Rattle.elf_view.proofs.Tables.{none_cut}
 -- what a refusal, if there is one, says of the file
 Says : List ℕ → Option ElfErr → Type 0
 Says file None = Unit {0}
-Says file (Some e) = IsCause file e
+Says file (Some e) = IsElfCause file e
 
 -- each of the tests says the truth
 AllSay : List ℕ → List (Option ElfErr) → Type 0
@@ -43,13 +43,13 @@ says-first_of file [] all = tt
 says-first_of file (test ∷ tests) all = says-option_or file test (first_of tests) all.0 (says-first_of file tests all.1)
 
 -- a test says the truth where the fault that it finds is the cause
-says-where_so : (file : List ℕ) (fault : Bool) (e : ElfErr) → (fault ≡ true → IsCause file e) → Says file (where_so fault e)
+says-where_so : (file : List ℕ) (fault : Bool) (e : ElfErr) → (fault ≡ true → IsElfCause file e) → Says file (where_so fault e)
 unfolding Says
 says-where_so file true e cause = cause refl
 says-where_so file false e cause = tt
 
 -- a number that is given says the truth where it names the cause
-says-option_map : (file : List ℕ) (f : ℕ → ElfErr) (o : Option ℕ) → ((n : ℕ) → o ≡ Some n → IsCause file (f n)) → Says file (option_map f o)
+says-option_map : (file : List ℕ) (f : ℕ → ElfErr) (o : Option ℕ) → ((n : ℕ) → o ≡ Some n → IsElfCause file (f n)) → Says file (option_map f o)
 unfolding Says
 says-option_map file f None cause = tt
 says-option_map file f (Some n) cause = cause n refl
@@ -221,11 +221,11 @@ unfolding refusal AllSay
 says-refusal file = says-first_of file (groups file) (says-identity file, (says-target file, (says-tables file, (says-segments file, (says-symbols file, tt)))))
 
 -- what is true of a refusal that is given
-told-cause : (file : List ℕ) (o : Option ElfErr) (e : ElfErr) → o ≡ Some e → Says file o → IsCause file e
+told-cause : (file : List ℕ) (o : Option ElfErr) (e : ElfErr) → o ≡ Some e → Says file o → IsElfCause file e
 unfolding Says
 told-cause file None e h s = cc
-told-cause file (Some x) e h s = let same : x ≡ e = cc in subst (λ (y : ElfErr). IsCause file y) same s
+told-cause file (Some x) e h s = let same : x ≡ e = cc in subst (λ (y : ElfErr). IsElfCause file y) same s
 
 -- a refusal is given for its true cause
-pub refusal-cause : (file : List ℕ) (e : ElfErr) → refusal file ≡ Some e → IsCause file e
+pub refusal-cause : (file : List ℕ) (e : ElfErr) → refusal file ≡ Some e → IsElfCause file e
 refusal-cause file e h = told-cause file (refusal file) e h (says-refusal file)

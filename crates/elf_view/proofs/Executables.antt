@@ -13,7 +13,7 @@ use Rattle.elf_view.specs.declared.refusal.ElfErr.{ElfErr}
 use Rattle.elf_view.specs.declared.refusal.ElfErr.TheVariants.{TooShort, NotElf, Not32Little, NotRiscv, NotExecutable, NeedsCompressed, NeedsFloat, NeedsRve, BadHeaderSize, NeedsInterpreter}
 use Rattle.elf_view.specs.Fields.{places, ends_beyond, bytes_at, FitsIn}
 use Rattle.elf_view.specs.Headers.{file_header, program_headers, number_of_sections}
-use Rattle.elf_view.specs.Segments.{is_load, is_interpreter, segment_of, segments_of, IsSound, AreSound, IsLoadable}
+use Rattle.elf_view.specs.Segments.{is_load, is_interpreter, segment_of, segments_of, IsSoundSegment, AreSound, IsLoadable}
 use Rattle.elf_view.specs.Sections.{first_symbol_table, section_at, IsReadable}
 use Rattle.elf_view.specs.Executables.{HasIdentity, HasTarget, HasTables, IsElf}
 use Rattle.elf_view.specs.Refusal.{where_so, first_of, starts_with_elf, no_file_header, not_elf, not_32_little, identity_refusal, not_executable, not_riscv, needs_compressed, needs_float, needs_rve, target_refusal, bad_program_size, bad_section_size, cut_program_header, cut_section_header, table_refusal, needs_interpreter, is_outside, is_larger, outside_file, larger_than_memory, segment_refusal, bad_table, bad_symbols, refusal}
@@ -124,7 +124,7 @@ accepted-elf file e = record {
 -- ---- and its segments can be loaded
 
 -- the segment of a sound header
-loadable-segment : (file : List ℕ) (h : ProgramHeader) → IsSound file h → IsLoadable file (segment_of file h)
+loadable-segment : (file : List ℕ) (h : ProgramHeader) → IsSoundSegment file h → IsLoadable file (segment_of file h)
 loadable-segment file h s =
     let size : length (bytes_at file h.offset h.filesz) ≡ h.filesz = length-bytes_at file h.offset h.filesz s.within in
     record { within = rw size s.within; content = rw size refl; room = rw size s.room }
@@ -133,7 +133,7 @@ loadable-segment file h s =
 pub segments-loadable : (file : List ℕ) → refusal file ≡ None → All (IsLoadable file) (segments_of file)
 unfolding segments_of
 segments-loadable file e =
-    let sound : All (IsSound file) (filter is_load (program_headers file)) = segments_sound file e in
+    let sound : All (IsSoundSegment file) (filter is_load (program_headers file)) = segments_sound file e in
     All-map (IsLoadable file) (segment_of file) (filter is_load (program_headers file))
     (λ k d within. loadable-segment file (get_or (filter is_load (program_headers file)) k d) (sound k d within))
 
@@ -231,11 +231,11 @@ loaded-fails true test h = h refl
 loaded-fails false test h = refl
 
 -- a sound header is not outside the file
-sound-inside : (file : List ℕ) (h : ProgramHeader) → (is_load h ≡ true → IsSound file h) → is_outside file h ≡ false
+sound-inside : (file : List ℕ) (h : ProgramHeader) → (is_load h ≡ true → IsSoundSegment file h) → is_outside file h ≡ false
 sound-inside file h s = loaded-fails (is_load h) (ends_beyond file h.offset h.filesz) (λ load. let within = (s load).within in grind (arith, nat_tests))
 
 -- and not larger there than in memory
-sound-small : (file : List ℕ) (h : ProgramHeader) → (is_load h ≡ true → IsSound file h) → is_larger h ≡ false
+sound-small : (file : List ℕ) (h : ProgramHeader) → (is_load h ≡ true → IsSoundSegment file h) → is_larger h ≡ false
 sound-small file h s = loaded-fails (is_load h) (nat_lt h.memsz h.filesz) (λ load. let room = (s load).room in grind (arith, nat_tests))
 
 -- there is no index of an element that passes where none does
@@ -250,7 +250,7 @@ segments-pass : (file : List ℕ) → All (λ h. h.kind ≢ 3) (program_headers 
 unfolding segment_refusal needs_interpreter outside_file larger_than_memory
 segments-pass file other sound =
     let hs = program_headers file in
-    let each : All (λ h. is_load h ≡ true → IsSound file h) hs = filtered-all is_load (IsSound file) hs sound in
+    let each : All (λ h. is_load h ≡ true → IsSoundSegment file h) hs = filtered-all is_load (IsSoundSegment file) hs sound in
     let interpreter : list_any is_interpreter hs ≡ false = list_any_none is_interpreter hs (λ k d within. let kind = other k d within in grind (arith, nat_tests)) in
     let outside : position (is_outside file) hs ≡ None = no_index (is_outside file) hs _ refl (λ k d within. sound-inside file (get_or hs k d) (each k d within)) in
     let larger : position is_larger hs ≡ None = no_index is_larger hs _ refl (λ k d within. sound-small file (get_or hs k d) (each k d within)) in

@@ -19,8 +19,8 @@ pub record IsFirstCut (file : List ℕ) (at size count place : ℕ) : Type 0 whe
   pub first : (k : ℕ) → k < index → (at + size * k) + size ≤ length file
 
 -- the file ends before its header, or before the first of the program headers, or these lie in it and it ends before the first of the section headers
-abbrev pub IsCut : List ℕ → FileHeader → ℕ → Type 0
-IsCut file h place =
+abbrev pub IsCutShort : List ℕ → FileHeader → ℕ → Type 0
+IsCutShort file h place =
     ((length file < 52) × (place ≡ 0))
     ⊎ (IsFirstCut file h.program_offset 32 h.program_count place
     ⊎ (FitsIn file h.program_offset 32 h.program_count × IsFirstCut file h.section_offset 40 (number_of_sections h) place))
@@ -46,17 +46,17 @@ abbrev pub IsLarger : ProgramHeader → Type 0
 IsLarger h = (is_load h ≡ true) × (h.memsz < h.filesz)
 
 -- what a refusal says of the file
-abbrev pub IsCause : List ℕ → ElfErr → Type 0
-IsCause file (TooShort place) = IsCut file (file_header file) place
-IsCause file NotElf = take 4 file ≢ 0x7F ∷ 0x45 ∷ 0x4C ∷ 0x46 ∷ []
-IsCause file Not32Little = ¬ ((slice_index file 4 ≡ 1) × (slice_index file 5 ≡ 1) × (slice_index file 6 ≡ 1))
-IsCause file (NotRiscv machine) = ((file_header file).machine ≡ machine) × (machine ≢ 243)
-IsCause file (NotExecutable kind) = ((file_header file).kind ≡ kind) × (kind ≢ 2)
-IsCause file NeedsCompressed = bit_and (file_header file).flags 1 ≢ 0
-IsCause file NeedsFloat = bit_and (file_header file).flags 6 ≢ 0
-IsCause file NeedsRve = bit_and (file_header file).flags 8 ≢ 0
-IsCause file (BadHeaderSize size) = IsWrongSize (file_header file) size
-IsCause file (OutsideFile index) = IsFirstHeader (EndsBeyond file) (program_headers file) index
-IsCause file (FileLargerThanMemory index) = IsFirstHeader IsLarger (program_headers file) index
-IsCause file NeedsInterpreter = Any (λ h. h.kind ≡ 3) (program_headers file)
-IsCause file (BadSymbols index) = (first_symbol_table file ≡ Some index) × ¬ IsReadable file (section_at file index)
+abbrev pub IsElfCause : List ℕ → ElfErr → Type 0
+IsElfCause file (TooShort place) = IsCutShort file (file_header file) place
+IsElfCause file NotElf = take 4 file ≢ 0x7F ∷ 0x45 ∷ 0x4C ∷ 0x46 ∷ []
+IsElfCause file Not32Little = ¬ ((slice_index file 4 ≡ 1) × (slice_index file 5 ≡ 1) × (slice_index file 6 ≡ 1))
+IsElfCause file (NotRiscv machine) = ((file_header file).machine ≡ machine) × (machine ≢ 243)
+IsElfCause file (NotExecutable kind) = ((file_header file).kind ≡ kind) × (kind ≢ 2)
+IsElfCause file NeedsCompressed = bit_and (file_header file).flags 1 ≢ 0
+IsElfCause file NeedsFloat = bit_and (file_header file).flags 6 ≢ 0
+IsElfCause file NeedsRve = bit_and (file_header file).flags 8 ≢ 0
+IsElfCause file (BadHeaderSize size) = IsWrongSize (file_header file) size
+IsElfCause file (OutsideFile index) = IsFirstHeader (EndsBeyond file) (program_headers file) index
+IsElfCause file (FileLargerThanMemory index) = IsFirstHeader IsLarger (program_headers file) index
+IsElfCause file NeedsInterpreter = Any (λ h. h.kind ≡ 3) (program_headers file)
+IsElfCause file (BadSymbols index) = (first_symbol_table file ≡ Some index) × ¬ IsReadable file (section_at file index)

@@ -46,13 +46,13 @@ unfoldable pub segments_of : List ℕ → List LoadSegment
 segments_of file = segments_in file (program_headers file)
 
 -- the segment of the header lies in the file, and fits into its size in memory
-pub record IsSound (file : List ℕ) (h : ProgramHeader) : Type 0 where
+pub record IsSoundSegment (file : List ℕ) (h : ProgramHeader) : Type 0 where
   pub within : h.offset + h.filesz ≤ length file
   pub room : h.filesz ≤ h.memsz
 
 -- this holds of each header of a segment that is loaded
 abbrev pub AreSound : List ℕ → List ProgramHeader → Type 0
-AreSound file headers = All (IsSound file) (filter is_load headers)
+AreSound file headers = All (IsSoundSegment file) (filter is_load headers)
 
 -- a segment whose bytes lie in the file at its offset, and fit into its size in memory
 pub record IsLoadable (file : List ℕ) (s : LoadSegment) : Type 0 where

@@ -1,7 +1,7 @@
 //! A file that passed all tests.
 
 ghost use Rattle.std.specs.Prelude.{◌≡◌, IfOk, IfErr, All};
-ghost use Rattle.elf_view.specs.Causes.{IsCause};
+ghost use Rattle.elf_view.specs.Causes.{IsElfCause};
 ghost use Rattle.elf_view.specs.Executables.{IsElf};
 ghost use Rattle.elf_view.specs.Fields.{FitsIn};
 ghost use Rattle.elf_view.specs.Headers.{file_header, number_of_sections};
@@ -58,7 +58,7 @@ impl<'a> Elf<'a> {
         ensures loadable { IfOk result (λ elf. All (IsLoadable file.now) (segments_of file.now)) }
         ensures refused { IfErr result (λ error. refusal file.now ≡ Some error) }
         ensures not_elf { IfErr result (λ error. ¬ IsElf file.now) }
-        ensures cause { IfErr result (λ error. IsCause file.now error) }
+        ensures cause { IfErr result (λ error. IsElfCause file.now error) }
     {
         let header = check(file)?;
         Ok(Elf { file, header })

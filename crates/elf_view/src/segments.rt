@@ -1,7 +1,7 @@
 //! The segments of a file.
 
 ghost use Rattle.std.specs.Prelude.{◌≡◌, [], ◌∷◌, map, All, MatchOption};
-ghost use Rattle.elf_view.specs.Segments.{is_load, loads_in, segment_of, shown_segment, IsSound};
+ghost use Rattle.elf_view.specs.Segments.{is_load, loads_in, segment_of, shown_segment, IsSoundSegment};
 
 use crate::entries::Entries;
 use crate::headers::ProgramHeader;
@@ -23,7 +23,7 @@ impl ProgramHeader {
 
     /// The segment of the header.
     fn segment<'a>(&self, file: &'a [u8]) -> Segment<'a>
-        requires { IsSound file.now self.now }
+        requires { IsSoundSegment file.now self.now }
         ensures { shown_segment result ≡ segment_of file.now self.now }
     {
         let start = self.offset as usize;
@@ -61,14 +61,14 @@ impl<'a> Entries<'a, ProgramHeader> {
 pub struct Segments<'a> {
     file: &'a [u8],
     headers: Entries<'a, ProgramHeader>,
-    pub ghost sound: { All (IsSound file.now) (loads_in headers.file.now headers.at headers.left) },
+    pub ghost sound: { All (IsSoundSegment file.now) (loads_in headers.file.now headers.at headers.left) },
 }
 
 impl<'a> Segments<'a> {
     ghost use Rattle.elf_view.specs.Left.{segments_left};
 
     pub(crate) fn new(file: &'a [u8], headers: Entries<'a, ProgramHeader>) -> Segments<'a>
-        requires { All (IsSound file.now) (loads_in headers.file.now headers.at headers.left) }
+        requires { All (IsSoundSegment file.now) (loads_in headers.file.now headers.at headers.left) }
         ensures { segments_left result ≡ map (segment_of file.now)
             (loads_in headers.entry.file.now headers.entry.at headers.entry.left) }
     {

@@ -22,7 +22,7 @@ use Rattle.layout_file.specs.declared.fault.FileErr.{FileErr}
 use Rattle.layout_file.specs.declared.fault.FileErr.TheVariants.{NoMemory}
 use Rattle.layout_file.specs.Names.{class_name, class_of}
 use Rattle.layout_file.specs.Reading.{fault_of, asked_by}
-use Rattle.layout_file.specs.Answers.{IsNotToml, HasFault, FailsWithin, Fails, Describes, ReadsAs}
+use Rattle.layout_file.specs.Answers.{IsNotToml, HasFault, FailsWithin, LayoutFails, Describes, ReadsAs}
 use Rattle.layout_file.specs.Text.{needs_second, text_of}
 use Rattle.layout_file.proofs.Documents.{table_of}
 use Rattle.layout_file.proofs.Filling.{AreOthers, AreDistinct}
@@ -196,7 +196,7 @@ fails_within file plan e d (inl memory) = memory
 fails_within file plan e d (inr (inl other)) = is_toml file plan e d other.1
 fails_within file plan e d (inr (inr fault)) = no_fault file plan e d fault
 
-fails_by : (file : List ℕ) (plan : Plan) (e : FileErr) → Describes file plan → Fails file e → e ≡ NoMemory
+fails_by : (file : List ℕ) (plan : Plan) (e : FileErr) → Describes file plan → LayoutFails file e → e ≡ NoMemory
 fails_by file plan e d (inl long) = let short = d.0 in let over = long.1 in absurd (omega arith)
 fails_by file plan e d (inr within) = fails_within file plan e d within.1
 
@@ -211,6 +211,6 @@ text_reads plan file a is utf8 =
     }
 
 -- where such a file is not read, the answer is that memory ran out
-pub read_fails : {T : Type 0} (file : List ℕ) (plan : Plan) (r : Result T FileErr) → ReadsAs file plan → IfErr r (λ e. Fails file e) → IfErr r (λ e. e ≡ NoMemory)
+pub read_fails : {T : Type 0} (file : List ℕ) (plan : Plan) (r : Result T FileErr) → ReadsAs file plan → IfErr r (λ e. LayoutFails file e) → IfErr r (λ e. e ≡ NoMemory)
 read_fails file plan (Ok x) reads h = tt
 read_fails file plan (Err e) reads h = reads.readable e h

@@ -10,8 +10,8 @@ use Rattle.layout_file.specs.Limits.{most_layout_bytes}
 use Rattle.layout_file.specs.Reading.{asked_by, fault_of}
 
 -- the error is this fault, or memory ran out
-abbrev pub Tells : FileErr → Option FileErr → Type 0
-Tells e fault = (e ≡ NoMemory) ⊎ (fault ≡ Some e)
+abbrev pub ReportsFault : FileErr → Option FileErr → Type 0
+ReportsFault e fault = (e ≡ NoMemory) ⊎ (fault ≡ Some e)
 
 -- the file is not a TOML document: it is not UTF-8, or not in the grammar
 abbrev pub IsNotToml : List ℕ → Type 0
@@ -30,8 +30,8 @@ abbrev pub FailsWithin : List ℕ → FileErr → Type 0
 FailsWithin file e = (e ≡ NoMemory) ⊎ (((e ≡ NotToml) × IsNotToml file) ⊎ HasFault file e)
 
 -- why reading fails
-abbrev pub Fails : List ℕ → FileErr → Type 0
-Fails file e = ((e ≡ TooLong) × (most_layout_bytes < length file)) ⊎ ((length file ≤ most_layout_bytes) × FailsWithin file e)
+abbrev pub LayoutFails : List ℕ → FileErr → Type 0
+LayoutFails file e = ((e ≡ TooLong) × (most_layout_bytes < length file)) ⊎ ((length file ≤ most_layout_bytes) × FailsWithin file e)
 
 -- the file is a document without a fault, and describes the layout
 abbrev pub Describes : List ℕ → Plan → Type 0
@@ -41,4 +41,4 @@ Describes file plan = (length file ≤ most_layout_bytes) × ((ms : Members) × 
 pub record ReadsAs (file : List ℕ) (plan : Plan) : Type 0 where
   pub describes : Describes file plan
   pub alone : (other : Plan) → Describes file other → other ≡ plan
-  pub readable : (e : FileErr) → Fails file e → e ≡ NoMemory
+  pub readable : (e : FileErr) → LayoutFails file e → e ≡ NoMemory

@@ -5,7 +5,7 @@ ghost use Rattle.std.specs.Option.{option_or};
 ghost use Rattle.layout_file.specs.Names.{class_name, class_of};
 ghost use Rattle.layout_file.specs.Tables.{form_fault};
 ghost use Rattle.layout_file.specs.Reading.{integer_in, text_in, integer_at, truth_at, items_in, items_at, members_at, integers_of, classes_of, first_nameless, unit_in, units_among, siding_fault, siding_in, sidings_fault, sidings_in, is_second, format_fault, tables_fault, parts_in, asked_by, fault_of};
-ghost use Rattle.layout_file.specs.Answers.{Tells, Fails, Describes};
+ghost use Rattle.layout_file.specs.Answers.{ReportsFault, LayoutFails, Describes};
 ghost use Rattle.layout_file.specs.declared.form.Form.TheVariants.{Units as TheUnits};
 ghost use Rattle.layout_file.specs.declared.fault.FileErr.TheVariants.{UnknownClass as NoClass, NoMemory as OutOfMemory};
 ghost use Rattle.cf_layout.specs.Layout.{computed_classes};
@@ -114,7 +114,7 @@ fn class_named(alloc: Global, second: bool, word: &str) -> Result<Class, FileErr
 fn class_list(alloc: Global, second: bool, array: &[Value]) -> Result<Vec<Class>, FileErr>
     ensures named { IfOk result (λ list. first_nameless second (items_view array.now) ≡ None) }
     ensures classes { IfOk result (λ list. list.items ≡ classes_of second (items_view array.now)) }
-    ensures refused { IfErr result (λ error. Tells error (option_map NoClass (first_nameless second (items_view array.now)))) }
+    ensures refused { IfErr result (λ error. ReportsFault error (option_map NoClass (first_nameless second (items_view array.now)))) }
 {
     let mut list = Vec::new(alloc);
     for value in array {
@@ -128,7 +128,7 @@ fn class_list(alloc: Global, second: bool, array: &[Value]) -> Result<Vec<Class>
 fn siding(alloc: Global, second: bool, table: &Table) -> Result<Siding, FileErr>
     ensures right { IfOk result (λ siding. siding_fault second (table_view table.now) ≡ None) }
     ensures siding { IfOk result (λ siding. siding ≡ siding_in second (table_view table.now)) }
-    ensures refused { IfErr result (λ error. Tells error (siding_fault second (table_view table.now))) }
+    ensures refused { IfErr result (λ error. ReportsFault error (siding_fault second (table_view table.now))) }
 {
     check_form(alloc, Form::Siding, table)?;
     let classes = class_list(alloc, second, elements(table, "classes"))?;
@@ -144,7 +144,7 @@ fn siding(alloc: Global, second: bool, table: &Table) -> Result<Siding, FileErr>
 fn siding_list(alloc: Global, second: bool, array: &[Value]) -> Result<Vec<Siding>, FileErr>
     ensures right { IfOk result (λ list. sidings_fault second (items_view array.now) ≡ None) }
     ensures sidings { IfOk result (λ list. list.items ≡ sidings_in second (items_view array.now)) }
-    ensures refused { IfErr result (λ error. Tells error (sidings_fault second (items_view array.now))) }
+    ensures refused { IfErr result (λ error. ReportsFault error (sidings_fault second (items_view array.now))) }
 {
     let mut list = Vec::new(alloc);
     for value in array {
@@ -196,7 +196,7 @@ fn checked_units(
 ) -> Result<Vec<(Class, Listed<i64>)>, FileErr>
     ensures right { IfOk result (λ list. form_fault (TheUnits second) (members_at (codes "units") (table_view table.now)) ≡ None) }
     ensures units { IfOk result (λ list. list.items ≡ units_among computed_classes (members_at (codes "units") (table_view table.now))) }
-    ensures refused { IfErr result (λ error. Tells error (form_fault (TheUnits second) (members_at (codes "units") (table_view table.now)))) }
+    ensures refused { IfErr result (λ error. ReportsFault error (form_fault (TheUnits second) (members_at (codes "units") (table_view table.now)))) }
 {
     match table_at(table, "units") {
         Some(units) => {
@@ -238,7 +238,7 @@ fn check_format(second: bool, format: i64) -> Result<(), FileErr>
 fn read_tables(alloc: Global, second: bool, table: &Table) -> Result<Parts, FileErr>
     ensures right { IfOk result (λ parts. tables_fault second (table_view table.now) ≡ None) }
     ensures parts { IfOk result (λ parts. parts ≡ parts_in second (table_view table.now)) }
-    ensures refused { IfErr result (λ error. Tells error (tables_fault second (table_view table.now))) }
+    ensures refused { IfErr result (λ error. ReportsFault error (tables_fault second (table_view table.now))) }
 {
     check_form(alloc, Form::Top(second), table)?;
     check_format(second, integer_at(table, "format"))?;
@@ -258,7 +258,7 @@ fn read_tables(alloc: Global, second: bool, table: &Table) -> Result<Parts, File
 fn layout_in(alloc: Global, table: &Table) -> Result<Layout, FileErr>
     ensures right { IfOk result (λ layout. fault_of (table_view table.now) ≡ None) }
     ensures layout { IfOk result (λ layout. layout ≡ plan_of (asked_by (table_view table.now))) }
-    ensures refused { IfErr result (λ error. Tells error (fault_of (table_view table.now))) }
+    ensures refused { IfErr result (λ error. ReportsFault error (fault_of (table_view table.now))) }
 {
     let parts = read_tables(alloc, is_second(table), table)?;
     match check(&parts) {
@@ -278,7 +278,7 @@ pub const MOST_LAYOUT: usize = 65_536;
 /// format, or the first word of a siding that names no class. What the tables ask for is tested last.
 pub fn read_layout(alloc: Global, file: &[u8]) -> Result<Layout, FileErr>
     ensures ok { IfOk result (λ layout. Describes file.now layout) }
-    ensures refused { IfErr result (λ error. Fails file.now error) }
+    ensures refused { IfErr result (λ error. LayoutFails file.now error) }
 {
     if file.len() > MOST_LAYOUT {
         return Err(FileErr::TooLong);

@@ -6,7 +6,7 @@ ghost use Rattle.std.specs.BTreeMap.{keys};
 ghost use Rattle.std.specs.List.{list_all, list_any};
 ghost use Rattle.layout_file.specs.Names.{same_text};
 ghost use Rattle.layout_file.specs.Tables.{knows, needed, fits, has_shape, is_list_of, all_have, first_unknown, first_absent, first_misfit, form_fault};
-ghost use Rattle.layout_file.specs.Answers.{Tells};
+ghost use Rattle.layout_file.specs.Answers.{ReportsFault};
 ghost use Rattle.toml.specs.Data.{get_member};
 ghost use Rattle.toml.specs.View.{view, table_view, items_view};
 
@@ -181,7 +181,7 @@ fn misfit_key(form: Form, table: &Table) -> Option<&String>
 #[tactic(auto, unfolding(crate::specs::Tables::form_fault))]
 pub(crate) fn check_form(alloc: Global, form: Form, table: &Table) -> Result<(), FileErr>
     ensures ok { IfOk result (λ done. form_fault form (table_view table.now) ≡ None) }
-    ensures refused { IfErr result (λ error. Tells error (form_fault form (table_view table.now))) }
+    ensures refused { IfErr result (λ error. ReportsFault error (form_fault form (table_view table.now))) }
 {
     if let Some(key) = unknown_key(form, table) {
         let name = Name::new(key.clone()?);

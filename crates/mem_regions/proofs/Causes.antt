@@ -11,7 +11,7 @@ use Rattle.mem_regions.specs.declared.refusal.LoadErr.TheVariants.{Overlap, TooM
 use Rattle.mem_regions.specs.Refusal.{refusal, wraps, wraps_at, overlaps, overlap_or, overlap_from, too_many, first_wrapping, too_large, first_overlap, total_size, or_else, unless}
 use Rattle.mem_regions.proofs.Finding.{passes_none}
 use Rattle.mem_regions.proofs.Parts.{first_passes, next_passes, no_index}
-use Rattle.mem_regions.specs.Causes.{IsAddressOf, Share, Wraps, IsFirstToWrap, ShareAt, ApartAt, IsFirstOverlap, IsCause, IsAccepted}
+use Rattle.mem_regions.specs.Causes.{IsAddressOf, Share, Wraps, IsFirstToWrap, ShareAt, ApartAt, IsFirstOverlap, IsLoadCause, AreAccepted}
 
 -- parts that overlap share an address: the greater base is one
 pub overlaps-share : (p q : Part) → overlaps p q ≡ true → Share p q
@@ -158,7 +158,7 @@ first_overlap-none parts e = λ k n below to. apart_from parts [] parts refl e k
 -- what a refusal, if there is one, says of the parts
 Says : List Part → Option LoadErr → Type 0
 Says parts None = Unit
-Says parts (Some e) = IsCause parts e
+Says parts (Some e) = IsLoadCause parts e
 
 -- where two tests say the truth, so does the first of them that fails
 says-or_else : (parts : List Part) (a b : Option LoadErr) → Says parts a → Says parts b → Says parts (or_else a b)
@@ -226,13 +226,13 @@ unfolding refusal too_many first_wrapping too_large
 says-refusal parts = says-or_else parts _ _ (says-too_many parts _ refl) (says-or_else parts _ _ (says-wraps parts _ refl) (says-or_else parts _ _ (says-too_large parts _ refl) (says-overlap parts)))
 
 -- the refusal in an answer is the one that was found
-says_where : (parts : List Part) (o : Option LoadErr) (e : LoadErr) → Says parts o → Err e ≡ unless o → IsCause parts e
+says_where : (parts : List Part) (o : Option LoadErr) (e : LoadErr) → Says parts o → Err e ≡ unless o → IsLoadCause parts e
 unfolding Says
 says_where parts None e s h = cc
-says_where parts (Some x) e s h = let same : x ≡ e = cc in subst (λ (y : LoadErr). IsCause parts y) same s
+says_where parts (Some x) e s h = let same : x ≡ e = cc in subst (λ (y : LoadErr). IsLoadCause parts y) same s
 
 -- an answer that refuses the parts names a true cause
-pub refused-cause : (parts : List Part) (e : LoadErr) → Err e ≡ unless (refusal parts) → IsCause parts e
+pub refused-cause : (parts : List Part) (e : LoadErr) → Err e ≡ unless (refusal parts) → IsLoadCause parts e
 refused-cause parts e h = says_where parts (refusal parts) e (says-refusal parts) h
 
 -- where there are not too many there are at most 16
@@ -246,7 +246,7 @@ small_where true n e h k = cc
 small_where false n e h k = grind (arith, nat_tests)
 
 -- parts that pass all tests are what they are tested for
-pub accepted-parts : (parts : List Part) → refusal parts ≡ None → IsAccepted parts
+pub accepted-parts : (parts : List Part) → refusal parts ≡ None → AreAccepted parts
 unfolding refusal too_many first_wrapping too_large
 accepted-parts parts e = record {
   few = few_where (nat_lt 16 (length parts)) (length parts) _ refl (first_passes _ _ e);

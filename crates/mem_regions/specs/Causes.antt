@@ -41,15 +41,15 @@ pub record IsFirstOverlap (parts : List Part) (i j : ℕ) : Type 0 where
   pub least_first : (k : ℕ) → k < i → ApartAt parts k j
 
 -- what a refusal says of the parts
-abbrev pub IsCause : List Part → LoadErr → Type 0
-IsCause parts (TooMany n) = (16 < length parts) × (n ≡ min (length parts) (2 ^ 32 - 1))
-IsCause parts (WrapsAround i) = IsFirstToWrap parts i
-IsCause parts (TooLarge n) = (67108864 < total_size parts) × (n ≡ total_size parts)
-IsCause parts (Overlap i j) = IsFirstOverlap parts i j
-IsCause parts NoMemory = Unit
+abbrev pub IsLoadCause : List Part → LoadErr → Type 0
+IsLoadCause parts (TooMany n) = (16 < length parts) × (n ≡ min (length parts) (2 ^ 32 - 1))
+IsLoadCause parts (WrapsAround i) = IsFirstToWrap parts i
+IsLoadCause parts (TooLarge n) = (67108864 < total_size parts) × (n ≡ total_size parts)
+IsLoadCause parts (Overlap i j) = IsFirstOverlap parts i j
+IsLoadCause parts NoMemory = Unit
 
 -- what is true of parts that are accepted
-pub record IsAccepted (parts : List Part) : Type 0 where
+pub record AreAccepted (parts : List Part) : Type 0 where
   pub few : length parts ≤ 16
   pub in_space : All (λ p. ¬ Wraps p) parts
   pub small : total_size parts ≤ 67108864

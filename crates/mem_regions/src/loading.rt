@@ -3,7 +3,7 @@
 ghost use Rattle.std.specs.Prelude.{◌≡◌, ◌≤◌, ◌+◌, ◌^◌, IfOk, IfErr, None, All, length};
 ghost use Rattle.mem_regions.specs.Loading.{LiesIn, image_of, area_of, areas_of, loaded};
 ghost use Rattle.mem_regions.specs.Refusal.{refusal, refusal_told};
-ghost use Rattle.mem_regions.specs.Causes.{IsAccepted, IsCause};
+ghost use Rattle.mem_regions.specs.Causes.{AreAccepted, IsLoadCause};
 
 use crate::program_break::HEAP_START;
 use crate::refusal::check;
@@ -69,11 +69,11 @@ impl Regions {
     #[tactic(auto, using(crate::proofs::Parts::ends, crate::proofs::Causes::causes), unfolding(crate::specs::Loading::loaded))]
     pub fn load(alloc: Global, file: &[u8], parts: &[Part]) -> Result<Regions, LoadErr>
         requires { All (LiesIn file.now) parts.now }
-        ensures accepted { IfOk result (λ memory. IsAccepted parts.now) }
+        ensures accepted { IfOk result (λ memory. AreAccepted parts.now) }
         ensures not_refused { IfOk result (λ memory. refusal parts.now ≡ None) }
         ensures memory { IfOk result (λ memory. memory ≡ loaded file.now parts.now) }
         ensures refused { IfErr result (λ error. refusal parts.now ≡ refusal_told error) }
-        ensures cause { IfErr result (λ error. IsCause parts.now error) }
+        ensures cause { IfErr result (λ error. IsLoadCause parts.now error) }
     {
         check(parts)?;
         match make_regions(alloc, file, parts) {

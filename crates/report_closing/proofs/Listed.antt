@@ -10,7 +10,7 @@ use Rattle.cf_semantics.specs.moves.Candidates.{counted_from}
 use Rattle.cf_semantics.specs.state.State.{State}
 use Rattle.report_closing.specs.Moves.{cell_moves, siding_moves, every_move, line_in, moves_text}
 use Rattle.report_closing.specs.Parts.{part_moves, lines_in}
-use Rattle.report_closing.specs.declared.parts.Part.{Part}
+use Rattle.report_closing.specs.declared.parts.ClosingPart.{ClosingPart}
 use Rattle.report_closing.specs.declared.parts.TheConstants.{PARTS}
 
 -- the lines of some moves and then of others
@@ -127,20 +127,20 @@ sidings-after plan s i below =
     )
 
 -- the moves of the first parts, and of those after them
-part-more : (plan : Plan) (parts : List Part) (i : ℕ) (none : Part) → i < length parts →
+part-more : (plan : Plan) (parts : List ClosingPart) (i : ℕ) (none : ClosingPart) → i < length parts →
     flat_map (part_moves plan) (take i parts) ++ part_moves plan (get_or parts i none)
     ≡ flat_map (part_moves plan) (take (i + 1) parts)
 part-more plan parts i none below =
     flat_map_more (part_moves plan) [] (take i parts) (get_or parts i none)
     ∙ ap (flat_map (part_moves plan)) (sym (take_more parts i none below))
 
-pub parts-next : (plan : Plan) (s : State) (i : ℕ) (none : Part) (items : List Part) → items ≡ PARTS →
+pub parts-next : (plan : Plan) (s : State) (i : ℕ) (none : ClosingPart) (items : List ClosingPart) → items ≡ PARTS →
     i < length items →
     lines_in plan s (flat_map (part_moves plan) (take i PARTS))
     ++ lines_in plan s (part_moves plan (get_or items i none))
     ≡ lines_in plan s (flat_map (part_moves plan) (take (i + 1) PARTS))
 parts-next plan s i none items same below =
-    let here : i < length PARTS = subst (λ (parts : List Part). i < length parts) same below in
+    let here : i < length PARTS = subst (λ (parts : List ClosingPart). i < length parts) same below in
     rw same (sym (lines-append plan s (flat_map (part_moves plan) (take i PARTS))
     (part_moves plan (get_or PARTS i none))) ∙ ap (lines_in plan s) (part-more plan PARTS i none here))
 
@@ -153,7 +153,7 @@ pub all-parts : (plan : Plan) (s : State) → lines_in plan s (flat_map (part_mo
 unfolding moves_text
 all-parts plan s = ap (lines_in plan s) (parts-all plan)
 
-pub parts-after : (plan : Plan) (s : State) (i : ℕ) (none : Part) (items : List Part) → items ≡ PARTS →
+pub parts-after : (plan : Plan) (s : State) (i : ℕ) (none : ClosingPart) (items : List ClosingPart) → items ≡ PARTS →
     i < length items →
     (rest : List ℕ) × ((lines_in plan s (flat_map (part_moves plan) (take i PARTS))
     ++ lines_in plan s (part_moves plan (get_or items i none))) ++ rest ≡ moves_text plan s)
@@ -167,9 +167,9 @@ parts-after plan s i none items same below =
           ∙ all-parts plan s)),
     )
 
-pub parts-done : (plan : Plan) (s : State) (i : ℕ) (items : List Part) → items ≡ PARTS → length items ≤ i →
+pub parts-done : (plan : Plan) (s : State) (i : ℕ) (items : List ClosingPart) → items ≡ PARTS → length items ≤ i →
     lines_in plan s (flat_map (part_moves plan) (take i PARTS)) ≡ moves_text plan s
 parts-done plan s i items same done =
-    let here : length PARTS ≤ i = subst (λ (parts : List Part). length parts ≤ i) same done in
-    ap (λ (parts : List Part). lines_in plan s (flat_map (part_moves plan) parts)) (take_all i PARTS here)
+    let here : length PARTS ≤ i = subst (λ (parts : List ClosingPart). length parts ≤ i) same done in
+    ap (λ (parts : List ClosingPart). lines_in plan s (flat_map (part_moves plan) parts)) (take_all i PARTS here)
     ∙ all-parts plan s

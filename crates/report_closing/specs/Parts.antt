@@ -9,8 +9,8 @@ use Rattle.cf_semantics.specs.state.State.{State}
 use Rattle.report_closing.specs.Moves.{siding_moves, line_in}
 use Rattle.report_closing.specs.declared.parts.StageMove.{StageMove}
 use Rattle.report_closing.specs.declared.parts.StageMove.TheVariants as kind
-use Rattle.report_closing.specs.declared.parts.Part.{Part}
-use Rattle.report_closing.specs.declared.parts.Part.TheVariants as part
+use Rattle.report_closing.specs.declared.parts.ClosingPart.{ClosingPart}
+use Rattle.report_closing.specs.declared.parts.ClosingPart.TheVariants as part
 
 -- the move of a kind at a stage
 abbrev pub move_at : StageMove → ℕ → Move
@@ -23,7 +23,7 @@ move_at kind.Launch stage = Launch stage
 move_at kind.Recover stage = Recover stage
 
 -- the moves of a part
-abbrev pub part_moves : Plan → Part → List Move
+abbrev pub part_moves : Plan → ClosingPart → List Move
 part_moves plan (part.One mv) = mv ∷ []
 part_moves plan (part.Stages kind) = at_stages plan (move_at kind)
 part_moves plan part.Slides = siding_moves 0 plan.sidings

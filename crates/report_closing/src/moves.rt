@@ -9,7 +9,7 @@ ghost use Rattle.report_refusals.specs.Bars.{bar_text};
 ghost use Rattle.report_closing.specs.Moves.{between, cell_moves, siding_moves, line_in, moves_text};
 ghost use Rattle.report_closing.specs.Parts.{move_at, part_moves, lines_in};
 
-use crate::parts::{PARTS, Part, StageMove};
+use crate::parts::{PARTS, ClosingPart, StageMove};
 use cf_bind::{Bar, Move, MoveLine, move_text};
 use cf_core::Core;
 use cf_io::{Failed, Sink, put_all};
@@ -98,15 +98,15 @@ fn put_slides<R: Sink>(core: &Core, report: &mut R) -> Result<(), Failed>
 }
 
 /// Puts the lines of a part of the order of all moves.
-fn put_part<R: Sink>(core: &Core, part: Part, report: &mut R) -> Result<(), Failed>
+fn put_part<R: Sink>(core: &Core, part: ClosingPart, report: &mut R) -> Result<(), Failed>
     ensures { PutsText (R.written report.old) (R.written report.new)
         (R.faults report.old) (R.faults report.new)
         (lines_in core.now.plan core.now.state (part_moves core.now.plan part)) result }
 {
     match part {
-        Part::One(mv) => put_line(core, mv, report),
-        Part::Stages(kind) => put_stages(core, kind, report),
-        Part::Slides => put_slides(core, report),
+        ClosingPart::One(mv) => put_line(core, mv, report),
+        ClosingPart::Stages(kind) => put_stages(core, kind, report),
+        ClosingPart::Slides => put_slides(core, report),
     }
 }
 

@@ -19,7 +19,7 @@ pub(crate) enum StageMove {
 
 /// A part of the order of all moves.
 #[derive(Clone, Copy)]
-pub(crate) enum Part {
+pub(crate) enum ClosingPart {
     /// One move.
     One(Move),
     /// Those of a kind at each stage.
@@ -29,23 +29,23 @@ pub(crate) enum Part {
 }
 
 /// All moves but the issue with an address.
-pub(crate) const PARTS: [Part; 16] = [
-    Part::One(Move::Issue(Guess::Next)),
-    Part::One(Move::Issue(Guess::Taken)),
-    Part::One(Move::Issue(Guess::Wait)),
-    Part::One(Move::Emit),
-    Part::Stages(StageMove::Climb),
-    Part::Stages(StageMove::Fall),
-    Part::Stages(StageMove::Meet),
-    Part::Stages(StageMove::Execute),
-    Part::Stages(StageMove::Send),
-    Part::Stages(StageMove::Launch),
-    Part::Slides,
-    Part::One(Move::Access),
-    Part::Stages(StageMove::Recover),
-    Part::One(Move::Leave),
-    Part::One(Move::Exit),
-    Part::One(Move::Serve),
+pub(crate) const PARTS: [ClosingPart; 16] = [
+    ClosingPart::One(Move::Issue(Guess::Next)),
+    ClosingPart::One(Move::Issue(Guess::Taken)),
+    ClosingPart::One(Move::Issue(Guess::Wait)),
+    ClosingPart::One(Move::Emit),
+    ClosingPart::Stages(StageMove::Climb),
+    ClosingPart::Stages(StageMove::Fall),
+    ClosingPart::Stages(StageMove::Meet),
+    ClosingPart::Stages(StageMove::Execute),
+    ClosingPart::Stages(StageMove::Send),
+    ClosingPart::Stages(StageMove::Launch),
+    ClosingPart::Slides,
+    ClosingPart::One(Move::Access),
+    ClosingPart::Stages(StageMove::Recover),
+    ClosingPart::One(Move::Leave),
+    ClosingPart::One(Move::Exit),
+    ClosingPart::One(Move::Serve),
 ];
 
 impl StageMove {

@@ -2,7 +2,7 @@
 
 ghost use Rattle.std.specs.Prelude.{◌≡◌, ◌+◌, ◌*◌, ◌≤◌, ◌++◌, ◌∷◌, [], map, length};
 ghost use Rattle.report_refusals.specs.Variants.{cut, spaced, variant};
-ghost use Rattle.report_refusals.specs.Kept.{kept_text};
+ghost use Rattle.report_refusals.specs.KeptValue.{kept_text};
 ghost use Rattle.texts.specs.Room.{page_room};
 
 use crate::cutting::cut;
@@ -13,7 +13,7 @@ use texts::Page;
 
 /// A value that a refusal keeps.
 #[derive(Clone, Copy)]
-pub(crate) enum Kept {
+pub(crate) enum KeptValue {
     Class(Class),
     Number(u64),
     Integer(i64),
@@ -21,21 +21,21 @@ pub(crate) enum Kept {
 
 /// A class by its word in layout files, a number in decimal.
 #[tactic(auto, using(crate::proofs::Cuts::short_name))]
-fn push_kept(page: &mut Page, value: Kept)
+fn push_kept(page: &mut Page, value: KeptValue)
     requires { length page.old + 20 ≤ page_room }
     ensures text { page.new ≡ page.old ++ kept_text value }
     ensures size { length page.new ≤ length page.old + 20 }
 {
     match value {
-        Kept::Class(class) => page.push(class_name(class).as_bytes()),
-        Kept::Number(number) => page.push_decimal(number),
-        Kept::Integer(integer) => page.push(Buffer::new().format(integer).as_bytes()),
+        KeptValue::Class(class) => page.push(class_name(class).as_bytes()),
+        KeptValue::Number(number) => page.push_decimal(number),
+        KeptValue::Integer(integer) => page.push(Buffer::new().format(integer).as_bytes()),
     }
 }
 
 /// Values, each after one space.
 #[tactic(auto, unfolding(crate::specs::Variants::spaced))]
-fn push_spaced(page: &mut Page, kept: &[Kept])
+fn push_spaced(page: &mut Page, kept: &[KeptValue])
     requires { length page.old + 21 * length kept.now ≤ page_room }
     ensures text { page.new ≡ page.old ++ spaced (map kept_text kept.now) }
     ensures size { length page.new ≤ length page.old + 21 * length kept.now }
@@ -48,7 +48,7 @@ fn push_spaced(page: &mut Page, kept: &[Kept])
 
 /// A variant's name and the values that it keeps.
 #[tactic(auto, unfolding(crate::specs::Variants::variant))]
-pub(crate) fn push_variant(page: &mut Page, name: &[u8], kept: &[Kept])
+pub(crate) fn push_variant(page: &mut Page, name: &[u8], kept: &[KeptValue])
     requires { length page.old + length name.now + 21 * length kept.now ≤ page_room }
     ensures text { page.new ≡ page.old ++ variant name.now (map kept_text kept.now) }
     ensures size { length page.new ≤ length page.old + length name.now + 21 * length kept.now }

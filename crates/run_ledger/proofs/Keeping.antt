@@ -18,7 +18,7 @@ use Rattle.cf_timed.proofs.Simulated.{delay_few, kept_time}
 use Rattle.run_ledger.specs.Breakdowns.{breakdown, busy, chain_to, is_last, kinds, leads_to, longest_chain, of_kind, uses_siding, uses_stage}
 use Rattle.run_ledger.specs.Ledgers.{charged, followed, later, latest_of, mark_at, mark_of, no_mark, noted, noted_all, one_more, opened, place_number, place_numbers, plus, plus_if, put_marks, told_by}
 use Rattle.run_ledger.specs.declared.ledger.Ledger.{Ledger}
-use Rattle.run_ledger.specs.declared.mark.Mark.{Mark}
+use Rattle.run_ledger.specs.declared.mark.ChainMark.{ChainMark}
 use Rattle.run_ledger.proofs.Growing.{busy_few, busy_more, chain_few, grows, kinds_more, times_few, times_length, times_more, times_none}
 use Rattle.run_ledger.proofs.Laters.{later_new, later_none}
 use Rattle.run_ledger.proofs.Latests.{latest_any, latest_kinds, latest_never, latest_number, latest_time, latest_where, mark_after, mark_if}
@@ -46,16 +46,16 @@ pub record Keeps (plan : Plan) (delays : List ℕ) (moves : List Move) (l : Ledg
   pub kinds_are : l.kinds ≡ kinds moves
 
 -- the marks of some places
-marks_same : (f g : Site → Mark) (xs : List Site) → AllByRecursion IsKept xs → ((x : Site) → IsKept x → f x ≡ g x) → map f xs ≡ map g xs
+marks_same : (f g : Site → ChainMark) (xs : List Site) → AllByRecursion IsKept xs → ((x : Site) → IsKept x → f x ≡ g x) → map f xs ≡ map g xs
 marks_same f g [] kept same = refl
 marks_same f g (x ∷ xs) kept same =
     let h = same x kept.0 in
     let r = marks_same f g xs kept.1 same in
     rw (h, r) refl
 
-map_twice : (marks : List Mark) (xs : List Site) → map (mark_at marks) (map place_number xs) ≡ map (λ x. mark_at marks (place_number x)) xs
+map_twice : (marks : List ChainMark) (xs : List Site) → map (mark_at marks) (map place_number xs) ≡ map (λ x. mark_at marks (place_number x)) xs
 map_twice marks [] = refl
-map_twice marks (x ∷ xs) = ap (λ (l : List Mark). mark_at marks (place_number x) ∷ l) (map_twice marks xs)
+map_twice marks (x ∷ xs) = ap (λ (l : List ChainMark). mark_at marks (place_number x) ∷ l) (map_twice marks xs)
 
 -- the mark that a move follows is that of the latest that uses a place which it uses
 follows_latest : (plan : Plan) (delays : List ℕ) (moves : List Move) (l : Ledger) (mv : Move) → Keeps plan delays moves l → AreKept plan mv → followed l mv ≡ latest_where plan delays (λ d. shares plan mv d.move) (times plan delays moves)
@@ -64,7 +64,7 @@ follows_latest plan delays moves l mv h kept =
     ap (λ (p : Plan). latest_of no_mark (map (mark_at l.marks) (map place_number (used p mv)))) h.layout_is
     ∙ ap (latest_of no_mark) (map_twice l.marks (used plan mv))
     ∙ ap (latest_of no_mark) (marks_same (λ x. mark_at l.marks (place_number x)) (λ x. latest_where plan delays (at_place plan x) (times plan delays moves)) (used plan mv) kept h.marks_are)
-    ∙ ap (λ (m : Mark). latest_of m (map (λ x. latest_where plan delays (at_place plan x) (times plan delays moves)) (used plan mv))) (sym (latest_never plan delays (times plan delays moves)))
+    ∙ ap (λ (m : ChainMark). latest_of m (map (λ x. latest_where plan delays (at_place plan x) (times plan delays moves)) (used plan mv))) (sym (latest_never plan delays (times plan delays moves)))
     ∙ latest_any plan delays (λ d. false) (at_place plan) (used plan mv) (times plan delays moves)
 
 -- the time that a move waits for
@@ -84,7 +84,7 @@ mark_now : (plan : Plan) (delays : List ℕ) (moves : List Move) (l : Ledger) (m
 unfolding mark_of
 mark_now plan delays moves l mv h kept few small =
     let done : List Done = times plan delays moves in
-    let old : Mark = latest_where plan delays (λ d. shares plan mv d.move) done in
+    let old : ChainMark = latest_where plan delays (λ d. shares plan mv d.move) done in
     let f = follows_latest plan delays moves l mv h kept in
     let w = waits plan delays done mv in
     let n = times_length plan delays moves in
@@ -99,7 +99,7 @@ mark_now plan delays moves l mv h kept few small =
     ap (λ (ks : List ℕ). one_more ks mv) (leads_latest plan delays done mv) ∙ kinds_more (chain_to plan delays (leads_to plan delays (done_after plan delays done mv)) done) mv (omega (arith, c, n, small)) in
     all l.delays l.count (followed l mv) old h.delays_are h.count_is f time_is number_is kinds_is
   where
-    all : (ds : List ℕ) (count : ℕ) (first old : Mark) → ds ≡ delays → count ≡ length moves → first ≡ old
+    all : (ds : List ℕ) (count : ℕ) (first old : ChainMark) → ds ≡ delays → count ≡ length moves → first ≡ old
         → plus old.time (delay delays mv) ≡ time_after plan delays (times plan delays moves) mv → plus (length moves) 1 ≡ length (times plan delays moves) + 1
         → one_more old.kinds mv ≡ kinds (chain_to plan delays (leads_to plan delays (done_after plan delays (times plan delays moves) mv)) (times plan delays moves) ++ mv ∷ [])
         → record { time = plus first.time (delay ds mv); number = plus count 1; kinds = one_more first.kinds mv } ≡ mark_after plan delays (done_after plan delays (times plan delays moves) mv) (times plan delays moves)
@@ -111,8 +111,8 @@ marks_more : (plan : Plan) (delays : List ℕ) (moves : List Move) (l : Ledger) 
 unfolding uses_place
 marks_more plan delays moves l mv x h kept here mark_is =
     marks_put (mark_of l mv) l.marks (used plan mv) x h.room kept here
-    ∙ ap (λ (m : Mark). cond (among x (used plan mv)) m (mark_at l.marks (place_number x))) mark_is
-    ∙ ap (λ (m : Mark). cond (among x (used plan mv)) (mark_after plan delays (done_after plan delays (times plan delays moves) mv) (times plan delays moves)) m) (h.marks_are x here)
+    ∙ ap (λ (m : ChainMark). cond (among x (used plan mv)) m (mark_at l.marks (place_number x))) mark_is
+    ∙ ap (λ (m : ChainMark). cond (among x (used plan mv)) (mark_after plan delays (done_after plan delays (times plan delays moves) mv) (times plan delays moves)) m) (h.marks_are x here)
     ∙ by (among x (used plan mv)) refl
   where
     by : (b : Bool) → among x (used plan mv) ≡ b → cond b (mark_after plan delays (done_after plan delays (times plan delays moves) mv) (times plan delays moves)) (latest_where plan delays (at_place plan x) (times plan delays moves))
@@ -139,7 +139,7 @@ keeps-more plan delays moves l mv h kept few small =
           ap (λ (p : Plan). mark_at (put_marks (mark_of l mv) l.marks (place_numbers p mv)) (place_number x)) h.layout_is
           ∙ marks_more plan delays moves l mv x h kept here m
           ∙ ap (latest_where plan delays (at_place plan x)) (sym more);
-      last_is = ap (λ (a : Mark). later a (mark_of l mv)) h.last_is
+      last_is = ap (λ (a : ChainMark). later a (mark_of l mv)) h.last_is
           ∙ ap (later (latest_where plan delays any_move (times plan delays moves))) m
           ∙ ap (latest_where plan delays any_move) (sym more);
       stages_are = ap (λ (p : Plan). charged (λ i. uses_stage p i mv) (delay l.delays mv) l.stages) h.layout_is
@@ -202,7 +202,7 @@ keeps-tells plan delays moves l h =
     let t = latest_time plan delays any_move done in
     let all : greatest_where any_move done ≡ greatest_time done = ap greatest_time (always done) in
     let chain : l.last.kinds ≡ kinds (chain_to plan delays (is_last done) done) =
-    ap (λ (m : Mark). m.kinds) h.last_is
+    ap (λ (m : ChainMark). m.kinds) h.last_is
     ∙ latest_kinds plan delays any_move (is_last done) done (λ d. ap (nat_eq d.time) (sym (t ∙ all))) in
     let a = h.layout_is in
     let b = h.stages_are in

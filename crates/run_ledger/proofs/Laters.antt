@@ -2,22 +2,22 @@
 use Rattle.std.proofs.Common.{◌≡◌, refl, ℕ, ◌<◌, ◌≤◌, max, Bool, true, false, cond, arith}
 use Rattle.std.proofs.lemmas.Bool.Decides.{nat_tests}
 use Rattle.run_ledger.specs.Ledgers.{is_later, later, no_mark}
-use Rattle.run_ledger.specs.declared.mark.Mark.{Mark}
+use Rattle.run_ledger.specs.declared.mark.ChainMark.{ChainMark}
 
 -- the later of a mark and no mark is the mark
-pub later_none : (a : Mark) → later a no_mark ≡ a
+pub later_none : (a : ChainMark) → later a no_mark ≡ a
 later_none a = let e : is_later a no_mark ≡ false = grind (arith, nat_tests) in rw e refl
 
 -- a mark with a greater number and no earlier time is the later one
-pub later_new : (a b : Mark) → a.time ≤ b.time → a.number < b.number → later a b ≡ b
+pub later_new : (a b : ChainMark) → a.time ≤ b.time → a.number < b.number → later a b ≡ b
 later_new a b t n = let e : is_later a b ≡ true = grind (arith, nat_tests) in rw e refl
 
 -- a mark with an earlier time is not
-pub later_old : (a b : Mark) → b.time < a.time → later a b ≡ a
+pub later_old : (a b : ChainMark) → b.time < a.time → later a b ≡ a
 later_old a b t = let e : is_later a b ≡ false = grind (arith, nat_tests) in rw e refl
 
 -- its time is the greater one
-pub later_time : (a b : Mark) → (later a b).time ≡ max a.time b.time
+pub later_time : (a b : ChainMark) → (later a b).time ≡ max a.time b.time
 later_time a b = by (is_later a b) refl
   where
     by : (o : Bool) → is_later a b ≡ o → (cond o b a).time ≡ max a.time b.time
@@ -25,7 +25,7 @@ later_time a b = by (is_later a b) refl
     by false e = grind (arith, nat_tests)
 
 -- and its number is one of the two
-pub later_number : (a b : Mark) (most : ℕ) → a.number ≤ most → b.number ≤ most → (later a b).number ≤ most
+pub later_number : (a b : ChainMark) (most : ℕ) → a.number ≤ most → b.number ≤ most → (later a b).number ≤ most
 later_number a b most h g = by (is_later a b)
   where
     by : (o : Bool) → (cond o b a).number ≤ most
@@ -33,7 +33,7 @@ later_number a b most h g = by (is_later a b)
     by false = h
 
 -- a new mark beside one of two, or beside both
-pub new_first : (p q m : Mark) → p.number < m.number → q.number < m.number → later (later p q) m ≡ later (later p m) q
+pub new_first : (p q m : ChainMark) → p.number < m.number → q.number < m.number → later (later p q) m ≡ later (later p m) q
 new_first p q m a b = by (is_later p q) (is_later p m) (is_later q m) refl refl refl
   where
     by : (x y z : Bool) → is_later p q ≡ x → is_later p m ≡ y → is_later q m ≡ z → later (cond x q p) m ≡ later (cond y m p) q
@@ -46,7 +46,7 @@ new_first p q m a b = by (is_later p q) (is_later p m) (is_later q m) refl refl 
     by false false true e f g = rw (f, e) refl
     by false false false e f g = rw (f, e) refl
 
-pub new_second : (p q m : Mark) → p.number < m.number → q.number < m.number → later (later p q) m ≡ later p (later q m)
+pub new_second : (p q m : ChainMark) → p.number < m.number → q.number < m.number → later (later p q) m ≡ later p (later q m)
 new_second p q m a b = by (is_later p q) (is_later p m) (is_later q m) refl refl refl
   where
     by : (x y z : Bool) → is_later p q ≡ x → is_later p m ≡ y → is_later q m ≡ z → later (cond x q p) m ≡ later p (cond z m q)
@@ -59,7 +59,7 @@ new_second p q m a b = by (is_later p q) (is_later p m) (is_later q m) refl refl
     by false false true e f g = rw f refl
     by false false false e f g = rw (f, e) refl
 
-pub new_both : (p q m : Mark) → p.number < m.number → q.number < m.number → later (later p q) m ≡ later (later p m) (later q m)
+pub new_both : (p q m : ChainMark) → p.number < m.number → q.number < m.number → later (later p q) m ≡ later (later p m) (later q m)
 new_both p q m a b = by (is_later p q) (is_later p m) (is_later q m) refl refl refl
   where
     same : is_later m m ≡ false

@@ -8,11 +8,11 @@ use Rattle.cf_timed.specs.Times.{Done}
 use Rattle.cf_timed.proofs.Greatest.{greatest_where, where_more, where_none}
 use Rattle.run_ledger.specs.Breakdowns.{chain_to, kinds, leads_to, of_kind}
 use Rattle.run_ledger.specs.Ledgers.{later, latest_of, no_mark}
-use Rattle.run_ledger.specs.declared.mark.Mark.{Mark}
+use Rattle.run_ledger.specs.declared.mark.ChainMark.{ChainMark}
 use Rattle.run_ledger.proofs.Laters.{later_new, later_none, later_number, later_old, later_time, new_both, new_first, new_second}
 
 -- the mark of a move after earlier ones
-abbrev pub mark_after : Plan → List ℕ → Done → List Done → Mark
+abbrev pub mark_after : Plan → List ℕ → Done → List Done → ChainMark
 mark_after plan delays done earlier = record {
   time = done.time;
   number = length earlier + 1;
@@ -20,16 +20,16 @@ mark_after plan delays done earlier = record {
 }
 
 -- or no mark, where it does not count
-abbrev pub mark_if : Plan → List ℕ → Bool → Done → List Done → Mark
+abbrev pub mark_if : Plan → List ℕ → Bool → Done → List Done → ChainMark
 mark_if plan delays counts done earlier = cond counts (mark_after plan delays done earlier) no_mark
 
 -- the mark of the latest of the moves that pass a test
-abbrev pub latest_where : Plan → List ℕ → (Done → Bool) → List Done → Mark
+abbrev pub latest_where : Plan → List ℕ → (Done → Bool) → List Done → ChainMark
 latest_where plan delays test [] = no_mark
 latest_where plan delays test (done ∷ earlier) = later (latest_where plan delays test earlier) (mark_if plan delays (test done) done earlier)
 
 -- and of the last that passes it
-abbrev pub last_where : Plan → List ℕ → (Done → Bool) → List Done → Mark
+abbrev pub last_where : Plan → List ℕ → (Done → Bool) → List Done → ChainMark
 last_where plan delays test [] = no_mark
 last_where plan delays test (done ∷ earlier) = cond (test done) (mark_after plan delays done earlier) (last_where plan delays test earlier)
 
@@ -76,10 +76,10 @@ latest_never plan delays (done ∷ earlier) = let r = latest_never plan delays e
 pub latest_either : (plan : Plan) (delays : List ℕ) (p q : Done → Bool) (moves : List Done) → latest_where plan delays (λ d. p d || q d) moves ≡ later (latest_where plan delays p moves) (latest_where plan delays q moves)
 latest_either plan delays p q [] = sym (later_none no_mark)
 latest_either plan delays p q (done ∷ earlier) =
-    ap (λ (m : Mark). later m (mark_if plan delays (p done || q done) done earlier)) (latest_either plan delays p q earlier)
+    ap (λ (m : ChainMark). later m (mark_if plan delays (p done || q done) done earlier)) (latest_either plan delays p q earlier)
     ∙ both (p done) (q done)
   where
-    new : Mark
+    new : ChainMark
     new = mark_after plan delays done earlier
 
     both : (a b : Bool) → later (later (latest_where plan delays p earlier) (latest_where plan delays q earlier)) (mark_if plan delays (a || b) done earlier) ≡ later (later (latest_where plan delays p earlier) (mark_if plan delays a done earlier)) (later (latest_where plan delays q earlier) (mark_if plan delays b done earlier))
@@ -91,10 +91,10 @@ latest_either plan delays p q (done ∷ earlier) =
         by : (a b : Bool) → (latest_where plan delays p earlier).number < length earlier + 1 → (latest_where plan delays q earlier).number < length earlier + 1 → later (later (latest_where plan delays p earlier) (latest_where plan delays q earlier)) (mark_if plan delays (a || b) done earlier) ≡ later (later (latest_where plan delays p earlier) (mark_if plan delays a done earlier)) (later (latest_where plan delays q earlier) (mark_if plan delays b done earlier))
         by true true m n = new_both (latest_where plan delays p earlier) (latest_where plan delays q earlier) (mark_after plan delays done earlier) m n
         by true false m n = new_first (latest_where plan delays p earlier) (latest_where plan delays q earlier) (mark_after plan delays done earlier) m n ∙ ap (later (later (latest_where plan delays p earlier) (mark_after plan delays done earlier))) (sym (later_none (latest_where plan delays q earlier)))
-        by false true m n = new_second (latest_where plan delays p earlier) (latest_where plan delays q earlier) (mark_after plan delays done earlier) m n ∙ ap (λ (x : Mark). later x (later (latest_where plan delays q earlier) (mark_after plan delays done earlier))) (sym (later_none (latest_where plan delays p earlier)))
+        by false true m n = new_second (latest_where plan delays p earlier) (latest_where plan delays q earlier) (mark_after plan delays done earlier) m n ∙ ap (λ (x : ChainMark). later x (later (latest_where plan delays q earlier) (mark_after plan delays done earlier))) (sym (later_none (latest_where plan delays p earlier)))
         by false false m n =
             later_none (later (latest_where plan delays p earlier) (latest_where plan delays q earlier))
-            ∙ ap (λ (x : Mark). later x (latest_where plan delays q earlier)) (sym (later_none (latest_where plan delays p earlier)))
+            ∙ ap (λ (x : ChainMark). later x (latest_where plan delays q earlier)) (sym (later_none (latest_where plan delays p earlier)))
             ∙ ap (later (later (latest_where plan delays p earlier) no_mark)) (sym (later_none (latest_where plan delays q earlier)))
 
 -- the tests of a list, one after the other
@@ -105,7 +105,7 @@ latest_any plan delays p test [] moves = latest_same plan delays p (λ d. p d ||
     once true = refl
     once false = refl
 latest_any {X} plan delays p test (x ∷ xs) moves =
-    ap (λ (m : Mark). latest_of m (map (λ y. latest_where plan delays (test y) moves) xs)) (sym (latest_either plan delays p (test x) moves))
+    ap (λ (m : ChainMark). latest_of m (map (λ y. latest_where plan delays (test y) moves) xs)) (sym (latest_either plan delays p (test x) moves))
     ∙ latest_any plan delays (λ d. p d || test x d) test xs moves
     ∙ latest_same plan delays (λ d. (p d || test x d) || list_any (λ y. test y d) xs) (λ d. p d || (test x d || list_any (λ y. test y d) xs)) moves (λ d. turned (p d) (test x d) (list_any (λ y. test y d) xs))
   where
@@ -125,7 +125,7 @@ at_time plan delays p (done ∷ earlier) s h =
     let i = if_time plan delays (p done) done earlier in
     by (p done) (omega (arith, t, i, h)) (omega (arith, t, i, h)) (at_time plan delays p earlier s (omega (arith, t, h)))
   where
-    old : Mark
+    old : ChainMark
     old = latest_where plan delays p earlier
 
     stays : (b : Bool) → nat_eq (latest_where plan delays p earlier).time s ≡ b → done.time < s → cond b (latest_where plan delays p earlier) no_mark ≡ cond (nat_eq (later (latest_where plan delays p earlier) (mark_after plan delays done earlier)).time s) (later (latest_where plan delays p earlier) (mark_after plan delays done earlier)) no_mark
@@ -179,6 +179,6 @@ chain_same plan delays p q (done ∷ earlier) same =
 -- the kinds of the chain to the latest that passes
 pub latest_kinds : (plan : Plan) (delays : List ℕ) (p test : Done → Bool) (moves : List Done) → ((d : Done) → test d ≡ (p d && nat_eq d.time (latest_where plan delays p moves).time)) → (latest_where plan delays p moves).kinds ≡ kinds (chain_to plan delays test moves)
 latest_kinds plan delays p test moves same =
-    ap (λ (m : Mark). m.kinds) (sym (latest_last plan delays p moves))
+    ap (λ (m : ChainMark). m.kinds) (sym (latest_last plan delays p moves))
     ∙ last_kinds plan delays (λ d. p d && nat_eq d.time (latest_where plan delays p moves).time) moves
     ∙ ap kinds (sym (chain_same plan delays test (λ d. p d && nat_eq d.time (latest_where plan delays p moves).time) moves same))

@@ -7,7 +7,7 @@ use Rattle.cf_semantics.specs.moves.Sites.{Site, Stage, SidingCell, Lane, Fetchi
 use Rattle.cf_timed.proofs.Following.{IsKept}
 use Rattle.run_ledger.specs.Ledgers.{mark_at, place_number, put_marks, with_marks}
 use Rattle.run_ledger.specs.declared.ledger.Ledger.{Ledger}
-use Rattle.run_ledger.specs.declared.mark.Mark.{Mark}
+use Rattle.run_ledger.specs.declared.mark.ChainMark.{ChainMark}
 
 -- places have different numbers
 same_number : (x y : Site) → IsKept x → IsKept y → nat_eq (place_number x) (place_number y) ≡ same_site x y
@@ -68,7 +68,7 @@ number_within Code kept = omega arith
 number_within _ kept = absurd (search kept)
 
 -- a mark that was put, and the others
-at_put : (marks : List Mark) (i j : ℕ) (mark : Mark) → i < length marks → mark_at (slice_set marks i mark) j ≡ cond (nat_eq j i) mark (mark_at marks j)
+at_put : (marks : List ChainMark) (i j : ℕ) (mark : ChainMark) → i < length marks → mark_at (slice_set marks i mark) j ≡ cond (nat_eq j i) mark (mark_at marks j)
 at_put [] i j mark within = absurd (omega arith)
 at_put (m ∷ marks) zero zero mark within = refl
 at_put (m ∷ marks) zero (suc j) mark within = let e : nat_eq (suc j) 0 ≡ false = grind (arith, nat_tests) in rw e refl
@@ -76,22 +76,22 @@ at_put (m ∷ marks) (suc i) zero mark within = let e : nat_eq 0 (suc i) ≡ fal
 at_put (m ∷ marks) (suc i) (suc j) mark within = let e : nat_eq (suc j) (suc i) ≡ nat_eq j i = grind (arith, nat_tests) in rw e (at_put marks i j mark (omega arith))
 
 -- their number stays
-set_size : (marks : List Mark) (i : ℕ) (mark : Mark) → length (slice_set marks i mark) ≡ length marks
+set_size : (marks : List ChainMark) (i : ℕ) (mark : ChainMark) → length (slice_set marks i mark) ≡ length marks
 set_size [] i mark = refl
 set_size (m ∷ marks) zero mark = refl
 set_size (m ∷ marks) (suc i) mark = ap suc (set_size marks i mark)
 
-pub put_size : (mark : Mark) (marks : List Mark) (places : List ℕ) → length (put_marks mark marks places) ≡ length marks
+pub put_size : (mark : ChainMark) (marks : List ChainMark) (places : List ℕ) → length (put_marks mark marks places) ≡ length marks
 put_size mark marks [] = refl
 put_size mark marks (place ∷ places) = put_size mark (slice_set marks place mark) places ∙ set_size marks place mark
 
 -- the mark at a place, after one was put at some places
-pub marks_put : (mark : Mark) (marks : List Mark) (ys : List Site) (x : Site) → length marks ≡ 102 → AllByRecursion IsKept ys → IsKept x → mark_at (put_marks mark marks (map place_number ys)) (place_number x) ≡ cond (among x ys) mark (mark_at marks (place_number x))
+pub marks_put : (mark : ChainMark) (marks : List ChainMark) (ys : List Site) (x : Site) → length marks ≡ 102 → AllByRecursion IsKept ys → IsKept x → mark_at (put_marks mark marks (map place_number ys)) (place_number x) ≡ cond (among x ys) mark (mark_at marks (place_number x))
 marks_put mark marks [] x room kept here = refl
 marks_put mark marks (y ∷ ys) x room kept here =
     let w = number_within y kept.0 in
     marks_put mark (slice_set marks (place_number y) mark) ys x (set_size marks (place_number y) mark ∙ room) kept.1 here
-    ∙ ap (λ (m : Mark). cond (among x ys) mark m) (at_put marks (place_number y) (place_number x) mark (omega (arith, w, room)) ∙ ap (λ (b : Bool). cond b mark (mark_at marks (place_number x))) (same_number x y here kept.0))
+    ∙ ap (λ (m : ChainMark). cond (among x ys) mark m) (at_put marks (place_number y) (place_number x) mark (omega (arith, w, room)) ∙ ap (λ (b : Bool). cond b mark (mark_at marks (place_number x))) (same_number x y here kept.0))
     ∙ both (same_site x y) (among x ys)
   where
     both : (a b : Bool) → cond b mark (cond a mark (mark_at marks (place_number x))) ≡ cond (a || b) mark (mark_at marks (place_number x))
@@ -101,12 +101,12 @@ marks_put mark marks (y ∷ ys) x room kept here =
     both false false = refl
 
 -- what is put at the next of some places
-pub put_next : (mark : Mark) (marks : List Mark) (places : List ℕ) (i : ℕ) → i < length places → put_marks mark (slice_set marks (get_or places i 0) mark) (drop (i + 1) places) ≡ put_marks mark marks (drop i places)
+pub put_next : (mark : ChainMark) (marks : List ChainMark) (places : List ℕ) (i : ℕ) → i < length places → put_marks mark (slice_set marks (get_or places i 0) mark) (drop (i + 1) places) ≡ put_marks mark marks (drop i places)
 put_next mark marks [] i within = absurd (omega arith)
 put_next mark marks (p ∷ places) zero within = refl
 put_next mark marks (p ∷ places) (suc i) within = let e : suc i + 1 ≡ suc (i + 1) = omega arith in rw e (put_next mark marks places i (omega arith))
 
 -- and of the ledger nothing else
-pub others_next : (l now next : Ledger) (marks : List Mark) → now ≡ with_marks l now.marks → next ≡ with_marks now marks → next ≡ with_marks l next.marks
+pub others_next : (l now next : Ledger) (marks : List ChainMark) → now ≡ with_marks l now.marks → next ≡ with_marks now marks → next ≡ with_marks l next.marks
 others_next l now next marks before put =
     put ∙ ap (λ (k : Ledger). with_marks k marks) before ∙ ap (with_marks l) (sym (ap (λ (k : Ledger). k.marks) put))

@@ -17,11 +17,11 @@ use Rattle.cf_run.specs.declared.answer.Ran.TheVariants as ran
 use Rattle.cf_run.specs.declared.answer.Scripted.TheVariants.{Ran}
 use Rattle.cf_run.specs.Ending.{EndsSequentially}
 use Rattle.cf_run.specs.Made.{Made, moves_of}
-use Rattle.cf_run.specs.Moving.{Place, place_of}
-use Rattle.cf_run.specs.Policies.{Chooser, Chooses, IsOpened, Picks, RunsPolicy, RunsRight, StopsPolicy, after_choice, chooser, fresh, made_last, offered_to}
+use Rattle.cf_run.specs.Moving.{RunPlace, place_of}
+use Rattle.cf_run.specs.Policies.{Chooser, StopsAtPick, IsOpened, Picks, RunsPolicy, RunsRight, StopsPolicy, after_choice, chooser, fresh, made_last, offered_to}
 use Rattle.cf_timed.specs.Clocks.{SiteTimes, started}
 use Rattle.cf_timed.specs.Delays.{AreDelays}
-use Rattle.cf_timed.specs.Timings.{Pending, after_pick, clock_after, pending_pick}
+use Rattle.cf_timed.specs.Timings.{PendingMove, after_pick, clock_after, pending_pick}
 use Rattle.cf_timed.specs.TimedRuns.{answer_of, begins}
 use Rattle.cf_timed.specs.declared.answer.Timed.{Timed}
 use Rattle.cf_timed.proofs.Following.{AreKept}
@@ -35,7 +35,7 @@ use Rattle.run_ledger.specs.declared.ledger.Ledger.{Ledger}
 use Rattle.run_ledger.proofs.Keeping.{told-all}
 
 -- the policy without its ledger
-abbrev timing : Chooser Watched → Chooser Pending
+abbrev timing : Chooser Watched → Chooser PendingMove
 timing at = chooser at.policy.pending at.count
 
 picks-timed : (plan : Plan) (at : Chooser Watched) (s : State) (trace : List Made) (last : Chooser Watched) → Picks watched_pick after_watched plan at s trace last → Picks pending_pick after_pick plan (timing at) s trace (timing last)
@@ -43,7 +43,7 @@ unfolding Picks
 picks-timed plan at s [] last same = ap timing same
 picks-timed plan at s (made ∷ trace) last (pick, picks) = (pick, picks-timed plan (after_choice after_watched plan at s made) made.state trace last picks)
 
-chooses-timed : (limit : ℕ) (now new : Place) (at : Chooser Watched) (later : Watched) (answer : Answer) → Chooses watched_pick after_watched limit show.Report at now new later answer → Chooses pending_pick after_pick limit show.Report (timing at) now new later.pending answer
+chooses-timed : (limit : ℕ) (now new : RunPlace) (at : Chooser Watched) (later : Watched) (answer : Answer) → StopsAtPick watched_pick after_watched limit show.Report at now new later answer → StopsAtPick pending_pick after_pick limit show.Report (timing at) now new later.pending answer
 chooses-timed limit now new at later answer h = record {
   goes = h.goes;
   move = h.move;
@@ -52,7 +52,7 @@ chooses-timed limit now new at later answer h = record {
   does = h.does;
 }
 
-stops-timed : (limit : ℕ) (now new : Place) (at : Chooser Watched) (later : Watched) (answer : Answer) → StopsPolicy watched_pick after_watched limit show.Report at now new later answer → StopsPolicy pending_pick after_pick limit show.Report (timing at) now new later.pending answer
+stops-timed : (limit : ℕ) (now new : RunPlace) (at : Chooser Watched) (later : Watched) (answer : Answer) → StopsPolicy watched_pick after_watched limit show.Report at now new later answer → StopsPolicy pending_pick after_pick limit show.Report (timing at) now new later.pending answer
 stops-timed limit now new at later (ran.Exit status) h = (h.0, h.1, ap (λ (w : Watched). w.pending) h.2)
 stops-timed limit now new at later (ran.Trap cause pc detail) h = (h.0, h.1, ap (λ (w : Watched). w.pending) h.2)
 stops-timed limit now new at later ran.Limit h = (h.0, h.1, ap (λ (w : Watched). w.pending) h.2)
@@ -61,7 +61,7 @@ stops-timed limit now new at later ran.WriteFault h = chooses-timed limit now ne
 stops-timed limit now new at later ran.ReportFault h = chooses-timed limit now new at later ran.ReportFault h
 
 -- where the report does not fail, no move comes after those that lead to the end
-none-last : {P : Type 0} (picked : P → List Move → ℕ) (onward : P → List Move → P) (limit : ℕ) (at : Chooser P) (now new : Place) (later : P) (answer : Answer) (stops : StopsPolicy picked onward limit show.Report at now new later answer) → answer ≢ ran.ReportFault → made_last picked onward limit show.Report at now new later answer stops ≡ []
+none-last : {P : Type 0} (picked : P → List Move → ℕ) (onward : P → List Move → P) (limit : ℕ) (at : Chooser P) (now new : RunPlace) (later : P) (answer : Answer) (stops : StopsPolicy picked onward limit show.Report at now new later answer) → answer ≢ ran.ReportFault → made_last picked onward limit show.Report at now new later answer stops ≡ []
 none-last picked onward limit at now new later (ran.Exit status) stops none = refl
 none-last picked onward limit at now new later (ran.Trap cause pc detail) stops none = refl
 none-last picked onward limit at now new later ran.Limit stops none = refl
@@ -91,7 +91,7 @@ kept-trace plan at s (made ∷ trace) last acc (pick, picks) = (
 )
 
 -- and it is told of none besides
-stopped-told : (limit : ℕ) (now new : Place) (at : Chooser Watched) (later : Watched) (answer : Answer) → StopsPolicy watched_pick after_watched limit show.Report at now new later answer → ledger_after later answer ≡ ledger_told at.policy
+stopped-told : (limit : ℕ) (now new : RunPlace) (at : Chooser Watched) (later : Watched) (answer : Answer) → StopsPolicy watched_pick after_watched limit show.Report at now new later answer → ledger_after later answer ≡ ledger_told at.policy
 unfolding ledger_after
 stopped-told limit now new at later (ran.Exit status) h = ap ledger_told h.2
 stopped-told limit now new at later (ran.Trap cause pc detail) h = ap ledger_told h.2
@@ -116,12 +116,12 @@ trace-length [] = refl
 trace-length (made ∷ trace) = ap suc (trace-length trace)
 
 -- the moves of the run are those that lead to its end
-moves-are : (plan : Plan) (delays : List ℕ) (limit : ℕ) (begin new : Place) (later : Watched) (answer : Answer) → answer ≢ ran.ReportFault → (r : RunsRight watched_pick after_watched limit show.Report begin new (first_watched plan delays) later answer) → r.moves ≡ moves_of r.runs.reaches.trace
+moves-are : (plan : Plan) (delays : List ℕ) (limit : ℕ) (begin new : RunPlace) (later : Watched) (answer : Answer) → answer ≢ ran.ReportFault → (r : RunsRight watched_pick after_watched limit show.Report begin new (first_watched plan delays) later answer) → r.moves ≡ moves_of r.runs.reaches.trace
 moves-are plan delays limit begin new later answer none r =
     r.runs.made ∙ ap (λ (l : List Move). moves_of r.runs.reaches.trace ++ l) (none-last watched_pick after_watched limit r.runs.at r.runs.now new later answer r.runs.stops none) ∙ append-nil (moves_of r.runs.reaches.trace)
 
 -- so the ledger tells what their time is made of
-run-told : (delays : List ℕ) (limit : ℕ) (begin new : Place) (later : Watched) (answer : Answer) → IsAccepted begin.core.plan → length begin.core.state.regs ≡ 32 → IsOpened begin.core → AreDelays delays → limit ≤ most_limit → begin.core.state.retired ≤ limit → answer ≢ ran.ReportFault
+run-told : (delays : List ℕ) (limit : ℕ) (begin new : RunPlace) (later : Watched) (answer : Answer) → IsAccepted begin.core.plan → length begin.core.state.regs ≡ 32 → IsOpened begin.core → AreDelays delays → limit ≤ most_limit → begin.core.state.retired ≤ limit → answer ≢ ran.ReportFault
     → (r : RunsRight watched_pick after_watched limit show.Report begin new (first_watched begin.core.plan delays) later answer) → told_by (ledger_after later answer) ≡ breakdown begin.core.plan delays r.moves
 run-told delays limit begin new later answer acc wide o few small within none r =
     let plan : Plan = begin.core.plan in
@@ -139,7 +139,7 @@ run-told delays limit begin new later answer acc wide o few small within none r 
     ∙ ap (breakdown plan delays) (sym (moves-are plan delays limit begin new later answer none r))
 
 -- and the run is a run by the clock
-right-timed : (plan : Plan) (delays : List ℕ) (limit : ℕ) (begin new : Place) (later : Watched) (answer : Answer) → answer ≢ ran.ReportFault → (r : RunsRight watched_pick after_watched limit show.Report begin new (first_watched plan delays) later answer)
+right-timed : (plan : Plan) (delays : List ℕ) (limit : ℕ) (begin new : RunPlace) (later : Watched) (answer : Answer) → answer ≢ ran.ReportFault → (r : RunsRight watched_pick after_watched limit show.Report begin new (first_watched plan delays) later answer)
     → RunsPolicy pending_pick after_pick limit show.Report begin new (record { clock = started plan delays; last = None }) later.pending r.moves answer
 right-timed plan delays limit begin new later answer none r =
     let stops = stops-timed limit r.runs.now new r.runs.at later answer r.runs.stops in
@@ -157,8 +157,8 @@ pub runs-noted : (delays : List ℕ) (limit : ℕ) (core new : Processor) (befor
     → first ≡ first_watched core.plan delays → RunsRight watched_pick after_watched limit show.Report (begins core before) (place_of new after None tally) first later answer → EndsSequentially limit (begins core before) (place_of new after None tally) (Ran answer)
     → answer_of timed ≡ answer → clock ≡ clock_after later.pending answer → ledger ≡ ledger_after later answer → RunsNoted delays limit (begins core before) new after clock ledger tally.moves timed
 runs-noted delays limit core new before after tally first later answer timed clock ledger acc wide o few small within none fresh_is right ends e clock_is ledger_is =
-    let begin : Place = begins core before in
-    let there : Place = place_of new after None tally in
+    let begin : RunPlace = begins core before in
+    let there : RunPlace = place_of new after None tally in
     let r = subst (λ (w : Watched). RunsRight watched_pick after_watched limit show.Report begin there w later answer) fresh_is right in
     let told = run-told delays limit begin there later answer acc wide o few small within none r in
     let so = runs-timed-so (λ moves. told_by (ledger_after later answer) ≡ breakdown core.plan delays moves) delays limit core new before after tally later.pending answer timed clock acc wide o few small within none

@@ -11,7 +11,7 @@ use Rattle.cf_timed.specs.Delays.{delay}
 use Rattle.run_ledger.specs.Breakdowns.{uses_siding, uses_stage}
 use Rattle.run_ledger.specs.declared.breakdown.Breakdown.{Breakdown}
 use Rattle.run_ledger.specs.declared.ledger.Ledger.{Ledger}
-use Rattle.run_ledger.specs.declared.mark.Mark.{Mark}
+use Rattle.run_ledger.specs.declared.mark.ChainMark.{ChainMark}
 
 -- the number of a place among all that moves use
 abbrev pub place_number : Site → ℕ
@@ -24,23 +24,23 @@ place_number (SidingCell k c) = 38 + 8 * k + c
 place_number _ = 102
 
 -- the mark of a place that no move has used
-abbrev pub no_mark : Mark
+abbrev pub no_mark : ChainMark
 no_mark = record { time = 0; number = 0; kinds = replicate 14 0 }
 
 -- the mark at a place
-abbrev pub mark_at : List Mark → ℕ → Mark
+abbrev pub mark_at : List ChainMark → ℕ → ChainMark
 mark_at marks place = unwrap_or (slice_get marks place) no_mark
 
 -- the second mark is of a move that is done later, or of one that is done at the same time and has a greater number
-abbrev pub is_later : Mark → Mark → Bool
+abbrev pub is_later : ChainMark → ChainMark → Bool
 is_later a b = nat_lt a.time b.time || (nat_eq a.time b.time && nat_lt a.number b.number)
 
 -- the later of two marks
-abbrev pub later : Mark → Mark → Mark
+abbrev pub later : ChainMark → ChainMark → ChainMark
 later a b = if is_later a b then b else a
 
 -- the latest of a mark and some more
-abbrev pub latest_of : Mark → List Mark → Mark
+abbrev pub latest_of : ChainMark → List ChainMark → ChainMark
 latest_of mark [] = mark
 latest_of mark (next ∷ marks) = latest_of (later mark next) marks
 
@@ -61,12 +61,12 @@ abbrev pub one_more : List ℕ → Move → List ℕ
 one_more numbers mv = slice_set numbers (kind_place mv) (plus (number_at numbers (kind_place mv)) 1)
 
 -- the mark is put at each of some places
-abbrev pub put_marks : Mark → List Mark → List ℕ → List Mark
+abbrev pub put_marks : ChainMark → List ChainMark → List ℕ → List ChainMark
 put_marks mark marks [] = marks
 put_marks mark marks (place ∷ places) = put_marks mark (slice_set marks place mark) places
 
 -- the ledger with other marks
-abbrev pub with_marks : Ledger → List Mark → Ledger
+abbrev pub with_marks : Ledger → List ChainMark → Ledger
 with_marks l marks = record l { marks = marks }
 
 -- no move has been made yet
@@ -87,11 +87,11 @@ abbrev pub place_numbers : Plan → Move → List ℕ
 place_numbers plan mv = map place_number (used plan mv)
 
 -- the mark that the move follows: the latest at the places that it uses
-unfoldable pub followed : Ledger → Move → Mark
+unfoldable pub followed : Ledger → Move → ChainMark
 followed l mv = latest_of no_mark (map (mark_at l.marks) (place_numbers l.layout mv))
 
 -- the mark of a move that is made now
-unfoldable pub mark_of : Ledger → Move → Mark
+unfoldable pub mark_of : Ledger → Move → ChainMark
 mark_of l mv = record {
   time = plus (followed l mv).time (delay l.delays mv);
   number = plus l.count 1;

@@ -4,13 +4,13 @@ use Rattle.cf_bind.specs.declared.moves.Move.{Move}
 use Rattle.cf_semantics.specs.state.Options.{on}
 use Rattle.cf_run.specs.declared.answer.Ran.{Ran as Answer}
 use Rattle.cf_run.specs.declared.answer.Ran.TheVariants as ran
-use Rattle.cf_timed.specs.Timings.{Pending, after_pick, pending_pick}
+use Rattle.cf_timed.specs.Timings.{PendingMove, after_pick, pending_pick}
 use Rattle.run_ledger.specs.Ledgers.{noted}
 use Rattle.run_ledger.specs.declared.ledger.Ledger.{Ledger}
 
 -- the clock with the last move that was picked, and the ledger, which has not been told of that move yet
 pub record Watched : Type 0 where
-  pub pending : Pending
+  pub pending : PendingMove
   pub ledger : Ledger
 
 -- the ledger, told of the last move

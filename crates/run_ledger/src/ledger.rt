@@ -6,7 +6,7 @@ ghost use Rattle.run_ledger.specs.Ledgers.{followed, latest_of, mark_at, mark_of
 
 use crate::breakdown::Breakdown;
 use crate::charging::{charge_sidings, charge_stages, one_more};
-use crate::mark::{Mark, later};
+use crate::mark::{ChainMark, later};
 use crate::places::places_of;
 use cf_bind::Move;
 use cf_layout::Layout;
@@ -21,9 +21,9 @@ pub struct Ledger {
     /// How many moves were made.
     pub(crate) count: u64,
     /// Of each place, by its number.
-    pub(crate) marks: [Mark; 102],
+    pub(crate) marks: [ChainMark; 102],
     /// Of the last move that is done last.
-    pub(crate) last: Mark,
+    pub(crate) last: ChainMark,
     pub(crate) stages: [u64; 33],
     pub(crate) sidings: [u64; 8],
     pub(crate) kinds: [u64; 14],
@@ -39,8 +39,8 @@ impl Ledger {
             layout: *layout,
             delays,
             count: 0,
-            marks: [Mark::none(); 102],
-            last: Mark::none(),
+            marks: [ChainMark::none(); 102],
+            last: ChainMark::none(),
             stages: [0; 33],
             sidings: [0; 8],
             kinds: [0; 14],
@@ -57,17 +57,17 @@ impl Ledger {
 
     /// The mark at a place.
     #[inline(always)]
-    fn mark(&self, place: usize) -> Mark
+    fn mark(&self, place: usize) -> ChainMark
         ensures { result ≡ mark_at self.now.marks place }
     {
-        self.marks.get(place).copied().unwrap_or(Mark::none())
+        self.marks.get(place).copied().unwrap_or(ChainMark::none())
     }
 
     /// The latest mark at some places.
-    fn latest(&self, places: &[usize]) -> Mark
+    fn latest(&self, places: &[usize]) -> ChainMark
         ensures { result ≡ latest_of no_mark (map (mark_at self.now.marks) places.now) }
     {
-        let mut latest = Mark::none();
+        let mut latest = ChainMark::none();
         for place in places {
             latest = later(latest, self.mark(*place));
         }
@@ -76,7 +76,7 @@ impl Ledger {
 
     /// Puts the mark at a place.
     #[inline(always)]
-    fn put_at(&mut self, mark: Mark, place: usize)
+    fn put_at(&mut self, mark: ChainMark, place: usize)
         ensures { self.new ≡ with_marks self.old (slice_set self.old.marks place mark) }
     {
         if place < 102 {
@@ -85,7 +85,7 @@ impl Ledger {
     }
 
     /// Puts the mark at some places.
-    fn put(&mut self, mark: Mark, places: &[usize])
+    fn put(&mut self, mark: ChainMark, places: &[usize])
         ensures { self.new ≡ with_marks self.old (put_marks mark self.old.marks places.now) }
     {
         for place in places {
@@ -95,12 +95,12 @@ impl Ledger {
 
     /// The mark of a move that is made now.
     #[tactic(auto, unfolding(crate::specs::Ledgers::followed, crate::specs::Ledgers::mark_of))]
-    fn mark_of(&self, mv: Move, places: &[usize]) -> Mark
+    fn mark_of(&self, mv: Move, places: &[usize]) -> ChainMark
         requires { places.now ≡ place_numbers self.now.layout mv }
         ensures { result ≡ mark_of self.now mv }
     {
         let followed = self.latest(places);
-        Mark {
+        ChainMark {
             time: followed.time.saturating_add(self.delay(mv)),
             number: self.count.saturating_add(1),
             kinds: one_more(followed.kinds, mv),

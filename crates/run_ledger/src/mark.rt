@@ -5,7 +5,7 @@ ghost use Rattle.run_ledger.specs.Ledgers.{later as later_mark, no_mark};
 
 /// A move that was made, and the chain that ends with it.
 #[derive(Clone, Copy)]
-pub(crate) struct Mark {
+pub(crate) struct ChainMark {
     /// When it is done, in ticks.
     pub(crate) time: u64,
 
@@ -16,13 +16,13 @@ pub(crate) struct Mark {
     pub(crate) kinds: [u64; 14],
 }
 
-impl Mark {
+impl ChainMark {
     /// No move.
     #[inline(always)]
-    pub(crate) fn none() -> Mark
+    pub(crate) fn none() -> ChainMark
         ensures { result ≡ no_mark }
     {
-        Mark {
+        ChainMark {
             time: 0,
             number: 0,
             kinds: [0; 14],
@@ -32,7 +32,7 @@ impl Mark {
 
 /// The mark of the move that is done later, or of the later move where both are done at the same time.
 #[inline(always)]
-pub(crate) fn later(a: Mark, b: Mark) -> Mark
+pub(crate) fn later(a: ChainMark, b: ChainMark) -> ChainMark
     ensures { result ≡ later_mark a b }
 {
     if a.time < b.time || (a.time == b.time && a.number < b.number) {

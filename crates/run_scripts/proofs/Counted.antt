@@ -9,13 +9,13 @@ use Rattle.run_scripts.specs.Limits.{most_script}
 use Rattle.cf_bind.specs.declared.moves.Move.{Move}
 use Rattle.run_scripts.specs.declared.refusal.ScriptKind.{ScriptKind}
 use Rattle.run_scripts.specs.MoveLines.{move_in}
-use Rattle.run_scripts.specs.Scripts.{Told, is_skipped, told_by, told_from}
+use Rattle.run_scripts.specs.Scripts.{ScriptLines, is_skipped, told_by, told_from}
 
-told-one : (line n : ℕ) (answer : Result Move ScriptKind) (after : Told) → length after.moves ≤ n → length (told_by line answer after).moves ≤ n + 1
+told-one : (line n : ℕ) (answer : Result Move ScriptKind) (after : ScriptLines) → length after.moves ≤ n → length (told_by line answer after).moves ≤ n + 1
 told-one line n (Ok mv) after h = omega arith
 told-one line n (Err kind) after h = omega arith
 
-told-next : (skipped : Bool) (line n : ℕ) (answer : Result Move ScriptKind) (after : Told) → length after.moves ≤ n → length (if skipped then after else told_by line answer after).moves ≤ n + 1
+told-next : (skipped : Bool) (line n : ℕ) (answer : Result Move ScriptKind) (after : ScriptLines) → length after.moves ≤ n → length (if skipped then after else told_by line answer after).moves ≤ n + 1
 told-next true line n answer after h = omega arith
 told-next false line n answer after h = told-one line n answer after h
 
@@ -38,8 +38,8 @@ lines-few : (text : List ℕ) → length (text_lines text) ≤ length text + 1
 unfolding text_lines
 lines-few text = omega (arith, lines-of (slice_split is_line_feed text), length-slice_split is_line_feed text, count_by-le-length is_line_feed text)
 
-pub told-few : (above : ℕ) (text : List ℕ) (told : Told) → told_from above (text_lines text) ≡ told → above + length text ≤ most_script → length told.moves < 2 ^ 25
+pub told-few : (above : ℕ) (text : List ℕ) (told : ScriptLines) → told_from above (text_lines text) ≡ told → above + length text ≤ most_script → length told.moves < 2 ^ 25
 told-few above text told same few =
-    subst (λ (t : Told). length t.moves < 2 ^ 25) same (omega (arith, told-lines above (text_lines text), lines-few text))
+    subst (λ (t : ScriptLines). length t.moves < 2 ^ 25) same (omega (arith, told-lines above (text_lines text), lines-few text))
 
 pub ruleset counting = (told-few)

@@ -88,8 +88,8 @@ unfoldable pub move_in : List ℕ → Result Move ScriptKind
 move_in line = if is_ascii line then words_read (words_of line) else Err NotAscii
 
 -- the answer is this one, with these words left after it
-abbrev pub Reads : {A : Type 0} → Result A ScriptKind → List (List ℕ) → Result (A × List (List ℕ)) ScriptKind → Type 0
-Reads result left answer = MatchResult result (λ a. answer ≡ Ok (a, left)) (λ e. answer ≡ Err e)
+abbrev pub ReadsWords : {A : Type 0} → Result A ScriptKind → List (List ℕ) → Result (A × List (List ℕ)) ScriptKind → Type 0
+ReadsWords result left answer = MatchResult result (λ a. answer ≡ Ok (a, left)) (λ e. answer ≡ Err e)
 
 -- each number of a move is below a limit, and an address is a word
 abbrev pub NumbersBelow : ℕ → Move → Type 0

@@ -2,7 +2,7 @@
 #![tactic(auto, unfolding(crate::specs::MoveLines::guess_read, crate::specs::MoveLines::move_read))]
 
 ghost use Rattle.std.specs.Prelude.{◌≡◌};
-ghost use Rattle.run_scripts.specs.MoveLines.{is_ascii, guess_read, kind_read, move_read, words_read, move_in, Reads};
+ghost use Rattle.run_scripts.specs.MoveLines.{is_ascii, guess_read, kind_read, move_read, words_read, move_in, ReadsWords};
 
 use crate::kind::Kind;
 use crate::refusal::ScriptKind;
@@ -11,7 +11,7 @@ use cf_bind::{Guess, Move};
 
 /// The guess that the next words give.
 fn read_guess(words: &mut Words<'_>) -> Result<Guess, ScriptKind>
-    ensures { Reads result words.new (guess_read words.old) }
+    ensures { ReadsWords result words.new (guess_read words.old) }
 {
     let word = words.next();
     if word == b"next".as_slice() {
@@ -29,7 +29,7 @@ fn read_guess(words: &mut Words<'_>) -> Result<Guess, ScriptKind>
 
 /// The move of a kind, with what has to follow.
 fn read_kind(kind: Kind, words: &mut Words<'_>) -> Result<Move, ScriptKind>
-    ensures { Reads result words.new (kind_read kind words.old) }
+    ensures { ReadsWords result words.new (kind_read kind words.old) }
 {
     match kind {
         Kind::Issue => Ok(Move::Issue(read_guess(words)?)),
@@ -51,7 +51,7 @@ fn read_kind(kind: Kind, words: &mut Words<'_>) -> Result<Move, ScriptKind>
 
 /// The move that the next words give.
 fn read_next(words: &mut Words<'_>) -> Result<Move, ScriptKind>
-    ensures { Reads result words.new (move_read words.old) }
+    ensures { ReadsWords result words.new (move_read words.old) }
 {
     let kind = Kind::named(words.next()).ok_or(ScriptKind::UnknownMove)?;
     read_kind(kind, words)

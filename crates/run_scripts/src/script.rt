@@ -29,9 +29,9 @@ impl<'a> Model for Script<'a> {
     ghost use Rattle.std.specs.Prelude.{◌+◌, ◌≤◌, length};
     ghost use Rattle.rv_text.specs.Lines.{text_lines};
     ghost use Rattle.run_scripts.specs.Limits.{most_script};
-    ghost use Rattle.run_scripts.specs.Scripts.{Told, told_from};
+    ghost use Rattle.run_scripts.specs.Scripts.{ScriptLines, told_from};
 
-    ghost Value = { Told };
+    ghost Value = { ScriptLines };
 
     ghost view = { λ script. told_from script.above (text_lines script.rest.now) };
 

@@ -11,20 +11,20 @@ use Rattle.std.proofs.lemmas.Grind.{flat_map-append, common_steps}
 use Rattle.rv_asm.specs.declared.refusal.AsmKind.{AsmKind}
 use Rattle.rv_asm.specs.declared.refusal.AsmErr.{AsmErr}
 use Rattle.rv_asm.specs.declared.refusal.AsmKind.TheVariants.{LabelTwice}
-use Rattle.rv_asm.specs.declared.place.Place.{Place}
+use Rattle.rv_asm.specs.declared.place.SectionPlace.{SectionPlace}
 use Rattle.rv_asm.specs.declared.draft.Draft.{Draft}
 use Rattle.rv_asm.specs.declared.object.Object.{Object}
 use Rattle.rv_asm.specs.Answers.{and_then}
 use Rattle.rv_text.specs.Lines.{is_line_feed, without_return, lines_from, lines_of_pieces, text_lines}
 use Rattle.rv_asm.specs.Scanning.{is_name_start, is_name_byte, begins_name, name_length, comment_at, said, has_label, label_in, statement_in}
 use Rattle.rv_asm.specs.declared.scanning.Quote.TheVariants.{Outside}
-use Rattle.rv_asm.specs.Items.{Item, Nothing, Section, Export, Single, Double, Near, Distant, Numbers, Chars, Zeros}
+use Rattle.rv_asm.specs.Items.{SourceItem, Nothing, Section, Export, Single, Double, Near, Distant, Numbers, Chars, Zeros}
 use Rattle.rv_asm.specs.Places.{address_of, place_after, item_at, start}
-use Rattle.rv_asm.specs.Labels.{Named, value_of, exported, exported_as}
+use Rattle.rv_asm.specs.Labels.{LabelView, value_of, exported, exported_as}
 use Rattle.rv_asm.specs.Pieces.{Piece, pieces_of}
 use Rattle.rv_asm.specs.Assembling.{at_line, with_label, drafted, draft_from, Sections, marked, placed, filled, sections_from, empty, sections_of}
 use Rattle.rv_asm.specs.Objects.{IsObject, Objects}
-use Rattle.rv_asm.specs.Small.{HasNoNul, joined_names, IsSmall}
+use Rattle.rv_asm.specs.Small.{HasNoNul, joined_names, IsSmallObject}
 use Rattle.rv_asm.specs.Sized.{AreSized}
 use Rattle.rv_asm.proofs.Passing.{Passes, passes, passes_line}
 use Rattle.rv_asm.proofs.Shorter.{cut-shorter}
@@ -118,18 +118,18 @@ label-length text e =
     (one, omega (arith, colon, length-drop (name_length text) text))
 
 -- labels that can stand in this many bytes with their names and colons, and names without NUL
-record AreFew (labels : List Named) (bytes : ℕ) : Type 0 where
+record AreFew (labels : List LabelView) (bytes : ℕ) : Type 0 where
   count : 2 * length labels ≤ bytes
   names : length labels + length (joined_names labels) ≤ bytes
   clean : HasNoNul (joined_names labels)
 
-more-bytes : (labels : List Named) (m n : ℕ) → m ≤ n → AreFew labels m → AreFew labels n
+more-bytes : (labels : List LabelView) (m n : ℕ) → m ≤ n → AreFew labels m → AreFew labels n
 more-bytes labels m n h f = record { count = omega (arith, f.count, h); names = omega (arith, f.names, h); clean = f.clean }
 
-one-more : (labels : List Named) (label : Named) (m n : ℕ) → 1 ≤ length label.name → length label.name + 1 ≤ n → HasNoNul label.name
+one-more : (labels : List LabelView) (label : LabelView) (m n : ℕ) → 1 ≤ length label.name → length label.name + 1 ≤ n → HasNoNul label.name
     → AreFew labels m → AreFew (labels ++ label ∷ []) (m + n)
 one-more labels label m n one within clean f =
-    let joined = flat_map-append (λ (l : Named). l.name) labels (label ∷ []) in
+    let joined = flat_map-append (λ (l : LabelView). l.name) labels (label ∷ []) in
     let count = length-append labels (label ∷ []) in
     let names = ap (λ (l : List ℕ). length l) joined ∙ length-append (joined_names labels) (joined_names (label ∷ [])) in
     let last = length-append {A = ℕ} label.name [] in
@@ -139,12 +139,12 @@ one-more labels label m n one within clean f =
       clean = subst HasNoNul (sym joined) (All-append IsNoNul (joined_names labels) (joined_names (label ∷ [])) f.clean (All-append IsNoNul label.name [] clean (All-nil IsNoNul)));
     }
 
-labelled-by : (twice : Bool) (more next : List Named) (answer : Result (List Named) AsmKind)
+labelled-by : (twice : Bool) (more next : List LabelView) (answer : Result (List LabelView) AsmKind)
     → answer ≡ cond twice (Err LabelTwice) (Ok more) → answer ≡ Ok next → more ≡ next
 labelled-by true more next answer e h = absurd (cc)
 labelled-by false more next answer e h = cc
 
-few-by : (b : Bool) (labels next : List Named) (place : Place) (text : List ℕ) (m : ℕ) → has_label text ≡ b
+few-by : (b : Bool) (labels next : List LabelView) (place : SectionPlace) (text : List ℕ) (m : ℕ) → has_label text ≡ b
     → with_label labels place (cond b (Some (take (name_length text) text)) None) ≡ Ok next → AreFew labels m → AreFew next (m + length text)
 few-by false labels next place text m h e f = let same : labels ≡ next = cc in rw (← same) (more-bytes labels m (m + length text) (omega arith) f)
 few-by true labels next place text m h e f =
@@ -155,15 +155,15 @@ few-by true labels next place text m h e f =
     rw (← same) (one-more labels (record { name = name; value = address_of place; in_text = place.in_text; global = false }) m (length text)
     (omega (arith, long, sizes.0)) (omega (arith, long, sizes.1)) (name-no-nul text) f)
 
-labels-few : (labels next : List Named) (place : Place) (text : List ℕ) (m : ℕ) → with_label labels place (label_in text) ≡ Ok next → AreFew labels m → AreFew next (m + length text)
+labels-few : (labels next : List LabelView) (place : SectionPlace) (text : List ℕ) (m : ℕ) → with_label labels place (label_in text) ≡ Ok next → AreFew labels m → AreFew next (m + length text)
 unfolding label_in
 labels-few labels next place text m e f = few-by (has_label text) labels next place text m refl e f
 
 drafted-few : (draft next : Draft) (text : List ℕ) (m : ℕ) → drafted draft text ≡ Ok next → AreFew draft.labels m → AreFew next.labels (m + length text)
 unfolding drafted
 drafted-few draft next text m e f =
-    let l = passes (with_label draft.labels draft.place (label_in text)) (λ (labels : List Named). and_then (item_at draft.place (statement_in text)) (λ item. Ok (record { place = place_after draft.place item; labels = labels }))) next e in
-    let i = passes (item_at draft.place (statement_in text)) (λ (item : Item). Ok (record { place = place_after draft.place item; labels = l.first })) next l.goes in
+    let l = passes (with_label draft.labels draft.place (label_in text)) (λ (labels : List LabelView). and_then (item_at draft.place (statement_in text)) (λ item. Ok (record { place = place_after draft.place item; labels = labels }))) next e in
+    let i = passes (item_at draft.place (statement_in text)) (λ (item : SourceItem). Ok (record { place = place_after draft.place item; labels = l.first })) next l.goes in
     let same : (record { place = place_after draft.place i.first; labels = l.first }) ≡ next = cc i.goes in
     rw (← same) (labels-few draft.labels l.first draft.place text m l.is f)
 
@@ -176,21 +176,21 @@ draft-few above draft last (line ∷ lines) m e f =
     more-bytes last.labels ((m + length (said line)) + bytes_of lines) (m + bytes_of (line ∷ lines)) (omega (arith, said-shorter line)) rest
 
 -- an export leaves the names as they are
-name-kept-by : (b : Bool) (l : Named) → (cond b (record l { global = true }) l).name ≡ l.name
+name-kept-by : (b : Bool) (l : LabelView) → (cond b (record l { global = true }) l).name ≡ l.name
 name-kept-by true l = refl
 name-kept-by false l = refl
 
-names-kept : (labels : List Named) (name : List ℕ) → joined_names (exported labels name) ≡ joined_names labels
+names-kept : (labels : List LabelView) (name : List ℕ) → joined_names (exported labels name) ≡ joined_names labels
 unfolding exported
 names-kept [] name = refl
 names-kept (l ∷ ls) name =
     ap (λ (n : List ℕ). n ++ joined_names (map (exported_as name) ls)) (name-kept-by (bytes_eq l.name name) l) ∙ ap (λ (ns : List ℕ). l.name ++ ns) (names-kept ls name)
 
-count-kept : (labels : List Named) (name : List ℕ) → length (exported labels name) ≡ length labels
+count-kept : (labels : List LabelView) (name : List ℕ) → length (exported labels name) ≡ length labels
 unfolding exported
 count-kept labels name = length-map labels (exported_as name)
 
-exported-few : (labels : List Named) (name : List ℕ) (m : ℕ) → AreFew labels m → AreFew (exported labels name) m
+exported-few : (labels : List LabelView) (name : List ℕ) (m : ℕ) → AreFew labels m → AreFew (exported labels name) m
 exported-few labels name m f =
     let names = names-kept labels name in
     let count = count-kept labels name in
@@ -200,7 +200,7 @@ exported-few labels name m f =
       clean = subst HasNoNul (sym names) f.clean;
     }
 
-marked-few : (labels : List Named) (item : Item) (m : ℕ) → AreFew labels m → AreFew (marked labels item) m
+marked-few : (labels : List LabelView) (item : SourceItem) (m : ℕ) → AreFew labels m → AreFew (marked labels item) m
 marked-few labels Nothing m f = f
 marked-few labels (Section b) m f = f
 marked-few labels (Export name) m f = exported-few labels name m f
@@ -215,7 +215,7 @@ marked-few labels (Zeros count) m f = f
 filled-few : (s t : Sections) (text : List ℕ) (m : ℕ) → filled s text ≡ Ok t → AreFew s.labels m → AreFew t.labels m
 unfolding filled
 filled-few s t text m e f =
-    let r = passes (item_at s.place (statement_in text)) (λ (item : Item). and_then (pieces_of s.labels (address_of s.place) item) (λ ps. Ok (placed s item ps))) t e in
+    let r = passes (item_at s.place (statement_in text)) (λ (item : SourceItem). and_then (pieces_of s.labels (address_of s.place) item) (λ ps. Ok (placed s item ps))) t e in
     let p = passes (pieces_of s.labels (address_of s.place) r.first) (λ (ps : List Piece). Ok (placed s r.first ps)) t r.goes in
     let same : placed s r.first p.first ≡ t = cc p.goes in
     rw (← same) (marked-few s.labels r.first m f)
@@ -237,16 +237,16 @@ looked-few lines sections e =
     sections-few 0 (empty l.labels) sections lines (bytes_of lines) l.filled (more-bytes l.labels (0 + bytes_of lines) (bytes_of lines) (omega arith) few)
 
 -- an object with few and short labels and with sized sections is small
-small-object : (sections : Sections) (object : Object) (n : ℕ) → AreSized sections → AreFew sections.labels n → n ≤ 1048576 → IsObject sections object → IsSmall object
+small-object : (sections : Sections) (object : Object) (n : ℕ) → AreSized sections → AreFew sections.labels n → n ≤ 1048576 → IsObject sections object → IsSmallObject object
 small-object sections object n sized few within is = record {
   text = omega (arith, spelt-length sections.text object.text_bytes is.text_bytes, sized.text, sized.place.text);
   data_section = omega (arith, spelt-length sections.data_pieces object.data_bytes is.data_bytes, sized.data_section, sized.place.data_section);
-  labels = omega (arith, ap (λ (l : List Named). length l) is.labels, few.count, within);
-  names = subst (λ (labels : List Named). HasNoNul (joined_names labels)) (sym is.labels) few.clean;
-  name_bytes = omega (arith, ap (λ (l : List Named). length (joined_names l)) is.labels, few.names, within);
+  labels = omega (arith, ap (λ (l : List LabelView). length l) is.labels, few.count, within);
+  names = subst (λ (labels : List LabelView). HasNoNul (joined_names labels)) (sym is.labels) few.clean;
+  name_bytes = omega (arith, ap (λ (l : List LabelView). length (joined_names l)) is.labels, few.names, within);
 }
 
-small-by : (source : List ℕ) (object : Object) (answer : Result Sections AsmErr) → length source ≤ 1048576 → sections_of (text_lines source) ≡ answer → Objects object answer → IsSmall object
+small-by : (source : List ℕ) (object : Object) (answer : Result Sections AsmErr) → length source ≤ 1048576 → sections_of (text_lines source) ≡ answer → Objects object answer → IsSmallObject object
 small-by source object (Ok sections) h e is =
     let lines = text_lines source in
     small-object sections object (bytes_of lines) (sections-sized lines sections e) (looked-few lines sections e) (omega (arith, source-shorter source, h)) is
@@ -254,6 +254,6 @@ small-by source object (Err kind) h e is = absurd is
 
 -- an object of a source is small
 pub small-result : (source : List ℕ) (answer : Result Object AsmErr) → length source ≤ 1048576
-    → IfOk answer (λ object. Objects object (sections_of (text_lines source))) → IfOk answer (λ object. IsSmall object)
+    → IfOk answer (λ object. Objects object (sections_of (text_lines source))) → IfOk answer (λ object. IsSmallObject object)
 small-result source (Ok object) h is = small-by source object (sections_of (text_lines source)) h refl is
 small-result source (Err e) h is = tt

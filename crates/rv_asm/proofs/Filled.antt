@@ -4,16 +4,16 @@ use Rattle.std.specs.Prelude.{Result, Ok, Err, ◌⊎◌, if◌then◌else◌}
 use Rattle.rv_asm.specs.declared.refusal.AsmKind.{AsmKind}
 use Rattle.rv_asm.specs.declared.refusal.AsmKind.TheVariants.{NoMemory}
 use Rattle.rv_asm.specs.declared.refusal.AsmErr.{AsmErr}
-use Rattle.rv_asm.specs.declared.place.Place.{Place}
+use Rattle.rv_asm.specs.declared.place.SectionPlace.{SectionPlace}
 use Rattle.rv_asm.specs.declared.sections.Output.{Output}
 use Rattle.rv_asm.specs.Answers.{and_then}
 use Rattle.rv_asm.specs.Scanning.{said, statement_in}
 use Rattle.rv_asm.specs.Places.{address_of, place_after, item_at}
-use Rattle.rv_asm.specs.Labels.{Named}
+use Rattle.rv_asm.specs.Labels.{LabelView}
 use Rattle.rv_asm.specs.Pieces.{Piece, pieces_of}
-use Rattle.rv_asm.specs.Spelling.{Spells, Gives, IsRefusal}
+use Rattle.rv_asm.specs.Spelling.{Spells, GivesBytes, IsRefusal}
 use Rattle.rv_asm.specs.Assembling.{Sections, marked, placed, filled, sections_from}
-use Rattle.rv_asm.specs.Filling.{line_pieces, IsFilled, Shows, Outputs}
+use Rattle.rv_asm.specs.Filling.{line_pieces, IsFilled, HoldsSections, Outputs}
 
 spells-append : (ps qs : List Piece) (bs cs : List ℕ) → Spells ps bs → Spells qs cs → Spells (ps ++ qs) (bs ++ cs)
 spells-append [] qs bs cs h k = rw h k
@@ -41,7 +41,7 @@ record HasPieces (bytes : List ℕ) (answer : Result (List Piece) AsmKind) : Typ
   is : answer ≡ Ok pieces
   spells : Spells pieces bytes
 
-has_pieces : (bytes : List ℕ) (answer : Result (List Piece) AsmKind) → Gives bytes answer → HasPieces bytes answer
+has_pieces : (bytes : List ℕ) (answer : Result (List Piece) AsmKind) → GivesBytes bytes answer → HasPieces bytes answer
 has_pieces bytes (Ok pieces) h = record { pieces = pieces; is = refl; spells = h }
 has_pieces bytes (Err kind) h = absurd h
 
@@ -49,9 +49,9 @@ has_pieces bytes (Err kind) h = absurd h
 record GoesOn (sections : Sections) (text : List ℕ) (new : Output) : Type 0 where
   next : Sections
   goes : filled sections text ≡ Ok next
-  shows : Shows next new
+  shows : HoldsSections next new
 
-goes_on : (s : Sections) (out new : Output) (text : List ℕ) → Shows s out → IsFilled out text new → GoesOn s text new
+goes_on : (s : Sections) (out new : Output) (text : List ℕ) → HoldsSections s out → IsFilled out text new → GoesOn s text new
 unfolding filled
 goes_on s out new text h f =
     let p = has_pieces f.bytes (pieces_of out.labels (address_of out.place) f.item) f.gives in
@@ -59,15 +59,15 @@ goes_on s out new text h f =
     let at_place : pieces_of out.labels (address_of s.place) f.item ≡ Ok p.pieces = subst (λ place. pieces_of out.labels (address_of place) f.item ≡ Ok p.pieces) h.place p.is in
     let pieces : pieces_of s.labels (address_of s.place) f.item ≡ Ok p.pieces = subst (λ labels. pieces_of labels (address_of s.place) f.item ≡ Ok p.pieces) h.labels at_place in
     let text_is : new.text.items ≡ (if s.place.in_text then out.text.items ++ f.bytes else out.text.items)
-    = f.text_bytes ∙ ap (λ (place : Place). if place.in_text then out.text.items ++ f.bytes else out.text.items) h.place in
+    = f.text_bytes ∙ ap (λ (place : SectionPlace). if place.in_text then out.text.items ++ f.bytes else out.text.items) h.place in
     let data_is : new.data.items ≡ (if s.place.in_text then out.data.items else out.data.items ++ f.bytes)
-    = f.data_bytes ∙ ap (λ (place : Place). if place.in_text then out.data.items else out.data.items ++ f.bytes) h.place in
+    = f.data_bytes ∙ ap (λ (place : SectionPlace). if place.in_text then out.data.items else out.data.items ++ f.bytes) h.place in
     record {
       next = placed s f.item p.pieces;
       goes = rw (read, pieces) refl;
       shows = record {
-        place = f.place ∙ ap (λ (place : Place). place_after place f.item) h.place;
-        labels = f.labels ∙ ap (λ (labels : List Named). marked labels f.item) h.labels;
+        place = f.place ∙ ap (λ (place : SectionPlace). place_after place f.item) h.place;
+        labels = f.labels ∙ ap (λ (labels : List LabelView). marked labels f.item) h.labels;
         text_bytes = rw text_is (spells-then s.place.in_text s.text p.pieces out.text.items f.bytes h.text_bytes p.spells);
         data_bytes = rw data_is (spells-else s.place.in_text s.data_pieces p.pieces out.data.items f.bytes h.data_bytes p.spells);
       };
@@ -76,7 +76,7 @@ goes_on s out new text h f =
 -- the lines above have been put into the sections, and the answer is what the others make of these
 pub record IsReached (above : ℕ) (out : Output) (lines : List (List ℕ)) (answer : Result Sections AsmErr) : Type 0 where
   pub sections : Sections
-  pub shows : Shows sections out
+  pub shows : HoldsSections sections out
   pub same : sections_from above sections lines ≡ answer
 
 pub next-reached : (above : ℕ) (out new : Output) (line : List ℕ) (lines : List (List ℕ)) (answer : Result Sections AsmErr)
@@ -90,14 +90,14 @@ step-refused : {A B C K : Type 0} (x : Result A K) (f : A → Result B K) (g : A
 step-refused (Ok a) f g k e = rw e refl
 step-refused (Err j) f g k e = let same : j ≡ k = cc in ap Err same
 
-filled-refused : (s : Sections) (out : Output) (text : List ℕ) (kind : AsmKind) → Shows s out
+filled-refused : (s : Sections) (out : Output) (text : List ℕ) (kind : AsmKind) → HoldsSections s out
     → line_pieces out.labels out.place text ≡ Err kind → filled s text ≡ Err kind
 unfolding filled line_pieces
 filled-refused s out text kind h e =
     let at_place : and_then (item_at s.place (statement_in text)) (λ item. pieces_of out.labels (address_of s.place) item) ≡ Err kind
-    = subst (λ (place : Place). and_then (item_at place (statement_in text)) (λ item. pieces_of out.labels (address_of place) item) ≡ Err kind) h.place e in
+    = subst (λ (place : SectionPlace). and_then (item_at place (statement_in text)) (λ item. pieces_of out.labels (address_of place) item) ≡ Err kind) h.place e in
     let refused : and_then (item_at s.place (statement_in text)) (λ item. pieces_of s.labels (address_of s.place) item) ≡ Err kind
-    = subst (λ (labels : List Named). and_then (item_at s.place (statement_in text)) (λ item. pieces_of labels (address_of s.place) item) ≡ Err kind) h.labels at_place in
+    = subst (λ (labels : List LabelView). and_then (item_at s.place (statement_in text)) (λ item. pieces_of labels (address_of s.place) item) ≡ Err kind) h.labels at_place in
     step-refused (item_at s.place (statement_in text)) (λ item. pieces_of s.labels (address_of s.place) item) (λ item pieces. placed s item pieces) kind refused
 
 pub refused : (above : ℕ) (out : Output) (line : List ℕ) (lines : List (List ℕ)) (answer : Result Sections AsmErr) (kind : AsmKind)

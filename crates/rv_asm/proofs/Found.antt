@@ -13,7 +13,7 @@ use Rattle.std.proofs.lemmas.List.{get_or-map, get_or_append_left, length-append
 use Rattle.std.proofs.Math.Seq.{get_or-append_seam, map-set_same}
 use Rattle.std.proofs.lemmas.Map.Text.{is_eq-slice_cmp}
 use Rattle.rv_asm.specs.LabelTables.{FindsNames, names_of, place_of}
-use Rattle.rv_asm.specs.Labels.{Named, exported, exported_as, named, value_of}
+use Rattle.rv_asm.specs.Labels.{LabelView, exported, exported_as, named, value_of}
 use Rattle.rv_asm.specs.declared.label.Label.{Label}
 
 -- ---- a name is put into the map
@@ -116,46 +116,46 @@ finds_after names found next name finds unknown after = record {
 -- ---- labels and what is found
 
 -- the first element that passes is the one at a place before which no element passes
-find_at : (p : Named → Bool) (xs : List Named) (k : ℕ) (d : Named) → k < length xs → p (slice_index_or xs k d) ≡ true
+find_at : (p : LabelView → Bool) (xs : List LabelView) (k : ℕ) (d : LabelView) → k < length xs → p (slice_index_or xs k d) ≡ true
     → ((i : ℕ) → i < k → p (slice_index_or xs i d) ≡ false) → find p xs ≡ Some (slice_index_or xs k d)
 find_at p [] k d within passes before = absurd (omega arith)
 find_at p (x ∷ xs) zero d within passes before = rw passes refl
 find_at p (x ∷ xs) (suc k) d within passes before =
     rw (before 0 (omega arith)) (find_at p xs k d (omega arith) passes (λ i below. before (suc i) (omega arith)))
 
-find_none : (p : Named → Bool) (xs : List Named) (d : Named) → ((i : ℕ) → i < length xs → p (slice_index_or xs i d) ≡ false) → find p xs ≡ None
+find_none : (p : LabelView → Bool) (xs : List LabelView) (d : LabelView) → ((i : ℕ) → i < length xs → p (slice_index_or xs i d) ≡ false) → find p xs ≡ None
 find_none p [] d none = refl
 find_none p (x ∷ xs) d none = rw (none 0 (omega arith)) (find_none p xs d (λ i below. none (suc i) (omega arith)))
 
 -- a label without a name, for places where there is no label
-blank : Named
+blank : LabelView
 blank = record { name = []; value = 0; in_text = false; global = false }
 
-name_at : (labels : List Named) (place : ℕ) (d : Named) → place < length labels
+name_at : (labels : List LabelView) (place : ℕ) (d : LabelView) → place < length labels
     → slice_index_or (names_of labels) place d.name ≡ (slice_index_or labels place d).name
-name_at labels place d within = get_or-map (λ (label : Named). label.name) labels place d d.name within
+name_at labels place d within = get_or-map (λ (label : LabelView). label.name) labels place d d.name within
 
 -- each label's name is found at its place
-each_label : (labels : List Named) (found : List ℕ → Option ℕ) → FindsNames (names_of labels) found → (place : ℕ) (d : Named) → place < length labels
+each_label : (labels : List LabelView) (found : List ℕ → Option ℕ) → FindsNames (names_of labels) found → (place : ℕ) (d : LabelView) → place < length labels
     → found (slice_index_or labels place d).name ≡ Some place
 each_label labels found finds place d within =
-    rw (← name_at labels place d within) (finds.each place d.name (omega (arith, length-map labels (λ (label : Named). label.name))))
+    rw (← name_at labels place d within) (finds.each place d.name (omega (arith, length-map labels (λ (label : LabelView). label.name))))
 
 -- only the label at the place that is found has the name
-other_label : (labels : List Named) (found : List ℕ → Option ℕ) (name : List ℕ) → FindsNames (names_of labels) found → (place : ℕ) (d : Named) → place < length labels
+other_label : (labels : List LabelView) (found : List ℕ → Option ℕ) (name : List ℕ) → FindsNames (names_of labels) found → (place : ℕ) (d : LabelView) → place < length labels
     → found name ≢ Some place → bytes_eq (slice_index_or labels place d).name name ≡ false
 other_label labels found name finds place d within not_there =
     false_from_ne_true (bytes_eq (slice_index_or labels place d).name name) (λ y.
     let same : (slice_index_or labels place d).name ≡ name = (bytes_decides (slice_index_or labels place d).name name).0 y in
     not_there (ap found (sym same) ∙ each_label labels found finds place d within))
 
-found_within : (labels : List Named) (found : List ℕ → Option ℕ) (name : List ℕ) (place : ℕ) → FindsNames (names_of labels) found → found name ≡ Some place → place < length labels
+found_within : (labels : List LabelView) (found : List ℕ → Option ℕ) (name : List ℕ) (place : ℕ) → FindsNames (names_of labels) found → found name ≡ Some place → place < length labels
 found_within labels found name place finds told =
     let within = finds.within name place told in
-    omega (arith, length-map labels (λ (label : Named). label.name))
+    omega (arith, length-map labels (λ (label : LabelView). label.name))
 
 -- and that label has it
-that_label : (labels : List Named) (found : List ℕ → Option ℕ) (name : List ℕ) (place : ℕ) (d : Named) → FindsNames (names_of labels) found → found name ≡ Some place
+that_label : (labels : List LabelView) (found : List ℕ → Option ℕ) (name : List ℕ) (place : ℕ) (d : LabelView) → FindsNames (names_of labels) found → found name ≡ Some place
     → bytes_eq (slice_index_or labels place d).name name ≡ true
 that_label labels found name place d finds told =
     let within = found_within labels found name place finds told in
@@ -163,24 +163,24 @@ that_label labels found name place d finds told =
     (bytes_decides (slice_index_or labels place d).name name).1 same
 
 -- the value of the label that is found is that of the name
-pub value_found : (labels : List Named) (found : List ℕ → Option ℕ) (name : List ℕ) (place : ℕ) (d : Named) → FindsNames (names_of labels) found → found name ≡ Some place
+pub value_found : (labels : List LabelView) (found : List ℕ → Option ℕ) (name : List ℕ) (place : ℕ) (d : LabelView) → FindsNames (names_of labels) found → found name ≡ Some place
     → value_of labels name ≡ Some (slice_index_or labels place d).value
 unfolding value_of
 value_found labels found name place d finds told =
     let within = found_within labels found name place finds told in
     let first = find_at (λ label. bytes_eq label.name name) labels place d within (that_label labels found name place d finds told)
     (λ i below. other_label labels found name finds i d (omega arith) (λ e. let same : Some i ≡ Some place = sym e ∙ told in let at : i ≡ place = cc in absurd (omega arith))) in
-    ap (option_map (λ (label : Named). label.value)) first
+    ap (option_map (λ (label : LabelView). label.value)) first
 
 -- a name that is not found has no value
-pub value_missing : (labels : List Named) (found : List ℕ → Option ℕ) (name : List ℕ) → FindsNames (names_of labels) found → found name ≡ None → value_of labels name ≡ None
+pub value_missing : (labels : List LabelView) (found : List ℕ → Option ℕ) (name : List ℕ) → FindsNames (names_of labels) found → found name ≡ None → value_of labels name ≡ None
 unfolding value_of
 value_missing labels found name finds told =
-    ap (option_map (λ (label : Named). label.value))
+    ap (option_map (λ (label : LabelView). label.value))
     (find_none (λ label. bytes_eq label.name name) labels blank (λ i within. other_label labels found name finds i blank within (λ e. absurd (cc))))
 
 -- and the other way round
-pub unknown_missing : (labels : List Named) (found : List ℕ → Option ℕ) (name : List ℕ) (answer : Option ℕ) → found name ≡ answer → FindsNames (names_of labels) found → value_of labels name ≡ None
+pub unknown_missing : (labels : List LabelView) (found : List ℕ → Option ℕ) (name : List ℕ) (answer : Option ℕ) → found name ≡ answer → FindsNames (names_of labels) found → value_of labels name ≡ None
     → answer ≡ None
 unknown_missing labels found name None e finds unknown = refl
 unknown_missing labels found name (Some place) e finds unknown =
@@ -189,20 +189,20 @@ unknown_missing labels found name (Some place) e finds unknown =
 
 -- ---- a label is exported
 
-mapped_none : (f : Named → Named) (xs : List Named) (d : Named) → ((i : ℕ) → i < length xs → f (slice_index_or xs i d) ≡ slice_index_or xs i d) → map f xs ≡ xs
+mapped_none : (f : LabelView → LabelView) (xs : List LabelView) (d : LabelView) → ((i : ℕ) → i < length xs → f (slice_index_or xs i d) ≡ slice_index_or xs i d) → map f xs ≡ xs
 mapped_none f [] d same = refl
 mapped_none f (x ∷ xs) d same = rw (same 0 (omega arith), mapped_none f xs d (λ i within. same (suc i) (omega arith))) refl
 
-mapped_at : (f : Named → Named) (xs : List Named) (k : ℕ) (d : Named) → k < length xs
+mapped_at : (f : LabelView → LabelView) (xs : List LabelView) (k : ℕ) (d : LabelView) → k < length xs
     → ((i : ℕ) → i < length xs → i ≢ k → f (slice_index_or xs i d) ≡ slice_index_or xs i d) → map f xs ≡ slice_set xs k (f (slice_index_or xs k d))
 mapped_at f [] k d within same = absurd (omega arith)
-mapped_at f (x ∷ xs) zero d within same = ap (λ (l : List Named). f x ∷ l) (mapped_none f xs d (λ i below. same (suc i) (omega arith) (λ e. absurd (omega arith))))
+mapped_at f (x ∷ xs) zero d within same = ap (λ (l : List LabelView). f x ∷ l) (mapped_none f xs d (λ i below. same (suc i) (omega arith) (λ e. absurd (omega arith))))
 mapped_at f (x ∷ xs) (suc k) d within same =
     let first : f x ≡ x = same 0 (omega arith) (λ e. absurd (omega arith)) in
     rw (first, mapped_at f xs k d (omega arith) (λ i below other. same (suc i) (omega arith) (λ e. other (omega arith)))) refl
 
 -- the label that is found is the only one that is marked
-pub exported_found : (labels : List Named) (found : List ℕ → Option ℕ) (name : List ℕ) (place : ℕ) (d : Named) → FindsNames (names_of labels) found → found name ≡ Some place
+pub exported_found : (labels : List LabelView) (found : List ℕ → Option ℕ) (name : List ℕ) (place : ℕ) (d : LabelView) → FindsNames (names_of labels) found → found name ≡ Some place
     → exported labels name ≡ slice_set labels place (record (slice_index_or labels place d) { global = true })
 unfolding exported
 exported_found labels found name place d finds told =
@@ -213,7 +213,7 @@ exported_found labels found name place d finds told =
     ∙ ap (slice_set labels place) marked
 
 -- no label is marked where the name is not found
-pub exported_missing : (labels : List Named) (found : List ℕ → Option ℕ) (name : List ℕ) → FindsNames (names_of labels) found → found name ≡ None → exported labels name ≡ labels
+pub exported_missing : (labels : List LabelView) (found : List ℕ → Option ℕ) (name : List ℕ) → FindsNames (names_of labels) found → found name ≡ None → exported labels name ≡ labels
 unfolding exported
 exported_missing labels found name finds told =
     mapped_none (exported_as name) labels blank
@@ -235,7 +235,7 @@ pub kept_value : (items : List Label) (found : List ℕ → Option ℕ) (name : 
     → found name ≡ Some place → label ≡ slice_index_or items place label → value_of (map named items) name ≡ Some label.value
 kept_value items found name place label finds told e =
     value_found (map named items) found name place (named label) finds told
-    ∙ ap (λ (l : Named). Some l.value) (named_at items place label (place_within items found name place finds told) e)
+    ∙ ap (λ (l : LabelView). Some l.value) (named_at items place label (place_within items found name place finds told) e)
 
 -- the label is exported where it stands
 pub kept_exported : (items : List Label) (found : List ℕ → Option ℕ) (name : List ℕ) (place : ℕ) (label : Label) → FindsNames (names_of (map named items)) found
@@ -243,7 +243,7 @@ pub kept_exported : (items : List Label) (found : List ℕ → Option ℕ) (name
     → exported (map named items) name ≡ map named (slice_set items place (record label { global = true }))
 kept_exported items found name place label finds told e =
     exported_found (map named items) found name place (named label) finds told
-    ∙ ap (λ (l : Named). slice_set (map named items) place (record l { global = true })) (named_at items place label (place_within items found name place finds told) e)
+    ∙ ap (λ (l : LabelView). slice_set (map named items) place (record l { global = true })) (named_at items place label (place_within items found name place finds told) e)
     ∙ sym (map-set named items place (record label { global = true }))
 
 -- which leaves the names
@@ -254,7 +254,7 @@ kept_names items found name place label finds told e =
     let at = named_at items place label (place_within items found name place finds told) e in
     let same : names_of (map named (slice_set items place (record label { global = true }))) ≡ names_of (map named items) =
     ap names_of (map-set named items place (record label { global = true }))
-    ∙ map-set_same (λ (l : Named). l.name) (map named items) place (named (record label { global = true })) (named label) (ap (λ (l : Named). l.name) (sym at)) in
+    ∙ map-set_same (λ (l : LabelView). l.name) (map named items) place (named (record label { global = true })) (named label) (ap (λ (l : LabelView). l.name) (sym at)) in
     subst (λ (names : List (List ℕ)). FindsNames names found) (sym same) finds
 
 -- a map with the same entries finds the same
@@ -270,11 +270,11 @@ pub defined : {Z : Type 0} (items : List Label) (label : Label) (name key : List
     → FindsNames (names_of (map named (items ++ label ∷ []))) (place_of n)
 defined items label name key place m n is_name is_key is_place finds unknown updates =
     let missing : place_of m name ≡ None = unknown_missing (map named items) (place_of m) name (place_of m name) refl finds unknown in
-    let long : length (names_of (map named items)) ≡ place = omega (arith, length-map (map named items) (λ (l : Named). l.name), length-map items named) in
+    let long : length (names_of (map named items)) ≡ place = omega (arith, length-map (map named items) (λ (l : LabelView). l.name), length-map items named) in
     let after : (other : List ℕ) → place_of n other ≡ cond (bytes_eq name other) (Some (length (names_of (map named items)))) (place_of m other) =
     rw (long, ← is_key) (found_after key m n (Some place) updates) in
     let names : names_of (map named (items ++ label ∷ [])) ≡ names_of (map named items) ++ name ∷ [] =
-    ap names_of (map-append named items (label ∷ [])) ∙ map-append (λ (l : Named). l.name) (map named items) (named label ∷ [])
+    ap names_of (map-append named items (label ∷ [])) ∙ map-append (λ (l : LabelView). l.name) (map named items) (named label ∷ [])
     ∙ ap (λ (text : List ℕ). names_of (map named items) ++ text ∷ []) is_name in
     subst (λ (all : List (List ℕ)). FindsNames all (place_of n)) (sym names)
     (finds_after (names_of (map named items)) (place_of m) (place_of n) name finds missing after)

@@ -11,16 +11,16 @@ use Rattle.rv_asm.specs.declared.refusal.AsmKind.TheVariants.{Misplaced, TooLarg
 use Rattle.rv_asm.specs.declared.refusal.AsmErr.{AsmErr}
 use Rattle.rv_asm.specs.declared.operations.Width.{Width}
 use Rattle.rv_asm.specs.declared.operations.Width.TheVariants as width
-use Rattle.rv_asm.specs.declared.place.Place.{Place}
+use Rattle.rv_asm.specs.declared.place.SectionPlace.{SectionPlace}
 use Rattle.rv_asm.specs.declared.item.Far.{Far}
 use Rattle.rv_asm.specs.declared.item.Far.TheVariants as far
 use Rattle.rv_asm.specs.Answers.{and_then}
 use Rattle.rv_asm.specs.Operands.{bytes_of_width}
 use Rattle.rv_asm.specs.Scanning.{said, statement_in}
-use Rattle.rv_asm.specs.Items.{Item, Nothing, Section, Export, Single, Double, Near, Distant, Numbers, Chars, Zeros, size_of, is_code}
+use Rattle.rv_asm.specs.Items.{SourceItem, Nothing, Section, Export, Single, Double, Near, Distant, Numbers, Chars, Zeros, size_of, is_code}
 use Rattle.rv_asm.specs.Pseudos.{word_modulo, reaching}
-use Rattle.rv_asm.specs.Places.{IsPlace, start, address_of, length_at, grown, place_after, fits_at, item_at}
-use Rattle.rv_asm.specs.Labels.{Named}
+use Rattle.rv_asm.specs.Places.{IsPlaceInLimits, start, address_of, length_at, grown, place_after, fits_at, item_at}
+use Rattle.rv_asm.specs.Labels.{LabelView}
 use Rattle.rv_asm.specs.Pieces.{Piece, Word, Bytes, label_value, near_instr, operand_value, bytes_from, code_of, pieces_of}
 use Rattle.rv_asm.specs.Spelling.{SpellsPiece, Spells}
 use Rattle.rv_asm.specs.Sized.{piece_size, pieces_size, AreSized, IsSized}
@@ -54,7 +54,7 @@ by-width width.Byte n = omega arith
 by-width width.Half n = omega arith
 by-width width.Word n = omega arith
 
-numbers-length : (labels : List Named) (width : Width) (bytes : List ℕ) (operands : List (List ℕ)) (all : List ℕ)
+numbers-length : (labels : List LabelView) (width : Width) (bytes : List ℕ) (operands : List (List ℕ)) (all : List ℕ)
     → bytes_from labels width bytes operands ≡ Ok all → length all ≡ length bytes + bytes_of_width width * length operands
 numbers-length labels width bytes [] all e = let same : bytes ≡ all = cc in omega (arith, ap (λ (l : List ℕ). length l) same)
 numbers-length labels width bytes (o ∷ os) all e =
@@ -75,7 +75,7 @@ chars-size bytes true = omega (arith, length-append bytes (0 ∷ []))
 chars-size bytes false = omega (arith, length-append {A = ℕ} bytes [])
 
 -- an item's size is that of its pieces
-pub item-sized : (labels : List Named) (pc : ℕ) (item : Item) (ps : List Piece) → pieces_of labels pc item ≡ Ok ps → pieces_size ps ≡ size_of item
+pub item-sized : (labels : List LabelView) (pc : ℕ) (item : SourceItem) (ps : List Piece) → pieces_of labels pc item ≡ Ok ps → pieces_size ps ≡ size_of item
 unfolding pieces_of
 item-sized labels pc Nothing ps e = let same : [] ≡ ps = cc in rw (← same) refl
 item-sized labels pc (Section b) ps e = let same : [] ≡ ps = cc in rw (← same) refl
@@ -98,11 +98,11 @@ item-sized labels pc (Zeros count) ps e =
     let same : (Bytes (replicate count 0) ∷ []) ≡ ps = cc in rw (← same) (omega (arith, length-replicate {A = ℕ} count 0))
 
 -- how long the sections are after an item
-grown-text : (b : Bool) (p : Place) (n : ℕ) → (cond b (record p { text_len = p.text_len + n }) (record p { data_len = p.data_len + n })).text_len ≡ p.text_len + cond b n 0
+grown-text : (b : Bool) (p : SectionPlace) (n : ℕ) → (cond b (record p { text_len = p.text_len + n }) (record p { data_len = p.data_len + n })).text_len ≡ p.text_len + cond b n 0
 grown-text true p n = refl
 grown-text false p n = omega arith
 
-grown-data : (b : Bool) (p : Place) (n : ℕ) → (cond b (record p { text_len = p.text_len + n }) (record p { data_len = p.data_len + n })).data_len ≡ p.data_len + cond b 0 n
+grown-data : (b : Bool) (p : SectionPlace) (n : ℕ) → (cond b (record p { text_len = p.text_len + n }) (record p { data_len = p.data_len + n })).data_len ≡ p.data_len + cond b 0 n
 grown-data true p n = omega arith
 grown-data false p n = refl
 
@@ -110,7 +110,7 @@ none : (b : Bool) (n : ℕ) → cond b n n ≡ n
 none true n = refl
 none false n = refl
 
-pub text-after : (p : Place) (item : Item) → (place_after p item).text_len ≡ p.text_len + cond p.in_text (size_of item) 0
+pub text-after : (p : SectionPlace) (item : SourceItem) → (place_after p item).text_len ≡ p.text_len + cond p.in_text (size_of item) 0
 unfolding place_after
 text-after p Nothing = grown-text p.in_text p 0
 text-after p (Section b) = omega (arith, none p.in_text 0)
@@ -123,7 +123,7 @@ text-after p (Numbers width operands) = grown-text p.in_text p (size_of (Numbers
 text-after p (Chars bytes zero) = grown-text p.in_text p (size_of (Chars bytes zero))
 text-after p (Zeros count) = grown-text p.in_text p count
 
-pub data-after : (p : Place) (item : Item) → (place_after p item).data_len ≡ p.data_len + cond p.in_text 0 (size_of item)
+pub data-after : (p : SectionPlace) (item : SourceItem) → (place_after p item).data_len ≡ p.data_len + cond p.in_text 0 (size_of item)
 unfolding place_after
 data-after p Nothing = grown-data p.in_text p 0
 data-after p (Section b) = omega (arith, none p.in_text 0)
@@ -143,7 +143,7 @@ fits-by true b kind other answer e h = absurd (cc)
 fits-by false true kind other answer e h = absurd (cc)
 fits-by false false kind other answer e h = refl
 
-pub fits-within : (p : Place) (item : Item) → fits_at p item ≡ Ok tt → length_at p + size_of item ≤ 1048576
+pub fits-within : (p : SectionPlace) (item : SourceItem) → fits_at p item ≡ Ok tt → length_at p + size_of item ≤ 1048576
 unfolding fits_at
 fits-within p item e =
     let test : nat_lt 1048576 (length_at p + size_of item) ≡ false = fits-by (is_code item && (not p.in_text || not (address_of p % 4 == 0))) (nat_lt 1048576 (length_at p + size_of item)) Misplaced (TooLarge (length_at p + size_of item)) (fits_at p item) refl e in
@@ -153,7 +153,7 @@ within-by : (b : Bool) (t d n : ℕ) → cond b t d + n ≤ 1048576 → t ≤ 10
 within-by true t d n h k l = (h, omega arith)
 within-by false t d n h k l = (omega arith, h)
 
-pub place-after : (p : Place) (item : Item) → IsPlace p → fits_at p item ≡ Ok tt → IsPlace (place_after p item)
+pub place-after : (p : SectionPlace) (item : SourceItem) → IsPlaceInLimits p → fits_at p item ≡ Ok tt → IsPlaceInLimits (place_after p item)
 place-after p item h e =
     let w = within-by p.in_text p.text_len p.data_len (size_of item) (fits-within p item e) h.text h.data_section in
     record { text = rw (text-after p item) w.0; data_section = rw (data-after p item) w.1 }
@@ -166,7 +166,7 @@ size-else : (b : Bool) (ps qs : List Piece) → pieces_size (cond b ps (ps ++ qs
 size-else true ps qs = omega arith
 size-else false ps qs = size-append ps qs
 
-pub placed-sized : (s : Sections) (item : Item) (ps : List Piece) → AreSized s → fits_at s.place item ≡ Ok tt → pieces_size ps ≡ size_of item → AreSized (placed s item ps)
+pub placed-sized : (s : Sections) (item : SourceItem) (ps : List Piece) → AreSized s → fits_at s.place item ≡ Ok tt → pieces_size ps ≡ size_of item → AreSized (placed s item ps)
 placed-sized s item ps h e n = record {
   text = size-then s.place.in_text s.text ps ∙ rw (h.text, n) (sym (text-after s.place item));
   data_section = size-else s.place.in_text s.data_pieces ps ∙ rw (h.data_section, n) (sym (data-after s.place item));
@@ -174,10 +174,10 @@ placed-sized s item ps h e n = record {
 }
 
 -- an item that was read fits where it stands
-pub item-fits : (p : Place) (text : List ℕ) (item : Item) → item_at p text ≡ Ok item → fits_at p item ≡ Ok tt
+pub item-fits : (p : SectionPlace) (text : List ℕ) (item : SourceItem) → item_at p text ≡ Ok item → fits_at p item ≡ Ok tt
 unfolding item_at
 item-fits p text item e =
-    let r = passes (statement_read (address_of p) text) (λ (i : Item). and_then (fits_at p i) (λ u. Ok i)) item e in
+    let r = passes (statement_read (address_of p) text) (λ (i : SourceItem). and_then (fits_at p i) (λ u. Ok i)) item e in
     let f = passes (fits_at p r.first) (λ (u : Unit {0}). Ok r.first) item r.goes in
     let same : r.first ≡ item = cc f.goes in
     rw (← same) f.is
@@ -185,7 +185,7 @@ item-fits p text item e =
 filled-sized : (s t : Sections) (text : List ℕ) → AreSized s → filled s text ≡ Ok t → AreSized t
 unfolding filled
 filled-sized s t text h e =
-    let r = passes (item_at s.place (statement_in text)) (λ (item : Item). and_then (pieces_of s.labels (address_of s.place) item) (λ ps. Ok (placed s item ps))) t e in
+    let r = passes (item_at s.place (statement_in text)) (λ (item : SourceItem). and_then (pieces_of s.labels (address_of s.place) item) (λ ps. Ok (placed s item ps))) t e in
     let p = passes (pieces_of s.labels (address_of s.place) r.first) (λ (ps : List Piece). Ok (placed s r.first ps)) t r.goes in
     let same : placed s r.first p.first ≡ t = cc p.goes in
     rw (← same) (placed-sized s r.first p.first h (item-fits s.place (statement_in text) r.first r.is) (item-sized s.labels (address_of s.place) r.first p.first p.is))
@@ -198,8 +198,8 @@ lines-sized above s t (line ∷ lines) h e =
 
 -- what the first look knows, and what the second makes of it
 pub record Looks (lines : List (List ℕ)) (sections : Sections) : Type 0 where
-  pub labels : List Named
-  pub drafted : (place : Place) × (draft_from 0 (record { place = start; labels = [] }) lines ≡ Ok (record { place = place; labels = labels }))
+  pub labels : List LabelView
+  pub drafted : (place : SectionPlace) × (draft_from 0 (record { place = start; labels = [] }) lines ≡ Ok (record { place = place; labels = labels }))
   pub filled : sections_from 0 (empty labels) lines ≡ Ok sections
 
 pub looks : (lines : List (List ℕ)) (sections : Sections) → sections_of lines ≡ Ok sections → Looks lines sections
@@ -208,7 +208,7 @@ looks lines sections e =
     let d = passes (draft_from 0 (record { place = start; labels = [] }) lines) (λ draft. sections_from 0 (empty draft.labels) lines) sections a.goes in
     record { labels = d.first.labels; drafted = (d.first.place, d.is); filled = d.goes }
 
-pub empty-sized : (labels : List Named) → AreSized (empty labels)
+pub empty-sized : (labels : List LabelView) → AreSized (empty labels)
 empty-sized labels = record { text = refl; data_section = refl; place = record { text = omega arith; data_section = omega arith } }
 
 pub sections-sized : (lines : List (List ℕ)) (sections : Sections) → sections_of lines ≡ Ok sections → AreSized sections

@@ -21,7 +21,7 @@ use Rattle.rv_text.specs.Numbers.{number_of, numeral}
 use Rattle.rv_text.specs.Registers.{register_of, register_only, register_numbered, register_padded, usual_names}
 use Rattle.rv_text.specs.Tables.{look_up}
 use Rattle.rv_text.specs.Fields.{and_then, required, within, register_in, number_in, immediate_in, field_below, immediate_of, offset_in, base_in, enclosed, is_open}
-use Rattle.rv_text.specs.Reading.{Reading, WholeOf, AimedAt, whole, upper_form, address_form, immediate_form, register_form, set_form, fence_form, jump_form, branch_form, operands_read, takes, wanted, counted, statement_by}
+use Rattle.rv_text.specs.LineReading.{LineReading, WholeOf, AimedAt, whole, upper_form, address_form, immediate_form, register_form, set_form, fence_form, jump_form, branch_form, operands_read, takes, wanted, counted, statement_by}
 use Rattle.rv_text.proofs.Spellings.{FindsRegister, usual_names-find}
 use Rattle.rv_asm.specs.Seen.{JumpFits}
 use Rattle.rv_asm.proofs.Fitting.{ok_then}
@@ -124,7 +124,7 @@ base_in-fits text =
     (any (required BadRegister (enclosed (drop (position_or_len is_open text) text)))) (λ inner u. register_in-fits (trimmed inner))
 
 -- the fields of what is read are in range
-abbrev pub ReadingFits : Reading → Type 0
+abbrev pub ReadingFits : LineReading → Type 0
 ReadingFits (WholeOf i) = Fits i
 ReadingFits (AimedAt jump target) = JumpFits jump
 
@@ -217,7 +217,7 @@ operands-fit Ebreak text = tt
 operands-fit FenceI text = whole-fits (λ p. SetFits p) (λ (rd, rs1, set). instr.FenceI rd rs1 set) (fence_form 0 text) (fence-fits 0 text (lit< tt)) (λ p h. h)
 operands-fit (Mul op) text = whole-fits (λ p. RegistersFit p) (λ (rd, rs1, rs2). instr.Mul op rd rs1 rs2) (register_form text) (registers-fit text) (λ p h. h)
 
-either-reading : (b : Bool) (x : Result Reading TextErr) (e : TextErr) → IfOk x (λ r. ReadingFits r) → IfOk (if b then x else Err e) (λ r. ReadingFits r)
+either-reading : (b : Bool) (x : Result LineReading TextErr) (e : TextErr) → IfOk x (λ r. ReadingFits r) → IfOk (if b then x else Err e) (λ r. ReadingFits r)
 either-reading true x e h = h
 either-reading false x e h = tt
 

@@ -4,14 +4,14 @@ use Rattle.std.specs.List.{list_all}
 use Rattle.rv_asm.specs.declared.refusal.AsmKind.{AsmKind}
 use Rattle.rv_asm.specs.declared.refusal.AsmKind.TheVariants.{LabelTwice, TooLarge, NotAscii}
 use Rattle.rv_asm.specs.declared.refusal.AsmErr.{AsmErr}
-use Rattle.rv_asm.specs.declared.place.Place.{Place}
+use Rattle.rv_asm.specs.declared.place.SectionPlace.{SectionPlace}
 use Rattle.rv_asm.specs.declared.draft.Draft.{Draft}
 use Rattle.rv_asm.specs.Answers.{and_then}
 use Rattle.rv_text.specs.Lines.{text_lines}
 use Rattle.rv_asm.specs.Scanning.{said, label_in, statement_in}
-use Rattle.rv_asm.specs.Items.{Item, Export}
+use Rattle.rv_asm.specs.Items.{SourceItem, Export}
 use Rattle.rv_asm.specs.Places.{start, address_of, place_after, item_at}
-use Rattle.rv_asm.specs.Labels.{Named, value_of, exported}
+use Rattle.rv_asm.specs.Labels.{LabelView, value_of, exported}
 use Rattle.rv_asm.specs.Pieces.{Piece, pieces_of}
 
 -- a refusal with the number of its line
@@ -31,7 +31,7 @@ are_ascii above (line ∷ lines) =
     else Err (record { line = above + 1; kind = NotAscii })
 
 -- the labels with that of a line, which stands at the line's own address
-abbrev pub with_label : List Named → Place → Option (List ℕ) → Result (List Named) AsmKind
+abbrev pub with_label : List LabelView → SectionPlace → Option (List ℕ) → Result (List LabelView) AsmKind
 with_label labels place None = Ok labels
 with_label labels place (Some name) =
     if is_some (value_of labels name) then Err LabelTwice
@@ -52,18 +52,18 @@ draft_from above draft (line ∷ lines) =
 
 -- what stands in the sections above a line
 pub record Sections : Type 0 where
-  pub place : Place
+  pub place : SectionPlace
   pub text : List Piece
   pub data_pieces : List Piece
-  pub labels : List Named
+  pub labels : List LabelView
 
 -- an export marks its label
-abbrev pub marked : List Named → Item → List Named
+abbrev pub marked : List LabelView → SourceItem → List LabelView
 marked labels (Export name) = exported labels name
 marked labels item = labels
 
 -- what stands in the sections after an item, whose pieces come after those of its section
-abbrev pub placed : Sections → Item → List Piece → Sections
+abbrev pub placed : Sections → SourceItem → List Piece → Sections
 placed sections item pieces = record {
   place = place_after sections.place item;
   text = if sections.place.in_text then sections.text ++ pieces else sections.text;
@@ -85,7 +85,7 @@ sections_from above sections (line ∷ lines) =
     and_then (at_line (above + 1) (filled sections (said line))) (λ next. sections_from (above + 1) next lines)
 
 -- nothing in the sections yet
-abbrev pub empty : List Named → Sections
+abbrev pub empty : List LabelView → Sections
 empty labels = record { place = start; text = []; data_pieces = []; labels = labels }
 
 -- the sections of the lines, in which every label has its value

@@ -8,20 +8,20 @@ use Rattle.rv_asm.specs.Operands.{bytes_of_width}
 
 -- nothing; a change to the text or to the data; a name that is exported; one or two instructions; a jump or a branch to a label; the address of a label,
 -- or a call to it, in two instructions; numbers, which may be labels where they are words; a string, and whether a zero follows; a number of zeros
-pub data Item : Type 0 where
-  Nothing : Item
-  Section : (in_text : Bool) → Item
-  Export : (name : List ℕ) → Item
-  Single : Instr → Item
-  Double : Instr → Instr → Item
-  Near : Jump → (label : List ℕ) → Item
-  Distant : Far → (label : List ℕ) → Item
-  Numbers : Width → List (List ℕ) → Item
-  Chars : (bytes : List ℕ) → (zero : Bool) → Item
-  Zeros : ℕ → Item
+pub data SourceItem : Type 0 where
+  Nothing : SourceItem
+  Section : (in_text : Bool) → SourceItem
+  Export : (name : List ℕ) → SourceItem
+  Single : Instr → SourceItem
+  Double : Instr → Instr → SourceItem
+  Near : Jump → (label : List ℕ) → SourceItem
+  Distant : Far → (label : List ℕ) → SourceItem
+  Numbers : Width → List (List ℕ) → SourceItem
+  Chars : (bytes : List ℕ) → (zero : Bool) → SourceItem
+  Zeros : ℕ → SourceItem
 
 -- how many bytes it places
-abbrev pub size_of : Item → ℕ
+abbrev pub size_of : SourceItem → ℕ
 size_of Nothing = 0
 size_of (Section in_text) = 0
 size_of (Export name) = 0
@@ -34,7 +34,7 @@ size_of (Chars bytes zero) = length bytes + (if zero then 1 else 0)
 size_of (Zeros count) = count
 
 -- it places instructions
-abbrev pub is_code : Item → Bool
+abbrev pub is_code : SourceItem → Bool
 is_code (Single i) = true
 is_code (Double i j) = true
 is_code (Near jump label) = true

@@ -3,13 +3,13 @@ use Rattle.std.specs.Prelude.{◌≡◌, ℕ, ◌<◌, List, length, map, slice_
 use Rattle.std.specs.BTreeMap.{BTreeMap, get_by}
 use Rattle.std.specs.Cmp.Lexicographic.{slice_cmp}
 use Rattle.std.specs.Ordering.{nat_cmp}
-use Rattle.rv_asm.specs.Labels.{Named}
+use Rattle.rv_asm.specs.Labels.{LabelView}
 
 -- the place that a map has for a name
 abbrev pub place_of : {Z : Type 0} → BTreeMap (Vec ℕ Z) ℕ → List ℕ → Option ℕ
 place_of places name = get_by (λ key. slice_cmp nat_cmp name key.items) places
 
-abbrev pub names_of : List Named → List (List ℕ)
+abbrev pub names_of : List LabelView → List (List ℕ)
 names_of labels = map (λ label. label.name) labels
 
 -- each name is found at its own place, so that no name is there twice, and what is found is a place of the name

@@ -4,28 +4,28 @@ use Rattle.std.specs.Str.{bytes_eq}
 use Rattle.rv_asm.specs.declared.label.Label.{Label}
 
 -- a label: its name, its value, whether it is in the text, and whether it is exported
-pub record Named : Type 0 where
+pub record LabelView : Type 0 where
   pub name : List ℕ
   pub value : ℕ
   pub in_text : Bool
   pub global : Bool
 
 -- the value of the label with this name
-unfoldable pub value_of : List Named → List ℕ → Option ℕ
+unfoldable pub value_of : List LabelView → List ℕ → Option ℕ
 value_of labels name = option_map (λ label. label.value) (find (λ label. bytes_eq label.name name) labels)
 
 -- a label, exported where it has this name
-abbrev pub exported_as : List ℕ → Named → Named
+abbrev pub exported_as : List ℕ → LabelView → LabelView
 exported_as name label = if bytes_eq label.name name then record label { global = true } else label
 
 -- the labels, with the label of this name exported
-unfoldable pub exported : List Named → List ℕ → List Named
+unfoldable pub exported : List LabelView → List ℕ → List LabelView
 exported labels name = map (exported_as name) labels
 
 -- where a program is entered: at the label `_start`, else at the beginning of the text
-unfoldable pub entry_of : List Named → ℕ
+unfoldable pub entry_of : List LabelView → ℕ
 entry_of labels = unwrap_or (value_of labels (codes "_start")) 0x10000
 
 -- what a label shows of itself
-abbrev pub named : Label → Named
+abbrev pub named : Label → LabelView
 named label = record { name = label.name; value = label.value; in_text = label.in_text; global = label.global }

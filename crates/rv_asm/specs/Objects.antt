@@ -20,5 +20,5 @@ Objects object (Ok sections) = IsObject sections object
 Objects object (Err e) = ⊥
 
 -- the refusal is the answer, unless it is a lack of memory
-abbrev pub Refuses : AsmErr → Result Sections AsmErr → Type 0
-Refuses e answer = (e.kind ≡ NoMemory) ⊎ (answer ≡ Err e)
+abbrev pub RefusesSource : AsmErr → Result Sections AsmErr → Type 0
+RefusesSource e answer = (e.kind ≡ NoMemory) ⊎ (answer ≡ Err e)

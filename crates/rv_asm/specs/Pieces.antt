@@ -6,15 +6,15 @@ use Rattle.rv_inst.specs.declared.instruction.Instr.{Instr}
 use Rattle.rv_text.specs.declared.text_err.TextErr.{TextErr}
 use Rattle.rv_text.specs.declared.text_err.TextErr.TheVariants.{OutOfRange}
 use Rattle.rv_text.specs.declared.statement.Jump.{Jump}
-use Rattle.rv_text.specs.Reading.{aimed, distance_of}
+use Rattle.rv_text.specs.LineReading.{aimed, distance_of}
 use Rattle.rv_asm.specs.declared.refusal.AsmKind.{AsmKind}
 use Rattle.rv_asm.specs.declared.refusal.AsmKind.TheVariants.{Text, NoLabel, TooFar}
 use Rattle.rv_asm.specs.declared.operations.Width.{Width}
 use Rattle.rv_asm.specs.Answers.{and_then, needed, as_text}
 use Rattle.rv_asm.specs.Operands.{names_label, number_of_width, bytes_of_width}
-use Rattle.rv_asm.specs.Items.{Item, Nothing, Section, Export, Single, Double, Near, Distant, Numbers, Chars, Zeros}
+use Rattle.rv_asm.specs.Items.{SourceItem, Nothing, Section, Export, Single, Double, Near, Distant, Numbers, Chars, Zeros}
 use Rattle.rv_asm.specs.Pseudos.{word_modulo, reaching}
-use Rattle.rv_asm.specs.Labels.{Named, value_of}
+use Rattle.rv_asm.specs.Labels.{LabelView, value_of}
 
 -- a part of a section: the word of an instruction, or bytes
 pub data Piece : Type 0 where
@@ -22,7 +22,7 @@ pub data Piece : Type 0 where
   Bytes : List ℕ → Piece
 
 -- the value of a label that must be there
-abbrev pub label_value : List Named → List ℕ → Result ℕ AsmKind
+abbrev pub label_value : List LabelView → List ℕ → Result ℕ AsmKind
 label_value labels name = needed NoLabel (value_of labels name)
 
 -- the instruction over a distance that must fit
@@ -32,31 +32,31 @@ nearby (Err (OutOfRange z)) = Err (TooFar z)
 nearby (Err e) = Err (Text e)
 
 -- the jump or the branch at an address to a label
-unfoldable pub near_instr : List Named → ℕ → Jump → List ℕ → Result Instr AsmKind
+unfoldable pub near_instr : List LabelView → ℕ → Jump → List ℕ → Result Instr AsmKind
 near_instr labels pc jump label =
     and_then (label_value labels label) (λ v. nearby (aimed jump (distance_of (pos v) pc)))
 
 -- the number that an operand stands for
-unfoldable pub operand_value : List Named → Width → List ℕ → Result ℤ AsmKind
+unfoldable pub operand_value : List LabelView → Width → List ℕ → Result ℤ AsmKind
 operand_value labels width operand =
     if names_label width operand then and_then (label_value labels operand) (λ v. Ok (pos v))
     else as_text (number_of_width width operand)
 
 -- the bytes so far, and after them those of the operands, the low byte of each first
-abbrev pub bytes_from : List Named → Width → List ℕ → List (List ℕ) → Result (List ℕ) AsmKind
+abbrev pub bytes_from : List LabelView → Width → List ℕ → List (List ℕ) → Result (List ℕ) AsmKind
 bytes_from labels width bytes [] = Ok bytes
 bytes_from labels width bytes (operand ∷ operands) =
     and_then (operand_value labels width operand)
     (λ z. bytes_from labels width (bytes ++ bytes_low_first 0 (bytes_of_width width) (word_modulo z)) operands)
 
 -- the instructions of an item
-abbrev pub code_of : Item → List Piece
+abbrev pub code_of : SourceItem → List Piece
 code_of (Single i) = Word i ∷ []
 code_of (Double i j) = Word i ∷ Word j ∷ []
 code_of _ = []
 
 -- what an item places at an address
-unfoldable pub pieces_of : List Named → ℕ → Item → Result (List Piece) AsmKind
+unfoldable pub pieces_of : List LabelView → ℕ → SourceItem → Result (List Piece) AsmKind
 pieces_of labels pc Nothing = Ok []
 pieces_of labels pc (Section in_text) = Ok []
 pieces_of labels pc (Export name) = and_then (label_value labels name) (λ v. Ok [])

@@ -15,7 +15,7 @@ use Rattle.rv_text.specs.declared.text_err.TextErr.TheVariants.{BadNumber}
 use Rattle.rv_text.specs.Pieces.{operand_at}
 use Rattle.rv_text.specs.Numbers.{number_of}
 use Rattle.rv_text.specs.Fields.{register_in, number_in}
-use Rattle.rv_text.specs.Reading.{aimed_at}
+use Rattle.rv_text.specs.LineReading.{aimed_at}
 use Rattle.rv_asm.specs.declared.item.Far.{Far}
 use Rattle.rv_asm.specs.declared.item.Far.TheVariants as far
 use Rattle.rv_asm.specs.declared.operations.Pseudo.{Pseudo}
@@ -23,7 +23,7 @@ use Rattle.rv_asm.specs.declared.operations.Pseudo.TheVariants as pseudo
 use Rattle.rv_asm.specs.Answers.{and_then, needed}
 use Rattle.rv_asm.specs.Scanning.{begins_name}
 use Rattle.rv_asm.specs.Operands.{count_is}
-use Rattle.rv_asm.specs.Items.{Item, Single, Double, Near, Distant}
+use Rattle.rv_asm.specs.Items.{SourceItem, Single, Double, Near, Distant}
 
 -- a number modulo 2 ^ 32
 unfoldable pub word_modulo : ℤ → ℕ
@@ -45,43 +45,43 @@ abbrev pub is_short : ℕ → Bool
 is_short v = int_le (negsuc 2047) (signed v) && int_le (signed v) (pos 2047)
 
 -- the instructions that put a word into a register
-unfoldable pub loading : ℕ → ℕ → Item
+unfoldable pub loading : ℕ → ℕ → SourceItem
 loading rd v =
     if is_short v then Single (addi rd 0 (signed v))
     else if word_difference v (4096 * upper_part v) == 0 then Single (instr.Lui rd (upper_part v))
     else Double (instr.Lui rd (upper_part v)) (addi rd rd (lower_part v))
 
 -- the two instructions that reach over a distance: they put the address into a register, or they call it
-unfoldable pub reaching : Far → ℕ → Item
+unfoldable pub reaching : Far → ℕ → SourceItem
 reaching (far.Address rd) v = Double (instr.Auipc rd (upper_part v)) (addi rd rd (lower_part v))
 reaching far.Call v = Double (instr.Auipc 1 (upper_part v)) (instr.Jalr 1 1 (lower_part v))
 
 -- the same from an address to what an operand names: a label, or a number that is the address
-unfoldable pub reached : Far → ℕ → List ℕ → Result Item TextErr
+unfoldable pub reached : Far → ℕ → List ℕ → Result SourceItem TextErr
 reached f pc operand =
     if begins_name operand then Ok (Distant f operand)
     else and_then (needed BadNumber (number_of operand)) (λ target. Ok (reaching f (word_difference (word_modulo target) pc)))
 
 -- a jump or a branch to what an operand names
-unfoldable pub jumped : Jump → ℕ → List ℕ → Result Item TextErr
+unfoldable pub jumped : Jump → ℕ → List ℕ → Result SourceItem TextErr
 jumped j pc operand =
     if begins_name operand then Ok (Near j operand) else and_then (aimed_at j operand pc) (λ i. Ok (Single i))
 
 -- a register and a number of 32 bits, signed or unsigned: the instructions that load the number into the register
-unfoldable pub loaded : List ℕ → Result Item TextErr
+unfoldable pub loaded : List ℕ → Result SourceItem TextErr
 loaded text =
     and_then (count_is 2 text) (λ u.
     and_then (register_in (operand_at text 0)) (λ rd.
     and_then (number_in (negsuc 0x7fffffff) (pos 0xffffffff) (operand_at text 1)) (λ v. Ok (loading rd (word_modulo v)))))
 
 -- a register and what is to be addressed
-unfoldable pub address_read : ℕ → List ℕ → Result Item TextErr
+unfoldable pub address_read : ℕ → List ℕ → Result SourceItem TextErr
 address_read pc text =
     and_then (count_is 2 text) (λ u.
     and_then (register_in (operand_at text 0)) (λ rd. reached (far.Address rd) pc (operand_at text 1)))
 
 -- a register that is compared with 0, and where to branch
-unfoldable pub branch_read : Cond → ℕ → List ℕ → Result Item TextErr
+unfoldable pub branch_read : Cond → ℕ → List ℕ → Result SourceItem TextErr
 branch_read c pc text =
     and_then (count_is 2 text) (λ u.
     and_then (register_in (operand_at text 0)) (λ rs. jumped (jump.Branch c rs 0) pc (operand_at text 1)))
@@ -94,7 +94,7 @@ two_registers text =
     and_then (register_in (operand_at text 1)) (λ rs. Ok (rd, rs))))
 
 -- what a pseudo-instruction at an address stands for
-unfoldable pub pseudo_read : Pseudo → ℕ → List ℕ → Result Item TextErr
+unfoldable pub pseudo_read : Pseudo → ℕ → List ℕ → Result SourceItem TextErr
 pseudo_read pseudo.Nop pc text = and_then (count_is 0 text) (λ u. Ok (Single (addi 0 0 (pos 0))))
 pseudo_read pseudo.Li pc text = loaded text
 pseudo_read pseudo.La pc text = address_read pc text

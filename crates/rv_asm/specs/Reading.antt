@@ -8,7 +8,7 @@ use Rattle.rv_text.specs.declared.text_err.TextErr.TheVariants.{UnknownName, Wro
 use Rattle.rv_text.specs.Pieces.{trimmed, name_part, operand_part, operand_count, operand_at}
 use Rattle.rv_text.specs.Fields.{number_in}
 use Rattle.rv_text.specs.Names.{mnemonic_named}
-use Rattle.rv_text.specs.Reading.{Reading, WholeOf, AimedAt, statement_by}
+use Rattle.rv_text.specs.LineReading.{LineReading, WholeOf, AimedAt, statement_by}
 use Rattle.rv_asm.specs.declared.refusal.AsmKind.{AsmKind}
 use Rattle.rv_asm.specs.declared.refusal.AsmKind.TheVariants.{Text, UnknownDirective, BadString}
 use Rattle.rv_asm.specs.declared.operations.Width.{Width}
@@ -20,17 +20,17 @@ use Rattle.rv_asm.specs.Scanning.{is_name}
 use Rattle.rv_asm.specs.Strings.{string_of}
 use Rattle.rv_asm.specs.Operands.{count_is, operands_of, are_placeable}
 use Rattle.rv_asm.specs.Operations.{directive_named, pseudo_named}
-use Rattle.rv_asm.specs.Items.{Item, Nothing, Section, Export, Single, Numbers, Chars, Zeros}
+use Rattle.rv_asm.specs.Items.{SourceItem, Nothing, Section, Export, Single, Numbers, Chars, Zeros}
 use Rattle.rv_asm.specs.Pseudos.{jumped, pseudo_read}
 
 -- a name that is exported
-unfoldable pub export_read : List ℕ → Result Item TextErr
+unfoldable pub export_read : List ℕ → Result SourceItem TextErr
 export_read text =
     and_then (count_is 1 text) (λ u.
     if is_name (operand_at text 0) then Ok (Export (operand_at text 0)) else Err UnknownName)
 
 -- numbers, at least one
-unfoldable pub numbers_read : Width → List ℕ → Result Item TextErr
+unfoldable pub numbers_read : Width → List ℕ → Result SourceItem TextErr
 numbers_read width text =
     if operand_count text == 0 then Err (WrongCount 0 1)
     else and_then (are_placeable width (operands_of text)) (λ u. Ok (Numbers width (operands_of text)))
@@ -46,11 +46,11 @@ abbrev pub padding : ℕ → ℕ → ℕ
 padding address size = (size - address % size) % size
 
 -- a string, which is all that stands there, and whether a zero follows
-unfoldable pub string_read : Bool → List ℕ → Result Item AsmKind
+unfoldable pub string_read : Bool → List ℕ → Result SourceItem AsmKind
 string_read zero text = and_then (needed BadString (string_of (trimmed text))) (λ bytes. Ok (Chars bytes zero))
 
 -- what a directive at an address stands for
-unfoldable pub directive_read : Directive → ℕ → List ℕ → Result Item AsmKind
+unfoldable pub directive_read : Directive → ℕ → List ℕ → Result SourceItem AsmKind
 directive_read directive.Text pc text = as_text (and_then (count_is 0 text) (λ u. Ok (Section true)))
 directive_read directive.Data pc text = as_text (and_then (count_is 0 text) (λ u. Ok (Section false)))
 directive_read directive.Globl pc text = as_text (export_read text)
@@ -61,12 +61,12 @@ directive_read directive.Space pc text = as_text (and_then (one_number 1048576 t
 directive_read directive.Align pc text = as_text (and_then (one_number 12 text) (λ n. Ok (Zeros (padding pc (2 ^ n)))))
 
 -- an instruction, or a jump or a branch to what its operand names
-abbrev pub targeted : ℕ → Reading → Result Item TextErr
+abbrev pub targeted : ℕ → LineReading → Result SourceItem TextErr
 targeted pc (WholeOf i) = Ok (Single i)
 targeted pc (AimedAt jump operand) = jumped jump pc operand
 
 -- what an instruction at an address stands for
-unfoldable pub instruction_read : Mnemonic → ℕ → List ℕ → Result Item TextErr
+unfoldable pub instruction_read : Mnemonic → ℕ → List ℕ → Result SourceItem TextErr
 instruction_read mnemonic pc text = and_then (statement_by mnemonic text) (targeted pc)
 
 -- the refusal of a name that names nothing
@@ -74,19 +74,19 @@ unfoldable pub unknown : List ℕ → AsmKind
 unknown name = if starts_with nat_eq name (codes ".") then UnknownDirective else Text UnknownName
 
 -- what operands stand for after a name that may name a directive, a pseudo-instruction or an instruction: the first of these counts
-abbrev pub meant : Option Directive → Option Pseudo → Option Mnemonic → List ℕ → ℕ → List ℕ → Result Item AsmKind
+abbrev pub meant : Option Directive → Option Pseudo → Option Mnemonic → List ℕ → ℕ → List ℕ → Result SourceItem AsmKind
 meant (Some directive) p m name pc text = directive_read directive pc text
 meant None (Some pseudo) m name pc text = as_text (pseudo_read pseudo pc text)
 meant None None (Some mnemonic) name pc text = as_text (instruction_read mnemonic pc text)
 meant None None None name pc text = Err (unknown name)
 
 -- what operands stand for after a name
-unfoldable pub named_read : List ℕ → ℕ → List ℕ → Result Item AsmKind
+unfoldable pub named_read : List ℕ → ℕ → List ℕ → Result SourceItem AsmKind
 named_read name pc text =
     meant (directive_named name) (pseudo_named name) (mnemonic_named name) name pc text
 
 -- what a statement at an address stands for
-unfoldable pub statement_read : ℕ → List ℕ → Result Item AsmKind
+unfoldable pub statement_read : ℕ → List ℕ → Result SourceItem AsmKind
 statement_read pc text =
     if length (trimmed text) == 0 then Ok Nothing
     else named_read (name_part text) pc (operand_part text)

@@ -5,14 +5,14 @@ use Rattle.rv_text.specs.declared.statement.Jump.{Jump}
 use Rattle.rv_text.specs.declared.statement.Jump.TheVariants as jump
 use Rattle.rv_asm.specs.declared.item.Far.{Far}
 use Rattle.rv_asm.specs.declared.item.Far.TheVariants as far
-use Rattle.rv_asm.specs.declared.item.Item.{Item as Read}
-use Rattle.rv_asm.specs.declared.item.Item.TheVariants as read
+use Rattle.rv_asm.specs.declared.item.SourceItem.{SourceItem as Read}
+use Rattle.rv_asm.specs.declared.item.SourceItem.TheVariants as read
 use Rattle.rv_asm.specs.Strings.{string_of}
 use Rattle.rv_asm.specs.Operands.{operands_of}
-use Rattle.rv_asm.specs.Items.{Item, Nothing, Section, Export, Single, Double, Near, Distant, Numbers, Chars, Zeros}
+use Rattle.rv_asm.specs.Items.{SourceItem, Nothing, Section, Export, Single, Double, Near, Distant, Numbers, Chars, Zeros}
 
 -- an item, with the texts that it keeps
-abbrev pub seen : Read → Item
+abbrev pub seen : Read → SourceItem
 seen read.Nothing = Nothing
 seen (read.Section in_text) = Section in_text
 seen (read.Export name) = Export name.now
@@ -25,8 +25,8 @@ seen (read.Chars text zero) = Chars (unwrap_or (string_of text.now) []) zero
 seen (read.Zeros count) = Zeros count
 
 -- the result is this answer
-abbrev pub Reads : {E : Type 0} → Result Read E → Result Item E → Type 0
-Reads result answer = MatchResult result (λ item. answer ≡ Ok (seen item)) (λ e. answer ≡ Err e)
+abbrev pub ReadsItem : {E : Type 0} → Result Read E → Result SourceItem E → Type 0
+ReadsItem result answer = MatchResult result (λ item. answer ≡ Ok (seen item)) (λ e. answer ≡ Err e)
 
 -- the registers of a jump or a branch
 abbrev pub JumpFits : Jump → Type 0
@@ -38,12 +38,12 @@ FarFits (far.Address rd) = IsRegister rd
 FarFits far.Call = Unit {0}
 
 -- the fields of an instruction are in range, the text of a string is a string, and texts and zeros are no longer than a source may be
-abbrev pub IsSound : Read → Type 0
-IsSound (read.Single i) = Fits i
-IsSound (read.Double i j) = Fits i × Fits j
-IsSound (read.Near jump label) = JumpFits jump
-IsSound (read.Distant f label) = FarFits f
-IsSound (read.Numbers width text) = length text.now ≤ 1048576
-IsSound (read.Chars text zero) = (length text.now ≤ 1048576) × IsSome (string_of text.now)
-IsSound (read.Zeros count) = count ≤ 1048576
-IsSound _ = Unit {0}
+abbrev pub IsSoundStatement : Read → Type 0
+IsSoundStatement (read.Single i) = Fits i
+IsSoundStatement (read.Double i j) = Fits i × Fits j
+IsSoundStatement (read.Near jump label) = JumpFits jump
+IsSoundStatement (read.Distant f label) = FarFits f
+IsSoundStatement (read.Numbers width text) = length text.now ≤ 1048576
+IsSoundStatement (read.Chars text zero) = (length text.now ≤ 1048576) × IsSome (string_of text.now)
+IsSoundStatement (read.Zeros count) = count ≤ 1048576
+IsSoundStatement _ = Unit {0}

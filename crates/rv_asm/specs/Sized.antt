@@ -1,7 +1,7 @@
 -- The sizes by which the first look places the lines are the lengths of what the second look puts there.
 use Rattle.std.specs.Prelude.{◌≡◌, ℕ, ◌+◌, List, [], ◌∷◌, length, Result, Ok, Err}
 use Rattle.rv_asm.specs.declared.refusal.AsmErr.{AsmErr}
-use Rattle.rv_asm.specs.Places.{IsPlace}
+use Rattle.rv_asm.specs.Places.{IsPlaceInLimits}
 use Rattle.rv_asm.specs.Pieces.{Piece, Word, Bytes}
 use Rattle.rv_asm.specs.Assembling.{Sections}
 
@@ -18,7 +18,7 @@ pieces_size (piece ∷ pieces) = piece_size piece + pieces_size pieces
 pub record AreSized (sections : Sections) : Type 0 where
   pub text : pieces_size sections.text ≡ sections.place.text_len
   pub data_section : pieces_size sections.data_pieces ≡ sections.place.data_len
-  pub place : IsPlace sections.place
+  pub place : IsPlaceInLimits sections.place
 
 -- this holds of the sections that a source stands for
 abbrev pub IsSized : Result Sections AsmErr → Type 0

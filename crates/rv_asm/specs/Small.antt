@@ -2,18 +2,18 @@
 use Rattle.std.specs.Prelude.{ℕ, ◌≤◌, ◌≢◌, List, All, length}
 use Rattle.std.specs.List.{flat_map}
 use Rattle.rv_asm.specs.declared.object.Object.{Object}
-use Rattle.rv_asm.specs.Labels.{Named}
+use Rattle.rv_asm.specs.Labels.{LabelView}
 
 -- no byte of the name is NUL
 abbrev pub HasNoNul : List ℕ → Type 0
 HasNoNul name = All (λ byte. byte ≢ 0) name
 
 -- the names of labels, one after the other
-abbrev pub joined_names : List Named → List ℕ
+abbrev pub joined_names : List LabelView → List ℕ
 joined_names labels = flat_map (λ label. label.name) labels
 
 -- at most 1,048,576 bytes of text and of data, at most 524,288 labels, and names without NUL of at most 1,048,576 bytes in all
-pub record IsSmall (object : Object) : Type 0 where
+pub record IsSmallObject (object : Object) : Type 0 where
   pub text : length object.text_bytes ≤ 1048576
   pub data_section : length object.data_bytes ≤ 1048576
   pub labels : length object.labels ≤ 524288

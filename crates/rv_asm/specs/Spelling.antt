@@ -25,9 +25,9 @@ Spells [] bytes = bytes ≡ []
 Spells (piece ∷ pieces) bytes = Begins piece (Spells pieces) bytes
 
 -- the bytes are those of the answer
-abbrev pub Gives : List ℕ → Result (List Piece) AsmKind → Type 0
-Gives bytes (Ok pieces) = Spells pieces bytes
-Gives bytes (Err kind) = ⊥
+abbrev pub GivesBytes : List ℕ → Result (List Piece) AsmKind → Type 0
+GivesBytes bytes (Ok pieces) = Spells pieces bytes
+GivesBytes bytes (Err kind) = ⊥
 
 -- the refusal is the answer, unless it is a lack of memory
 abbrev pub IsRefusal : {A : Type 0} → AsmKind → Result A AsmKind → Type 0

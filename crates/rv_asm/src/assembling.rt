@@ -4,8 +4,8 @@ ghost use Rattle.std.specs.Prelude.{◌≡◌, ◌≤◌, length, IfOk, IfErr};
 ghost use Rattle.rv_text.specs.Lines.{text_lines};
 ghost use Rattle.rv_asm.specs.Labels.{entry_of};
 ghost use Rattle.rv_asm.specs.Assembling.{is_ascii, are_ascii, sections_of, assembled};
-ghost use Rattle.rv_asm.specs.Objects.{Objects, Refuses};
-ghost use Rattle.rv_asm.specs.Small.{IsSmall};
+ghost use Rattle.rv_asm.specs.Objects.{Objects, RefusesSource};
+ghost use Rattle.rv_asm.specs.Small.{IsSmallObject};
 
 use crate::draft::first_look;
 use crate::label_table::LabelTable;
@@ -54,7 +54,7 @@ fn entry(labels: &LabelTable) -> u32
 fn assemble_lines(alloc: Global, source: &[u8]) -> Result<Object, AsmErr>
     requires { length source.now ≤ 1048576 }
     ensures ok { IfOk result (λ object. Objects object (sections_of (text_lines source.now))) }
-    ensures err { IfErr result (λ e. Refuses e (sections_of (text_lines source.now))) }
+    ensures err { IfErr result (λ e. RefusesSource e (sections_of (text_lines source.now))) }
 {
     check_ascii(source)?;
     let draft = first_look(alloc, source)?;
@@ -77,8 +77,8 @@ fn assemble_lines(alloc: Global, source: &[u8]) -> Result<Object, AsmErr>
 #[tactic(auto, unfolding(crate::specs::Assembling::assembled))]
 pub fn assemble(alloc: Global, source: &[u8]) -> Result<Object, AsmErr>
     ensures ok { IfOk result (λ object. Objects object (assembled source.now)) }
-    ensures err { IfErr result (λ e. Refuses e (assembled source.now)) }
-    ensures small { IfOk result (λ object. IsSmall object) }
+    ensures err { IfErr result (λ e. RefusesSource e (assembled source.now)) }
+    ensures small { IfOk result (λ object. IsSmallObject object) }
 {
     if source.len() > MOST {
         return Err(AsmErr {

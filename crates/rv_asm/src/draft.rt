@@ -3,14 +3,14 @@
 ghost use Rattle.std.specs.Prelude.{◌≡◌, ◌≤◌, ◌⊎◌, [], length, Ok, Err, IfOk, IfErr, OnOk};
 ghost use Rattle.rv_text.specs.Lines.{text_lines};
 ghost use Rattle.rv_asm.specs.Scanning.{label_in};
-ghost use Rattle.rv_asm.specs.Places.{IsPlace, start, fits_at, item_at};
+ghost use Rattle.rv_asm.specs.Places.{IsPlaceInLimits, start, fits_at, item_at};
 ghost use Rattle.rv_asm.specs.Assembling.{with_label, drafted, draft_from};
 ghost use Rattle.rv_asm.specs.Spelling.{IsRefusal};
-ghost use Rattle.rv_asm.specs.Seen.{seen, Reads, IsSound};
+ghost use Rattle.rv_asm.specs.Seen.{seen, ReadsItem, IsSoundStatement};
 
-use crate::item::Item;
+use crate::item::SourceItem;
 use crate::label_table::LabelTable;
-use crate::place::Place;
+use crate::place::SectionPlace;
 use crate::reading::read_statement;
 use crate::refusal::{AsmErr, AsmKind};
 use crate::scanning::{label_in, said, statement_in};
@@ -20,17 +20,17 @@ use std::alloc::Global;
 /// What is known above a line: where it stands, and the labels so far.
 #[derive(Drop)]
 pub struct Draft {
-    pub place: Place,
+    pub place: SectionPlace,
     pub labels: LabelTable,
 }
 
 /// The item of a statement at a place.
 #[tactic(auto, unfolding(crate::specs::Places::item_at))]
-pub fn item_at(place: Place, text: &[u8]) -> Result<Item<'_>, AsmKind>
-    requires place { IsPlace place }
+pub fn item_at(place: SectionPlace, text: &[u8]) -> Result<SourceItem<'_>, AsmKind>
+    requires place { IsPlaceInLimits place }
     requires text { length text.now ≤ 1048576 }
-    ensures item { Reads result (item_at place text.now) }
-    ensures sound { IfOk result (λ item. IsSound item) }
+    ensures item { ReadsItem result (item_at place text.now) }
+    ensures sound { IfOk result (λ item. IsSoundStatement item) }
     ensures fits { IfOk result (λ item. fits_at place (seen item) ≡ Ok tt) }
 {
     let item = read_statement(place.address(), text)?;
@@ -42,10 +42,10 @@ pub fn item_at(place: Place, text: &[u8]) -> Result<Item<'_>, AsmKind>
 fn define_label(
     alloc: Global,
     labels: &mut LabelTable,
-    place: Place,
+    place: SectionPlace,
     text: &[u8],
 ) -> Result<(), AsmKind>
-    requires { IsPlace place }
+    requires { IsPlaceInLimits place }
     ensures ok { OnOk result (with_label labels.old place (label_in text.now) ≡ Ok labels.new) }
     ensures err { IfErr result (λ kind. IsRefusal kind (with_label labels.old place (label_in text.now))) }
 {
@@ -59,14 +59,14 @@ fn define_label(
 }
 
 impl Draft {
-    /// Reads a line that says this, and goes on after it.
+    /// ReadsItem a line that says this, and goes on after it.
     #[tactic(auto, unfolding(crate::specs::Assembling::drafted))]
     fn read(&mut self, alloc: Global, text: &[u8]) -> Result<(), AsmKind>
-        requires place { IsPlace self.old.place }
+        requires place { IsPlaceInLimits self.old.place }
         requires text { length text.now ≤ 1048576 }
         ensures ok { OnOk result (drafted self.old text.now ≡ Ok self.new) }
         ensures err { IfErr result (λ kind. IsRefusal kind (drafted self.old text.now)) }
-        ensures place { OnOk result (IsPlace self.new.place) }
+        ensures place { OnOk result (IsPlaceInLimits self.new.place) }
     {
         define_label(alloc, &mut self.labels, self.place, text)?;
         let item = item_at(self.place, statement_in(text))?;
@@ -82,7 +82,7 @@ pub fn first_look(alloc: Global, source: &[u8]) -> Result<Draft, AsmErr>
     ensures err { IfErr result (λ e. (e.kind ≡ AsmKind.NoMemory) ⊎ (draft_from 0 (record { place = start; labels = [] }) (text_lines source.now) ≡ Err e)) }
 {
     let mut draft = Draft {
-        place: Place::start(),
+        place: SectionPlace::start(),
         labels: LabelTable::new(alloc),
     };
     let mut above = 0;

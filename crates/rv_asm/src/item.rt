@@ -3,7 +3,7 @@
 ghost use Rattle.std.specs.Prelude.{◌≡◌, ◌≤◌, ◌<◌, ◌^◌, ◌+◌, length};
 ghost use Rattle.rv_asm.specs.Operands.{operands_of};
 ghost use Rattle.rv_asm.specs.Items.{is_code, size_of};
-ghost use Rattle.rv_asm.specs.Seen.{seen, IsSound};
+ghost use Rattle.rv_asm.specs.Seen.{seen, IsSoundStatement};
 
 use crate::operations::Width;
 use crate::strings::string_len;
@@ -21,7 +21,7 @@ pub enum Far {
 
 /// What a statement stands for.
 #[derive(Clone, Copy)]
-pub enum Item<'a> {
+pub enum SourceItem<'a> {
     Nothing,
     /// What follows goes into the text, or into the data.
     Section(bool),
@@ -42,11 +42,11 @@ pub enum Item<'a> {
 }
 
 /// Whether it places instructions.
-pub fn is_code(item: Item<'_>) -> bool
+pub fn is_code(item: SourceItem<'_>) -> bool
     ensures { result ≡ is_code (seen item.entry) }
 {
     match item {
-        Item::Single(_) | Item::Double(..) | Item::Near(..) | Item::Distant(..) => true,
+        SourceItem::Single(_) | SourceItem::Double(..) | SourceItem::Near(..) | SourceItem::Distant(..) => true,
         _ => false,
     }
 }
@@ -61,17 +61,17 @@ fn count_numbers(text: &[u8]) -> usize
 }
 
 /// How many bytes it places.
-pub fn size_of(item: Item<'_>) -> usize
-    requires { IsSound item }
+pub fn size_of(item: SourceItem<'_>) -> usize
+    requires { IsSoundStatement item }
     ensures size { result ≡ size_of (seen item.entry) }
     ensures bounded { result < 2 ^ 32 }
 {
     match item {
-        Item::Nothing | Item::Section(_) | Item::Export(_) => 0,
-        Item::Single(_) | Item::Near(..) => 4,
-        Item::Double(..) | Item::Distant(..) => 8,
-        Item::Numbers(width, text) => width.bytes() * count_numbers(text),
-        Item::Chars(text, zero) => string_len(text).unwrap_or(0) + usize::from(zero),
-        Item::Zeros(count) => count as usize,
+        SourceItem::Nothing | SourceItem::Section(_) | SourceItem::Export(_) => 0,
+        SourceItem::Single(_) | SourceItem::Near(..) => 4,
+        SourceItem::Double(..) | SourceItem::Distant(..) => 8,
+        SourceItem::Numbers(width, text) => width.bytes() * count_numbers(text),
+        SourceItem::Chars(text, zero) => string_len(text).unwrap_or(0) + usize::from(zero),
+        SourceItem::Zeros(count) => count as usize,
     }
 }

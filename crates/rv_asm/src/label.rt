@@ -39,9 +39,9 @@ pub struct Labels {
 impl Model for Labels {
     ghost use Rattle.std.specs.Prelude.{List, map};
     ghost use Rattle.std.specs.Str.{IsUtf8};
-    ghost use Rattle.rv_asm.specs.Labels.{Named, named};
+    ghost use Rattle.rv_asm.specs.Labels.{LabelView, named};
 
-    ghost Value = { List Named };
+    ghost Value = { List LabelView };
 
     ghost view = { λ labels. map named labels.list.items };
 }

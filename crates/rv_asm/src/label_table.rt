@@ -22,9 +22,9 @@ pub struct LabelTable {
 impl Model for LabelTable {
     ghost use Rattle.std.specs.Prelude.{List, map};
     ghost use Rattle.rv_asm.specs.LabelTables.{FindsNames, names_of, place_of};
-    ghost use Rattle.rv_asm.specs.Labels.{Named, named};
+    ghost use Rattle.rv_asm.specs.Labels.{LabelView, named};
 
-    ghost Value = { List Named };
+    ghost Value = { List LabelView };
 
     ghost view = { λ table. map named table.list.items };
 

@@ -8,10 +8,10 @@ ghost use Rattle.rv_inst.specs.Ranges.{Fits};
 ghost use Rattle.rv_asm.specs.Items.{Near, Distant};
 ghost use Rattle.rv_asm.specs.Operands.{operands_of, bytes_of_width};
 ghost use Rattle.rv_asm.specs.Pieces.{Word, label_value, near_instr, operand_value, bytes_from, pieces_of};
-ghost use Rattle.rv_asm.specs.Spelling.{SpellsPiece, Spells, Gives, IsRefusal};
-ghost use Rattle.rv_asm.specs.Seen.{seen, IsSound, JumpFits, FarFits};
+ghost use Rattle.rv_asm.specs.Spelling.{SpellsPiece, Spells, GivesBytes, IsRefusal};
+ghost use Rattle.rv_asm.specs.Seen.{seen, IsSoundStatement, JumpFits, FarFits};
 
-use crate::item::{Far, Item};
+use crate::item::{Far, SourceItem};
 use crate::label_table::LabelTable;
 use crate::operands::{cut_operand, names_label, number_of_width};
 use crate::operations::Width;
@@ -80,7 +80,7 @@ fn near_bytes(
     label: &[u8],
 ) -> Result<Vec<u8>, AsmKind>
     requires { JumpFits jump }
-    ensures ok { IfOk result (λ bytes. Gives bytes.items (pieces_of labels.now pc (Near jump label.now))) }
+    ensures ok { IfOk result (λ bytes. GivesBytes bytes.items (pieces_of labels.now pc (Near jump label.now))) }
     ensures err { IfErr result (λ kind. IsRefusal kind (pieces_of labels.now pc (Near jump label.now))) }
 {
     single(alloc, near(labels, pc, jump, label)?)
@@ -95,7 +95,7 @@ fn distant_bytes(
     label: &[u8],
 ) -> Result<Vec<u8>, AsmKind>
     requires { FarFits far }
-    ensures ok { IfOk result (λ bytes. Gives bytes.items (pieces_of labels.now pc (Distant far label.now))) }
+    ensures ok { IfOk result (λ bytes. GivesBytes bytes.items (pieces_of labels.now pc (Distant far label.now))) }
     ensures err { IfErr result (λ kind. IsRefusal kind (pieces_of labels.now pc (Distant far label.now))) }
 {
     let value = label_value(labels, label)?;
@@ -169,24 +169,24 @@ pub fn item_bytes(
     alloc: Global,
     labels: &LabelTable,
     pc: u32,
-    item: Item<'_>,
+    item: SourceItem<'_>,
 ) -> Result<Vec<u8>, AsmKind>
-    requires { IsSound item }
-    ensures ok { IfOk result (λ bytes. Gives bytes.items (pieces_of labels.now pc (seen item.entry))) }
+    requires { IsSoundStatement item }
+    ensures ok { IfOk result (λ bytes. GivesBytes bytes.items (pieces_of labels.now pc (seen item.entry))) }
     ensures err { IfErr result (λ kind. IsRefusal kind (pieces_of labels.now pc (seen item.entry))) }
 {
     match item {
-        Item::Nothing | Item::Section(_) => Ok(Vec::new(alloc)),
-        Item::Export(name) => {
+        SourceItem::Nothing | SourceItem::Section(_) => Ok(Vec::new(alloc)),
+        SourceItem::Export(name) => {
             label_value(labels, name)?;
             Ok(Vec::new(alloc))
         }
-        Item::Single(i) => single(alloc, i),
-        Item::Double(i, j) => double(alloc, i, j),
-        Item::Near(jump, label) => near_bytes(alloc, labels, pc, jump, label),
-        Item::Distant(far, label) => distant_bytes(alloc, labels, pc, far, label),
-        Item::Numbers(width, text) => numbers(alloc, labels, width, text),
-        Item::Chars(text, zero) => chars(alloc, text, zero),
-        Item::Zeros(count) => zeros(alloc, count),
+        SourceItem::Single(i) => single(alloc, i),
+        SourceItem::Double(i, j) => double(alloc, i, j),
+        SourceItem::Near(jump, label) => near_bytes(alloc, labels, pc, jump, label),
+        SourceItem::Distant(far, label) => distant_bytes(alloc, labels, pc, far, label),
+        SourceItem::Numbers(width, text) => numbers(alloc, labels, width, text),
+        SourceItem::Chars(text, zero) => chars(alloc, text, zero),
+        SourceItem::Zeros(count) => zeros(alloc, count),
     }
 }

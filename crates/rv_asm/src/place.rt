@@ -3,10 +3,10 @@
 
 ghost use Rattle.std.specs.Prelude.{◌≡◌, ◌≤◌, ◌+◌, ◌<◌, ◌^◌, Ok};
 ghost use Rattle.rv_asm.specs.Items.{size_of};
-ghost use Rattle.rv_asm.specs.Places.{IsPlace, start, address_of, length_at, grown, place_after, fits_at};
-ghost use Rattle.rv_asm.specs.Seen.{seen, IsSound};
+ghost use Rattle.rv_asm.specs.Places.{IsPlaceInLimits, start, address_of, length_at, grown, place_after, fits_at};
+ghost use Rattle.rv_asm.specs.Seen.{seen, IsSoundStatement};
 
-use crate::item::{Item, is_code, size_of};
+use crate::item::{SourceItem, is_code, size_of};
 use crate::refusal::AsmKind;
 
 /// The most bytes that a source, the text or the data may have.
@@ -14,18 +14,18 @@ pub const MOST: usize = 0x10_0000;
 
 /// Where a line stands: the section, and how long both are above the line.
 #[derive(Clone, Copy)]
-pub struct Place {
+pub struct SectionPlace {
     pub in_text: bool,
     pub text_len: u32,
     pub data_len: u32,
 }
 
-impl Place {
+impl SectionPlace {
     /// The beginning of an empty text.
-    pub fn start() -> Place
+    pub fn start() -> SectionPlace
         ensures { result ≡ start }
     {
-        Place {
+        SectionPlace {
             in_text: true,
             text_len: 0,
             data_len: 0,
@@ -34,7 +34,7 @@ impl Place {
 
     /// The address: the text starts at 0x10000, and the data at 0x200000.
     pub fn address(self) -> u32
-        requires { IsPlace self }
+        requires { IsPlaceInLimits self }
         ensures { result ≡ address_of self }
     {
         if self.in_text {
@@ -54,18 +54,18 @@ impl Place {
         }
     }
 
-    fn grown(self, size: u32) -> Place
-        requires place { IsPlace self }
+    fn grown(self, size: u32) -> SectionPlace
+        requires place { IsPlaceInLimits self }
         requires size { length_at self + size ≤ 1048576 }
         ensures { result ≡ grown self size }
     {
         if self.in_text {
-            Place {
+            SectionPlace {
                 text_len: self.text_len + size,
                 ..self
             }
         } else {
-            Place {
+            SectionPlace {
                 data_len: self.data_len + size,
                 ..self
             }
@@ -73,24 +73,24 @@ impl Place {
     }
 
     /// The place after an item.
-    pub fn after(self, item: Item<'_>) -> Place
-        requires place { IsPlace self }
-        requires sound { IsSound item }
+    pub fn after(self, item: SourceItem<'_>) -> SectionPlace
+        requires place { IsPlaceInLimits self }
+        requires sound { IsSoundStatement item }
         requires fits { fits_at self (seen item) ≡ Ok tt }
         ensures place { result ≡ place_after self (seen item.entry) }
-        ensures within { IsPlace result }
+        ensures within { IsPlaceInLimits result }
     {
         match item {
-            Item::Section(in_text) => Place { in_text, ..self },
+            SourceItem::Section(in_text) => SectionPlace { in_text, ..self },
             _ => self.grown(size_of(item) as u32),
         }
     }
 
     /// `Misplaced` where the item is code and stands in the data or at an address that 4 does not divide, and `TooLarge`
     /// where its section would be too long with it.
-    pub fn check(self, item: Item<'_>) -> Result<(), AsmKind>
-        requires place { IsPlace self }
-        requires sound { IsSound item }
+    pub fn check(self, item: SourceItem<'_>) -> Result<(), AsmKind>
+        requires place { IsPlaceInLimits self }
+        requires sound { IsSoundStatement item }
         ensures { result ≡ fits_at self (seen item.entry) }
     {
         if is_code(item) && (!self.in_text || self.address() % 4 != 0) {

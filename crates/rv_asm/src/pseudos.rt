@@ -6,9 +6,9 @@ ghost use Rattle.rv_inst.specs.Words.{word_difference, signed};
 ghost use Rattle.rv_inst.specs.Ranges.{Fits, IsRegister};
 ghost use Rattle.rv_asm.specs.Pseudos.{word_modulo, upper_part, lower_part, is_short, loading, reaching, reached, jumped, two_registers, loaded, address_read, branch_read, pseudo_read};
 ghost use Rattle.rv_asm.specs.Items.{Double};
-ghost use Rattle.rv_asm.specs.Seen.{seen, Reads, IsSound, JumpFits, FarFits};
+ghost use Rattle.rv_asm.specs.Seen.{seen, ReadsItem, IsSoundStatement, JumpFits, FarFits};
 
-use crate::item::{Far, Item};
+use crate::item::{Far, SourceItem};
 use crate::operands::{expect_count, number_between};
 use crate::operations::Pseudo;
 use crate::scanning::begins_name;
@@ -52,14 +52,14 @@ fn lower_part(word: u32) -> i32
 }
 
 /// The instructions that put a word into a register.
-fn loading(rd: u8, word: u32) -> Item<'static>
+fn loading(rd: u8, word: u32) -> SourceItem<'static>
     requires { IsRegister rd }
     ensures item { seen result ≡ loading rd word }
-    ensures sound { IsSound result }
+    ensures sound { IsSoundStatement result }
 {
     let short = word.cast_signed();
     if -0x800 <= short && short <= 0x7ff {
-        return Item::Single(addi(rd, 0, short));
+        return SourceItem::Single(addi(rd, 0, short));
     }
     let upper = Instr::Lui {
         rd,
@@ -67,9 +67,9 @@ fn loading(rd: u8, word: u32) -> Item<'static>
     };
     let lower = lower_part(word);
     if lower == 0 {
-        Item::Single(upper)
+        SourceItem::Single(upper)
     } else {
-        Item::Double(upper, addi(rd, rd, lower))
+        SourceItem::Double(upper, addi(rd, rd, lower))
     }
 }
 
@@ -96,31 +96,31 @@ pub fn reaching(far: Far, distance: u32) -> (Instr, Instr)
 }
 
 /// The same from an address to what an operand names: a label, or a number that is the address.
-fn reached(far: Far, pc: u32, operand: &[u8]) -> Result<Item<'_>, TextErr>
+fn reached(far: Far, pc: u32, operand: &[u8]) -> Result<SourceItem<'_>, TextErr>
     requires { FarFits far }
-    ensures item { Reads result (reached far pc operand.now) }
-    ensures sound { IfOk result (λ item. IsSound item) }
+    ensures item { ReadsItem result (reached far pc operand.now) }
+    ensures sound { IfOk result (λ item. IsSoundStatement item) }
 {
     if begins_name(operand) {
-        return Ok(Item::Distant(far, operand));
+        return Ok(SourceItem::Distant(far, operand));
     }
     let target = read_number(operand).ok_or(TextErr::BadNumber)?;
     let (first, second) = reaching(far, word_modulo(target).wrapping_sub(pc));
-    Ok(Item::Double(first, second))
+    Ok(SourceItem::Double(first, second))
 }
 
 /// A jump or a branch to what an operand names.
-#[tactic(auto, unfolding(crate::specs::Pseudos::jumped, rv_text::specs::Reading::aimed_at), using(crate::proofs::Fitting::jumps))]
-pub fn jumped(jump: Jump, pc: u32, operand: &[u8]) -> Result<Item<'_>, TextErr>
+#[tactic(auto, unfolding(crate::specs::Pseudos::jumped, rv_text::specs::LineReading::aimed_at), using(crate::proofs::Fitting::jumps))]
+pub fn jumped(jump: Jump, pc: u32, operand: &[u8]) -> Result<SourceItem<'_>, TextErr>
     requires { JumpFits jump }
-    ensures item { Reads result (jumped jump pc operand.now) }
-    ensures sound { IfOk result (λ item. IsSound item) }
+    ensures item { ReadsItem result (jumped jump pc operand.now) }
+    ensures sound { IfOk result (λ item. IsSoundStatement item) }
 {
     if begins_name(operand) {
-        return Ok(Item::Near(jump, operand));
+        return Ok(SourceItem::Near(jump, operand));
     }
     let target = read_number(operand).ok_or(TextErr::BadNumber)?;
-    Ok(Item::Single(jump.to(distance(target, pc))?))
+    Ok(SourceItem::Single(jump.to(distance(target, pc))?))
 }
 
 fn two_registers(text: &[u8]) -> Result<(u8, u8), TextErr>
@@ -133,9 +133,9 @@ fn two_registers(text: &[u8]) -> Result<(u8, u8), TextErr>
     Ok((rd, rs))
 }
 
-fn li(text: &[u8]) -> Result<Item<'_>, TextErr>
-    ensures item { Reads result (loaded text.now) }
-    ensures sound { IfOk result (λ item. IsSound item) }
+fn li(text: &[u8]) -> Result<SourceItem<'_>, TextErr>
+    ensures item { ReadsItem result (loaded text.now) }
+    ensures sound { IfOk result (λ item. IsSoundStatement item) }
 {
     expect_count(2, text)?;
     let rd = register_in(operand(text, 0))?;
@@ -143,18 +143,18 @@ fn li(text: &[u8]) -> Result<Item<'_>, TextErr>
     Ok(loading(rd, word_modulo(value)))
 }
 
-fn la(pc: u32, text: &[u8]) -> Result<Item<'_>, TextErr>
-    ensures item { Reads result (address_read pc text.now) }
-    ensures sound { IfOk result (λ item. IsSound item) }
+fn la(pc: u32, text: &[u8]) -> Result<SourceItem<'_>, TextErr>
+    ensures item { ReadsItem result (address_read pc text.now) }
+    ensures sound { IfOk result (λ item. IsSoundStatement item) }
 {
     expect_count(2, text)?;
     let rd = register_in(operand(text, 0))?;
     reached(Far::Address(rd), pc, operand(text, 1))
 }
 
-fn branch_zero(cond: Cond, pc: u32, text: &[u8]) -> Result<Item<'_>, TextErr>
-    ensures item { Reads result (branch_read cond pc text.now) }
-    ensures sound { IfOk result (λ item. IsSound item) }
+fn branch_zero(cond: Cond, pc: u32, text: &[u8]) -> Result<SourceItem<'_>, TextErr>
+    ensures item { ReadsItem result (branch_read cond pc text.now) }
+    ensures sound { IfOk result (λ item. IsSoundStatement item) }
 {
     expect_count(2, text)?;
     let rs = register_in(operand(text, 0))?;
@@ -163,9 +163,9 @@ fn branch_zero(cond: Cond, pc: u32, text: &[u8]) -> Result<Item<'_>, TextErr>
 
 /// What a pseudo-instruction at an address stands for.
 #[tactic(auto, unfolding(crate::specs::Pseudos::pseudo_read))]
-pub fn read_pseudo(pseudo: Pseudo, pc: u32, text: &[u8]) -> Result<Item<'_>, TextErr>
-    ensures item { Reads result (pseudo_read pseudo pc text.now) }
-    ensures sound { IfOk result (λ item. IsSound item) }
+pub fn read_pseudo(pseudo: Pseudo, pc: u32, text: &[u8]) -> Result<SourceItem<'_>, TextErr>
+    ensures item { ReadsItem result (pseudo_read pseudo pc text.now) }
+    ensures sound { IfOk result (λ item. IsSoundStatement item) }
 {
     let instr = match pseudo {
         Pseudo::Li => return li(text),
@@ -219,5 +219,5 @@ pub fn read_pseudo(pseudo: Pseudo, pc: u32, text: &[u8]) -> Result<Item<'_>, Tex
             }
         }
     };
-    Ok(Item::Single(instr))
+    Ok(SourceItem::Single(instr))
 }

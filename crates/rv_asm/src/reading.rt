@@ -7,9 +7,9 @@ ghost use Rattle.rv_asm.specs.Answers.{and_then, as_text};
 ghost use Rattle.rv_asm.specs.Operands.{count_is};
 ghost use Rattle.rv_asm.specs.Items.{Section, Zeros};
 ghost use Rattle.rv_asm.specs.Reading.{export_read, numbers_read, one_number, padding, string_read, directive_read, instruction_read, unknown, named_read, statement_read};
-ghost use Rattle.rv_asm.specs.Seen.{Reads, IsSound};
+ghost use Rattle.rv_asm.specs.Seen.{ReadsItem, IsSoundStatement};
 
-use crate::item::Item;
+use crate::item::SourceItem;
 use crate::operands::{check_numbers, expect_count};
 use crate::operations::{Directive, Pseudo, Width};
 use crate::pseudos::{jumped, read_pseudo};
@@ -22,37 +22,37 @@ use rv_text::{
 };
 
 /// A directive for a section: the text, or the data.
-fn read_section(in_text: bool, text: &[u8]) -> Result<Item<'_>, AsmKind>
-    ensures item { Reads result (as_text (and_then (count_is 0 text.now) (λ u. Ok (Section in_text)))) }
-    ensures sound { IfOk result (λ item. IsSound item) }
+fn read_section(in_text: bool, text: &[u8]) -> Result<SourceItem<'_>, AsmKind>
+    ensures item { ReadsItem result (as_text (and_then (count_is 0 text.now) (λ u. Ok (Section in_text)))) }
+    ensures sound { IfOk result (λ item. IsSoundStatement item) }
 {
     expect_count(0, text)?;
-    Ok(Item::Section(in_text))
+    Ok(SourceItem::Section(in_text))
 }
 
-fn read_export(text: &[u8]) -> Result<Item<'_>, AsmKind>
-    ensures item { Reads result (as_text (export_read text.now)) }
-    ensures sound { IfOk result (λ item. IsSound item) }
+fn read_export(text: &[u8]) -> Result<SourceItem<'_>, AsmKind>
+    ensures item { ReadsItem result (as_text (export_read text.now)) }
+    ensures sound { IfOk result (λ item. IsSoundStatement item) }
 {
     expect_count(1, text)?;
     let name = operand(text, 0);
     if is_name(name) {
-        Ok(Item::Export(name))
+        Ok(SourceItem::Export(name))
     } else {
         Err(AsmKind::Text(TextErr::UnknownName))
     }
 }
 
-fn read_numbers(width: Width, text: &[u8]) -> Result<Item<'_>, AsmKind>
+fn read_numbers(width: Width, text: &[u8]) -> Result<SourceItem<'_>, AsmKind>
     requires { length text.now ≤ 1048576 }
-    ensures item { Reads result (as_text (numbers_read width text.now)) }
-    ensures sound { IfOk result (λ item. IsSound item) }
+    ensures item { ReadsItem result (as_text (numbers_read width text.now)) }
+    ensures sound { IfOk result (λ item. IsSoundStatement item) }
 {
     if count_operands(text) == 0 {
         return Err(AsmKind::Text(TextErr::WrongCount { got: 0, wanted: 1 }));
     }
     check_numbers(width, text)?;
-    Ok(Item::Numbers(width, text))
+    Ok(SourceItem::Numbers(width, text))
 }
 
 /// The one operand of a directive: a number from 0 to the greatest.
@@ -76,40 +76,40 @@ fn padding(address: u32, exponent: u32) -> u32
 }
 
 /// As many zeros as the operand says.
-fn read_space(text: &[u8]) -> Result<Item<'_>, AsmKind>
-    ensures item { Reads result (as_text (and_then (one_number 1048576 text.now) (λ n. Ok (Zeros n)))) }
-    ensures sound { IfOk result (λ item. IsSound item) }
+fn read_space(text: &[u8]) -> Result<SourceItem<'_>, AsmKind>
+    ensures item { ReadsItem result (as_text (and_then (one_number 1048576 text.now) (λ n. Ok (Zeros n)))) }
+    ensures sound { IfOk result (λ item. IsSoundStatement item) }
 {
-    Ok(Item::Zeros(one_number(0x10_0000, text)?))
+    Ok(SourceItem::Zeros(one_number(0x10_0000, text)?))
 }
 
 /// Zeros up to the next multiple of 2^n, where the operand is n.
-fn read_alignment(pc: u32, text: &[u8]) -> Result<Item<'_>, AsmKind>
-    ensures item { Reads result (as_text (and_then (one_number 12 text.now) (λ n. Ok (Zeros (padding pc (2 ^ n)))))) }
-    ensures sound { IfOk result (λ item. IsSound item) }
+fn read_alignment(pc: u32, text: &[u8]) -> Result<SourceItem<'_>, AsmKind>
+    ensures item { ReadsItem result (as_text (and_then (one_number 12 text.now) (λ n. Ok (Zeros (padding pc (2 ^ n)))))) }
+    ensures sound { IfOk result (λ item. IsSoundStatement item) }
 {
-    Ok(Item::Zeros(padding(pc, one_number(12, text)?)))
+    Ok(SourceItem::Zeros(padding(pc, one_number(12, text)?)))
 }
 
 #[tactic(auto, unfolding(crate::specs::Reading::string_read), using(crate::proofs::Shorter::parts))]
-fn read_string(zero: bool, text: &[u8]) -> Result<Item<'_>, AsmKind>
+fn read_string(zero: bool, text: &[u8]) -> Result<SourceItem<'_>, AsmKind>
     requires { length text.now ≤ 1048576 }
-    ensures item { Reads result (string_read zero text.now) }
-    ensures sound { IfOk result (λ item. IsSound item) }
+    ensures item { ReadsItem result (string_read zero text.now) }
+    ensures sound { IfOk result (λ item. IsSoundStatement item) }
 {
     let text = trim(text);
     match string_len(text) {
-        Some(_) => Ok(Item::Chars(text, zero)),
+        Some(_) => Ok(SourceItem::Chars(text, zero)),
         None => Err(AsmKind::BadString),
     }
 }
 
 /// What a directive at an address stands for.
 #[tactic(auto, unfolding(crate::specs::Reading::directive_read))]
-fn read_directive(directive: Directive, pc: u32, text: &[u8]) -> Result<Item<'_>, AsmKind>
+fn read_directive(directive: Directive, pc: u32, text: &[u8]) -> Result<SourceItem<'_>, AsmKind>
     requires { length text.now ≤ 1048576 }
-    ensures item { Reads result (directive_read directive pc text.now) }
-    ensures sound { IfOk result (λ item. IsSound item) }
+    ensures item { ReadsItem result (directive_read directive pc text.now) }
+    ensures sound { IfOk result (λ item. IsSoundStatement item) }
 {
     match directive {
         Directive::Text => read_section(true, text),
@@ -125,12 +125,12 @@ fn read_directive(directive: Directive, pc: u32, text: &[u8]) -> Result<Item<'_>
 
 /// What an instruction at an address stands for.
 #[tactic(auto, unfolding(crate::specs::Reading::instruction_read), using(crate::proofs::Statements::statements))]
-fn read_instruction(mnemonic: Mnemonic, pc: u32, text: &[u8]) -> Result<Item<'_>, TextErr>
-    ensures item { Reads result (instruction_read mnemonic pc text.now) }
-    ensures sound { IfOk result (λ item. IsSound item) }
+fn read_instruction(mnemonic: Mnemonic, pc: u32, text: &[u8]) -> Result<SourceItem<'_>, TextErr>
+    ensures item { ReadsItem result (instruction_read mnemonic pc text.now) }
+    ensures sound { IfOk result (λ item. IsSoundStatement item) }
 {
     match read_statement_of(mnemonic, text)? {
-        Statement::Whole(instr) => Ok(Item::Single(instr)),
+        Statement::Whole(instr) => Ok(SourceItem::Single(instr)),
         Statement::Aimed(jump, target) => jumped(jump, pc, target),
     }
 }
@@ -147,10 +147,10 @@ fn unknown(name: &[u8]) -> AsmKind
 
 /// What operands stand for after a name.
 #[tactic(auto, unfolding(crate::specs::Reading::named_read))]
-fn read_named<'a>(name: &[u8], pc: u32, text: &'a [u8]) -> Result<Item<'a>, AsmKind>
+fn read_named<'a>(name: &[u8], pc: u32, text: &'a [u8]) -> Result<SourceItem<'a>, AsmKind>
     requires { length text.now ≤ 1048576 }
-    ensures item { Reads result (named_read name.now pc text.now) }
-    ensures sound { IfOk result (λ item. IsSound item) }
+    ensures item { ReadsItem result (named_read name.now pc text.now) }
+    ensures sound { IfOk result (λ item. IsSoundStatement item) }
 {
     if let Some(directive) = Directive::named(name) {
         return read_directive(directive, pc, text);
@@ -166,13 +166,13 @@ fn read_named<'a>(name: &[u8], pc: u32, text: &'a [u8]) -> Result<Item<'a>, AsmK
 
 /// What a statement at an address stands for.
 #[tactic(auto, unfolding(crate::specs::Reading::statement_read), using(crate::proofs::Shorter::parts))]
-pub fn read_statement(pc: u32, text: &[u8]) -> Result<Item<'_>, AsmKind>
+pub fn read_statement(pc: u32, text: &[u8]) -> Result<SourceItem<'_>, AsmKind>
     requires { length text.now ≤ 1048576 }
-    ensures item { Reads result (statement_read pc text.now) }
-    ensures sound { IfOk result (λ item. IsSound item) }
+    ensures item { ReadsItem result (statement_read pc text.now) }
+    ensures sound { IfOk result (λ item. IsSoundStatement item) }
 {
     if trim(text).is_empty() {
-        return Ok(Item::Nothing);
+        return Ok(SourceItem::Nothing);
     }
     let (name, after) = split_name(text);
     read_named(name, pc, after)

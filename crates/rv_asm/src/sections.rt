@@ -2,17 +2,17 @@
 
 ghost use Rattle.std.specs.Prelude.{◌≡◌, ◌≤◌, ◌⊎◌, ◌++◌, length, Ok, Err, IfOk, IfErr, OnOk, if◌then◌else◌};
 ghost use Rattle.rv_text.specs.Lines.{text_lines};
-ghost use Rattle.rv_asm.specs.Places.{IsPlace};
+ghost use Rattle.rv_asm.specs.Places.{IsPlaceInLimits};
 ghost use Rattle.rv_asm.specs.Assembling.{marked, empty, sections_from};
 ghost use Rattle.rv_asm.specs.Spelling.{IsRefusal};
 ghost use Rattle.rv_asm.specs.Filling.{line_pieces, IsFilled, Outputs};
 ghost use Rattle.rv_asm.specs.Seen.{seen};
 
 use crate::draft::item_at;
-use crate::item::Item;
+use crate::item::SourceItem;
 use crate::label_table::LabelTable;
 use crate::pieces::item_bytes;
-use crate::place::Place;
+use crate::place::SectionPlace;
 use crate::refusal::{AsmErr, AsmKind};
 use crate::scanning::{said, statement_in};
 use rv_text::cut_line;
@@ -21,17 +21,17 @@ use std::alloc::{AllocError, Global};
 /// What stands in the sections above a line.
 #[derive(Drop)]
 pub struct Output {
-    pub place: Place,
+    pub place: SectionPlace,
     pub text: Vec<u8>,
     pub data: Vec<u8>,
     pub labels: LabelTable,
 }
 
 /// Marks the label that an item exports.
-fn mark(labels: &mut LabelTable, item: Item<'_>)
+fn mark(labels: &mut LabelTable, item: SourceItem<'_>)
     ensures { labels.new ≡ marked labels.old (seen item.entry) }
 {
-    if let Item::Export(name) = item {
+    if let SourceItem::Export(name) = item {
         labels.export(name);
     }
 }
@@ -53,11 +53,11 @@ impl Output {
     /// Reads a line that says this, and goes on after it.
     #[tactic(auto, unfolding(crate::specs::Filling::line_pieces))]
     fn read(&mut self, alloc: Global, text: &[u8]) -> Result<(), AsmKind>
-        requires place { IsPlace self.old.place }
+        requires place { IsPlaceInLimits self.old.place }
         requires text { length text.now ≤ 1048576 }
         ensures ok { OnOk result (IsFilled self.old text.now self.new) }
         ensures err { IfErr result (λ kind. IsRefusal kind (line_pieces self.old.labels self.old.place text.now)) }
-        ensures place { OnOk result (IsPlace self.new.place) }
+        ensures place { OnOk result (IsPlaceInLimits self.new.place) }
     {
         let item = item_at(self.place, statement_in(text))?;
         let bytes = item_bytes(alloc, &self.labels, self.place.address(), item)?;
@@ -75,7 +75,7 @@ pub fn second_look(alloc: Global, source: &[u8], labels: LabelTable) -> Result<O
     ensures err { IfErr result (λ e. (e.kind ≡ AsmKind.NoMemory) ⊎ (sections_from 0 (empty labels) (text_lines source.now) ≡ Err e)) }
 {
     let mut out = Output {
-        place: Place::start(),
+        place: SectionPlace::start(),
         text: Vec::new(alloc),
         data: Vec::new(alloc),
         labels,

@@ -22,13 +22,13 @@ use Rattle.rv_machine.specs.Outcome.{Outcome, Next, Trap, Exit}
 use Rattle.rv_machine.specs.Call.{call}
 use Rattle.rv_machine.specs.Streams.{Streams}
 use Rattle.rv_machine.specs.Step.{beside, retire, compute, access_memory, pass, synchronize, synchronizes, environment, serial, execute, interpret, step_on}
-use Rattle.rv_machine.specs.Acts.{Does, Acts, Steps, Serves}
-use Rattle.rv_machine.proofs.Told.{some_rest, rest-told, rest-spent, stays}
+use Rattle.rv_machine.specs.Acts.{HartDoes, Acts, Steps, Serves}
+use Rattle.rv_machine.proofs.InputKnown.{some_rest, rest-told, rest-spent, stays}
 
 -- an outcome of the hart alone
 alone : (o : Outcome Hart) (calls : Type 0) (outcome : List ℕ → Outcome Machine) (old new : Hart)
     (s : Streams) (result : Stepped) →
-    outcome (some_rest s.input) ≡ beside (some_rest s.input) [] o → Does o old new result →
+    outcome (some_rest s.input) ≡ beside (some_rest s.input) [] o → HartDoes o old new result →
     Acts calls outcome old new s s result
 unfolding Acts
 alone (Next h line) calls outcome old new s result is does =
@@ -65,7 +65,7 @@ alone (Exit status) calls outcome old new s result is does =
 -- an outcome that is the hart's own, whatever the input has left
 acts-alone : (calls : Type 0) (outcome : List ℕ → Outcome Machine) (o : Outcome Hart)
     (old new : Hart) (s : Streams) (result : Stepped) →
-    ((rest : List ℕ) → outcome rest ≡ beside rest [] o) → Does o old new result →
+    ((rest : List ℕ) → outcome rest ≡ beside rest [] o) → HartDoes o old new result →
     Acts calls outcome old new s s result
 acts-alone calls outcome o old new s result is does =
     alone o calls outcome old new s result (is (some_rest s.input)) does
@@ -131,14 +131,14 @@ executed class.Div h word i a rest = refl
 
 -- an instruction that computes
 pub acts-computing : (word : ℕ) (i : Instr) (h new : Hart) (s : Streams) (result : Stepped) →
-    IsTrue (computes (class_of i)) → Does (compute h word i) h new result →
+    IsTrue (computes (class_of i)) → HartDoes (compute h word i) h new result →
     Acts (i ≡ instr.Ecall) (λ rest. execute (class_of i) h rest word i) h new s s result
 acts-computing word i h new s result a does =
     acts-alone _ _ (compute h word i) h new s result (executed (class_of i) h word i a) does
 
 -- loads and stores
 pub acts-accessing : (word : ℕ) (i : Instr) (h new : Hart) (s : Streams) (result : Stepped) →
-    class_of i ≡ class.Memory → Does (access_memory h word i) h new result →
+    class_of i ≡ class.Memory → HartDoes (access_memory h word i) h new result →
     Acts (i ≡ instr.Ecall) (λ rest. execute (class_of i) h rest word i) h new s s result
 unfolding execute
 acts-accessing word i h new s result e does =
@@ -146,7 +146,7 @@ acts-accessing word i h new s result e does =
 
 -- FENCE and EBREAK
 pub acts-passing : (word : ℕ) (i : Instr) (h new : Hart) (s : Streams) (result : Stepped) →
-    class_of i ≡ class.Free → Does (pass h word i) h new result →
+    class_of i ≡ class.Free → HartDoes (pass h word i) h new result →
     Acts (i ≡ instr.Ecall) (λ rest. execute (class_of i) h rest word i) h new s s result
 unfolding execute
 acts-passing word i h new s result e does =
@@ -163,7 +163,7 @@ acts-serially word i h new before after result e acts =
 
 -- FENCE.I
 pub acts-synchronizing : (word : ℕ) (i : Instr) (h new : Hart) (s : Streams) (result : Stepped) →
-    synchronizes i ≡ true → Does (synchronize h word) h new result →
+    synchronizes i ≡ true → HartDoes (synchronize h word) h new result →
     Acts (i ≡ instr.Ecall) (λ rest. serial h rest word i) h new s s result
 unfolding serial
 acts-synchronizing word i h new s result e does =
@@ -186,7 +186,7 @@ acts-calling word i h new before after result s e acts =
 pub acts-answered : (word value next : ℕ) (h new : Hart) (mem : Memory) (before after : Streams)
     (result : Stepped) → Serves h.regs h.mem mem before after (served.Value value) →
     next ≡ word_sum h.pc 4 →
-    Does (retire (record h { mem = mem }) word next 10 value) (record h { mem = mem }) new result →
+    HartDoes (retire (record h { mem = mem }) word next 10 value) (record h { mem = mem }) new result →
     Acts (Unit {0}) (λ rest. environment h word (call h.regs h.mem rest)) h new before after result
 unfolding retire Acts Serves
 acts-answered word value next h new mem before after result returns following does =

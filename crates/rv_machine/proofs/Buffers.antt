@@ -10,7 +10,7 @@ use Rattle.mem_regions.specs.Memory.{Memory}
 use Rattle.mem_regions.specs.Ranges.{lies_in, writes_in, bytes_in, writable_of}
 use Rattle.mem_regions.specs.Writing.{overwritten, area_with, first_changed, memory_with}
 use Rattle.mem_regions.proofs.Writes.{writes-lies}
-use Rattle.rv_machine.specs.Streams.{Gives}
+use Rattle.rv_machine.specs.Streams.{GivesInput}
 use Rattle.rv_machine.specs.Buffers.{TakesInto, Fills, FillsSome}
 
 -- a part and what comes after it are the part's front and what comes after that, where the part has the old bytes after its front
@@ -83,7 +83,7 @@ memory_with-front mem addr len n old new h size some same =
 
 -- what is told of an input whose first bytes were taken
 front-gives : (left after : Option (List ℕ)) (new : List ℕ) (n : ℕ) →
-    GivesFront left after new n → Gives left after (take n new)
+    GivesFront left after new n → GivesInput left after (take n new)
 front-gives None after new n gives = tt
 front-gives (Some told) after new n gives =
     (drop n told, rw gives.1 (sym (take-append-drop n told)), gives.2)

@@ -11,10 +11,10 @@ use Rattle.mem_regions.specs.Writing.{memory_with}
 use Rattle.rv_machine.specs.declared.outcome.Served.{Served}
 use Rattle.rv_machine.specs.declared.outcome.Served.TheVariants as served
 use Rattle.rv_machine.specs.Call.{Called, Value, Exit, answered, bad_file, bad_address, no_such_call, read, read_into, write, write_from, is_output, brk, with_break, is_exit, call, number_in, first_argument, second_argument, third_argument, asks_input, asks_output}
-use Rattle.rv_machine.specs.Streams.{Streams, streams_of, IsTold, Leaves, IsSpent, Gives}
+use Rattle.rv_machine.specs.Streams.{Streams, streams_of, IsTold, Leaves, IsSpent, GivesInput}
 use Rattle.rv_machine.specs.Buffers.{Fills, FillsSome}
 use Rattle.rv_machine.specs.Acts.{Serves}
-use Rattle.rv_machine.proofs.Told.{some_rest, rest-told, rest-spent, stays}
+use Rattle.rv_machine.proofs.InputKnown.{some_rest, rest-told, rest-spent, stays}
 
 -- an answer that asks nothing of the streams
 serves-plain : (regs : List ℕ) (mem new : Memory) (s : Streams) (value : ℕ) →
@@ -96,7 +96,7 @@ record Finds (left after : Option (List ℕ)) (len : ℕ) (taken : List ℕ) : T
   pub count : min len (length (taken ++ later)) ≡ length taken
 
 finds : (left after : Option (List ℕ)) (len : ℕ) (taken : List ℕ) → length taken ≤ len →
-    Gives left after taken → TakesMost left len (length taken) → Finds left after len taken
+    GivesInput left after taken → TakesMost left len (length taken) → Finds left after len taken
 finds None after len taken fits gives most = record {
   later = [];
   told = tt;

@@ -6,4 +6,4 @@ pub mod Finding
 pub mod Keeping
 pub mod Leaving
 pub mod Sets
-pub mod Told
+pub mod InputKnown

@@ -20,10 +20,10 @@ use Rattle.rv_machine.specs.Streams.{Streams, IsTold, Leaves, IsSpent}
 use Rattle.rv_machine.specs.Faults.{FailsReading, FailsWriting}
 
 -- the hart did this, which asks nothing of the streams
-abbrev pub Does : Outcome Hart → Hart → Hart → Stepped → Type 0
-Does (Next h line) old new result = (new ≡ h) × (result ≡ stepped.Next line)
-Does (Trap cause pc detail) old new result = (new ≡ old) × (result ≡ stepped.Trap cause pc detail)
-Does (Exit status) old new result = (new ≡ old) × (result ≡ stepped.Exit status)
+abbrev pub HartDoes : Outcome Hart → Hart → Hart → Stepped → Type 0
+HartDoes (Next h line) old new result = (new ≡ h) × (result ≡ stepped.Next line)
+HartDoes (Trap cause pc detail) old new result = (new ≡ old) × (result ≡ stepped.Trap cause pc detail)
+HartDoes (Exit status) old new result = (new ≡ old) × (result ≡ stepped.Exit status)
 
 -- an instruction retired: the outcome is this on some input that agrees with what is told
 pub record Retires (outcome : List ℕ → Outcome Machine) (new : Hart) (before after : Streams)
@@ -37,7 +37,7 @@ pub record Retires (outcome : List ℕ → Outcome Machine) (new : Hart) (before
   pub spent : IsSpent before.input next.rest
 
 -- a trap or an exit, which leaves all as it was: the outcome is this on some input that agrees with what is told
-pub record Stops (outcome : List ℕ → Outcome Machine) (end : Outcome Machine) (old new : Hart)
+pub record StopsUnchanged (outcome : List ℕ → Outcome Machine) (end : Outcome Machine) (old new : Hart)
     (before after : Streams) : Type 0 where
   pub rest : List ℕ
   pub told : IsTold before.input rest
@@ -50,9 +50,9 @@ unfoldable pub Acts : Type 0 → (List ℕ → Outcome Machine) → Hart → Har
     Stepped → Type 0
 Acts calls outcome old new before after (stepped.Next line) = Retires outcome new before after line
 Acts calls outcome old new before after (stepped.Trap cause pc detail) =
-    Stops outcome (Trap cause pc detail) old new before after
+    StopsUnchanged outcome (Trap cause pc detail) old new before after
 Acts calls outcome old new before after (stepped.Exit status) =
-    Stops outcome (Exit status) old new before after
+    StopsUnchanged outcome (Exit status) old new before after
 Acts calls outcome old new before after stepped.ReadFault =
     calls × FailsReading old.regs old.mem new.mem before after
     × (new ≡ record old { mem = new.mem })
@@ -103,9 +103,9 @@ Serves regs mem new before after served.WriteFault =
     FailsWriting regs mem before after × (new ≡ mem)
 
 -- the count is one higher where an instruction retired, and the same otherwise
-abbrev pub Counts : ℕ → ℕ → Stepped → Type 0
-Counts before now (stepped.Next line) = now ≡ before + 1
-Counts before now (stepped.Trap cause pc detail) = now ≡ before
-Counts before now (stepped.Exit status) = now ≡ before
-Counts before now stepped.ReadFault = now ≡ before
-Counts before now stepped.WriteFault = now ≡ before
+abbrev pub RetiredCounted : ℕ → ℕ → Stepped → Type 0
+RetiredCounted before now (stepped.Next line) = now ≡ before + 1
+RetiredCounted before now (stepped.Trap cause pc detail) = now ≡ before
+RetiredCounted before now (stepped.Exit status) = now ≡ before
+RetiredCounted before now stepped.ReadFault = now ≡ before
+RetiredCounted before now stepped.WriteFault = now ≡ before

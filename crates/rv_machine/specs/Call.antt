@@ -6,7 +6,7 @@ use Rattle.mem_regions.specs.Writing.{memory_with}
 use Rattle.rv_inst.specs.Words.{word_of}
 
 -- what a call answers, the memory and the input that it leaves, and the bytes that it adds to the output
-pub record Answer : Type 0 where
+pub record CallAnswer : Type 0 where
   pub value : ℕ
   pub mem : Memory
   pub rest : List ℕ
@@ -14,7 +14,7 @@ pub record Answer : Type 0 where
 
 -- a call answers, or it ends the program
 pub data Called : Type 0 where
-  Value : Answer → Called
+  Value : CallAnswer → Called
   Exit : ℕ → Called
 
 -- the number of the call that the registers ask for, and its arguments

@@ -31,6 +31,6 @@ IsSpent None rest = rest ≡ []
 IsSpent (Some told) rest = Unit {0}
 
 -- where the input tells what it has left: these were the first bytes that it had left, and the others are left now
-abbrev pub Gives : Option (List ℕ) → Option (List ℕ) → List ℕ → Type 0
-Gives None after taken = Unit {0}
-Gives (Some told) after taken = (rest : List ℕ) × (told ≡ taken ++ rest) × (after ≡ Some rest)
+abbrev pub GivesInput : Option (List ℕ) → Option (List ℕ) → List ℕ → Type 0
+GivesInput None after taken = Unit {0}
+GivesInput (Some told) after taken = (rest : List ℕ) × (told ≡ taken ++ rest) × (after ≡ Some rest)

@@ -4,7 +4,7 @@ ghost use Rattle.std.specs.Prelude.{◌≡◌, ◌+◌, ◌<◌, ◌^◌, false}
 ghost use Rattle.cf_io.specs.Causes.{HasCause};
 ghost use Rattle.rv_inst.specs.Operands.{class_of as class_name};
 ghost use Rattle.rv_machine.specs.Streams.{streams_of};
-ghost use Rattle.rv_machine.specs.Acts.{Acts, Does, Counts};
+ghost use Rattle.rv_machine.specs.Acts.{Acts, HartDoes, RetiredCounted};
 ghost use Rattle.rv_machine.specs.Call.{call, asks_input, asks_output};
 ghost use Rattle.rv_machine.specs.Faults.{input_stepped, output_stepped};
 ghost use Rattle.rv_machine.specs.Step.{synchronize as synchronization, environment, serial as serial_step, synchronizes as is_synchronizing};
@@ -29,8 +29,8 @@ impl Machine {
     #[tactic(auto, using(crate::proofs::Keeping::still), unfolding(crate::specs::Step::retire, crate::specs::Step::synchronize))]
     fn synchronize(&mut self, word: u32) -> Stepped
         requires count { self.old.retired + 1 < 2 ^ 64 }
-        ensures does { Does (synchronization self.old word) self.old self.new result }
-        ensures count { Counts self.old.retired self.new.retired result }
+        ensures does { HartDoes (synchronization self.old word) self.old self.new result }
+        ensures count { RetiredCounted self.old.retired self.new.retired result }
     {
         self.mem.sync_code();
         self.cache.clear();
@@ -51,7 +51,7 @@ impl Machine {
             self.old self.new
             (streams_of (S.left input.old) (K.written output.old))
             (streams_of (S.left input.new) (K.written output.new)) result }
-        ensures count { Counts self.old.retired self.new.retired result }
+        ensures count { RetiredCounted self.old.retired self.new.retired result }
         ensures input { HasCause (S.faults input.old) (S.faults input.new) (input_stepped result) }
         ensures output { HasCause (K.faults output.old) (K.faults output.new) (output_stepped result) }
         ensures input_asked { asks_input self.old.regs self.old.mem ≡ false → input.new ≡ input.old }
@@ -79,7 +79,7 @@ impl Machine {
         ensures acts { Acts (i ≡ Instr.Ecall) (λ rest. serial_step self.old rest word i) self.old self.new
             (streams_of (S.left input.old) (K.written output.old))
             (streams_of (S.left input.new) (K.written output.new)) result }
-        ensures count { Counts self.old.retired self.new.retired result }
+        ensures count { RetiredCounted self.old.retired self.new.retired result }
         ensures input { HasCause (S.faults input.old) (S.faults input.new) (input_stepped result) }
         ensures output { HasCause (K.faults output.old) (K.faults output.new) (output_stepped result) }
         ensures input_asked { (i ≡ Instr.Ecall → asks_input self.old.regs self.old.mem ≡ false) → input.new ≡ input.old }

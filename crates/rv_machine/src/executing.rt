@@ -8,7 +8,7 @@ ghost use Rattle.rv_inst.specs.Ranges.{Fits};
 ghost use Rattle.rv_inst.specs.Accesses.{is_load};
 ghost use Rattle.rv_inst.specs.Operands.{class_of as class_name};
 ghost use Rattle.rv_mul.specs.Values.{computes};
-ghost use Rattle.rv_machine.specs.Acts.{Does, Counts};
+ghost use Rattle.rv_machine.specs.Acts.{HartDoes, RetiredCounted};
 ghost use Rattle.rv_machine.specs.Step.{with_register, retire as retirement, first_value, second_value, compute as computation, loads, stores, access_memory as memory_access, pass as passing, breaks as is_breaking};
 
 use crate::machine::Machine;
@@ -42,8 +42,8 @@ impl Machine {
     pub(crate) fn retire(&mut self, word: u32, next: u32, reg: u8, value: u32) -> Stepped
         requires register { reg < 32 }
         requires count { self.old.retired + 1 < 2 ^ 64 }
-        ensures does { Does (retirement self.old word next reg value) self.old self.new result }
-        ensures count { Counts self.old.retired self.new.retired result }
+        ensures does { HartDoes (retirement self.old word next reg value) self.old self.new result }
+        ensures count { RetiredCounted self.old.retired self.new.retired result }
     {
         let pc = self.pc;
         write_register(&mut self.regs, reg, value);
@@ -87,8 +87,8 @@ impl Machine {
         requires fits { Fits i }
         requires computing { IsTrue (computes (class_name i)) }
         requires count { self.old.retired + 1 < 2 ^ 64 }
-        ensures does { Does (computation self.old word i) self.old self.new result }
-        ensures count { Counts self.old.retired self.new.retired result }
+        ensures does { HartDoes (computation self.old word i) self.old self.new result }
+        ensures count { RetiredCounted self.old.retired self.new.retired result }
     {
         let (a, b) = self.source_values(i);
         let next = next_of(i, self.pc, a, b);
@@ -105,10 +105,10 @@ impl Machine {
         requires load { IsTrue (is_load i) }
         requires width { IsWidth access.width }
         requires count { self.old.retired + 1 < 2 ^ 64 }
-        ensures does { Does
+        ensures does { HartDoes
             (loads self.old word i access.addr (load_at self.old.mem access.addr access.width))
             self.old self.new result }
-        ensures count { Counts self.old.retired self.new.retired result }
+        ensures count { RetiredCounted self.old.retired self.new.retired result }
     {
         match self.mem.load_number(access.addr, access.width) {
             Ok(raw) => self.retire(word, self.pc.wrapping_add(4), dest(i), extend(i, raw)),
@@ -123,11 +123,11 @@ impl Machine {
     fn store(&mut self, word: u32, access: Access) -> Stepped
         requires width { IsWidth access.width }
         requires count { self.old.retired + 1 < 2 ^ 64 }
-        ensures does { Does
+        ensures does { HartDoes
             (stores self.old word access
             (permits_at (bounds_of self.old.mem) access.addr access.width true))
             self.old self.new result }
-        ensures count { Counts self.old.retired self.new.retired result }
+        ensures count { RetiredCounted self.old.retired self.new.retired result }
     {
         match self.mem.store(access.addr, access.width, access.value) {
             Ok(()) => self.retire(word, self.pc.wrapping_add(4), 0, 0),
@@ -142,8 +142,8 @@ impl Machine {
         requires fits { Fits i }
         requires memory { class_name i ≡ Class.Memory }
         requires count { self.old.retired + 1 < 2 ^ 64 }
-        ensures does { Does (memory_access self.old word i) self.old self.new result }
-        ensures count { Counts self.old.retired self.new.retired result }
+        ensures does { HartDoes (memory_access self.old word i) self.old self.new result }
+        ensures count { RetiredCounted self.old.retired self.new.retired result }
     {
         let (a, b) = self.source_values(i);
         let access = access_of(i, a, b);
@@ -158,8 +158,8 @@ impl Machine {
     #[inline(always)]
     pub(crate) fn pass(&mut self, word: u32, i: Instr) -> Stepped
         requires count { self.old.retired + 1 < 2 ^ 64 }
-        ensures does { Does (passing self.old word i) self.old self.new result }
-        ensures count { Counts self.old.retired self.new.retired result }
+        ensures does { HartDoes (passing self.old word i) self.old self.new result }
+        ensures count { RetiredCounted self.old.retired self.new.retired result }
     {
         if breaks(i) {
             self.trap(3, self.pc)

@@ -7,7 +7,7 @@ ghost use Rattle.rv_inst.specs.Decoding.{decoded_as, decoded_m};
 ghost use Rattle.rv_inst.specs.Operands.{class_of as class_name};
 ghost use Rattle.rv_machine.specs.Decoded.{found_at, is_instruction, trap_of};
 ghost use Rattle.rv_machine.specs.Streams.{streams_of};
-ghost use Rattle.rv_machine.specs.Acts.{Acts, Steps, Counts, CallsHere};
+ghost use Rattle.rv_machine.specs.Acts.{Acts, Steps, RetiredCounted, CallsHere};
 ghost use Rattle.rv_machine.specs.Call.{asks_input, asks_output};
 ghost use Rattle.rv_machine.specs.Faults.{input_stepped, output_stepped};
 ghost use Rattle.rv_machine.specs.Step.{execute as execution, interpret as interpretation};
@@ -59,7 +59,7 @@ impl Machine {
             (λ rest. execution (class_name i) self.old rest word i) self.old self.new
             (streams_of (S.left input.old) (K.written output.old))
             (streams_of (S.left input.new) (K.written output.new)) result }
-        ensures count { Counts self.old.retired self.new.retired result }
+        ensures count { RetiredCounted self.old.retired self.new.retired result }
         ensures input { HasCause (S.faults input.old) (S.faults input.new) (input_stepped result) }
         ensures output { HasCause (K.faults output.old) (K.faults output.new) (output_stepped result) }
         ensures input_asked { (i ≡ Instr.Ecall → asks_input self.old.regs self.old.mem ≡ false) → input.new ≡ input.old }
@@ -100,7 +100,7 @@ impl Machine {
             (λ rest. interpretation self.old rest word (decoded_as isa word)) self.old self.new
             (streams_of (S.left input.old) (K.written output.old))
             (streams_of (S.left input.new) (K.written output.new)) result }
-        ensures count { Counts self.old.retired self.new.retired result }
+        ensures count { RetiredCounted self.old.retired self.new.retired result }
         ensures input { HasCause (S.faults input.old) (S.faults input.new) (input_stepped result) }
         ensures output { HasCause (K.faults output.old) (K.faults output.new) (output_stepped result) }
         ensures input_asked { (decoded_as isa word ≡ Some Instr.Ecall → asks_input self.old.regs self.old.mem ≡ false) → input.new ≡ input.old }
@@ -127,7 +127,7 @@ impl Machine {
         ensures steps { Steps isa self.old self.new
             (streams_of (S.left input.old) (K.written output.old))
             (streams_of (S.left input.new) (K.written output.new)) result }
-        ensures count { Counts self.old.retired self.new.retired result }
+        ensures count { RetiredCounted self.old.retired self.new.retired result }
         ensures input { HasCause (S.faults input.old) (S.faults input.new) (input_stepped result) }
         ensures output { HasCause (K.faults output.old) (K.faults output.new) (output_stepped result) }
         ensures input_asked { (CallsHere isa self.old → asks_input self.old.regs self.old.mem ≡ false) → input.new ≡ input.old }
@@ -151,7 +151,7 @@ impl Machine {
         ensures steps { Steps Isa.Rv32i self.old self.new
             (streams_of (S.left input.old) (K.written output.old))
             (streams_of (S.left input.new) (K.written output.new)) result }
-        ensures count { Counts self.old.retired self.new.retired result }
+        ensures count { RetiredCounted self.old.retired self.new.retired result }
         ensures input { HasCause (S.faults input.old) (S.faults input.new) (input_stepped result) }
         ensures output { HasCause (K.faults output.old) (K.faults output.new) (output_stepped result) }
         ensures input_asked { (CallsHere Isa.Rv32i self.old → asks_input self.old.regs self.old.mem ≡ false) → input.new ≡ input.old }
@@ -167,7 +167,7 @@ impl Machine {
         ensures steps { Steps Isa.Rv32im self.old self.new
             (streams_of (S.left input.old) (K.written output.old))
             (streams_of (S.left input.new) (K.written output.new)) result }
-        ensures count { Counts self.old.retired self.new.retired result }
+        ensures count { RetiredCounted self.old.retired self.new.retired result }
         ensures input { HasCause (S.faults input.old) (S.faults input.new) (input_stepped result) }
         ensures output { HasCause (K.faults output.old) (K.faults output.new) (output_stepped result) }
         ensures input_asked { (CallsHere Isa.Rv32im self.old → asks_input self.old.regs self.old.mem ≡ false) → input.new ≡ input.old }

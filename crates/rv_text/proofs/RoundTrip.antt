@@ -1,4 +1,4 @@
--- Reading what was written gives the instruction back.
+-- LineReading what was written gives the instruction back.
 use Rattle.std.proofs.Common.{◌≡◌, ℕ, ◌+◌, ◌-◌, ◌%◌, ◌^◌, ◌<◌, ◌≤◌, ◌≤ℤ◌, ◌<ℤ◌, Bool, true, false, List, [], ◌∷◌, ◌++◌, refl, ◌∙◌, ap, arith, Ok, ℤ, pos, negsuc, lit<, lit≤}
 use Rattle.std.specs.Prelude.{codes, nat_eq, ◌==◌, ◌&&◌, if◌then◌else◌, Result}
 use Rattle.std.specs.Int.{w32}
@@ -26,7 +26,7 @@ use Rattle.rv_text.specs.Pieces.{operand_count}
 use Rattle.rv_text.specs.Fields.{and_then}
 use Rattle.texts.specs.Hexadecimal.{hex8}
 use Rattle.rv_text.specs.Writing.{hexadecimal, register_text, operand_text, listed, text_of}
-use Rattle.rv_text.specs.Reading.{distance_of, is_distance, aimed, Reading, AimedAt, aimed_at, placed, takes, upper_form, address_form, immediate_form, register_form, set_form, fence_form, whole, jump_form, branch_form, operands_read, statement_by, statement_of, read_text}
+use Rattle.rv_text.specs.LineReading.{distance_of, is_distance, aimed, LineReading, AimedAt, aimed_at, placed, takes, upper_form, address_form, immediate_form, register_form, set_form, fence_form, whole, jump_form, branch_form, operands_read, statement_by, statement_of, read_text}
 use Rattle.rv_text.proofs.Solid.{IsSolid, IsCut, cut_alone, cut_before, two_operands, three_operands, no_operands, two_end, three_end}
 use Rattle.rv_text.proofs.Named.{all_named}
 use Rattle.rv_text.proofs.Written.{number_of-target, register_solid, target_solid, upper_solid, signed_solid}
@@ -170,7 +170,7 @@ unfolding aimed
 branch_back c rs1 rs2 imm h = rw h.test refl
 
 -- what a text says, and where it stands
-read_as : (text : List ℕ) (pc : ℕ) (found : Result Reading TextErr) → statement_of text ≡ found → read_text text pc ≡ and_then found (placed pc)
+read_as : (text : List ℕ) (pc : ℕ) (found : Result LineReading TextErr) → statement_of text ≡ found → read_text text pc ≡ and_then found (placed pc)
 unfolding read_text
 read_as text pc found e = ap (λ f. and_then f (placed pc)) e
 

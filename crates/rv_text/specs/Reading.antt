@@ -37,9 +37,9 @@ aimed (jump.Link rd) z = if_fits (is_distance (2 ^ 20) z) (instr.Jal rd z) z
 aimed (jump.Branch c rs1 rs2) z = if_fits (is_distance (2 ^ 12) z) (instr.Branch c rs1 rs2 z) z
 
 -- what a line says: an instruction, or a jump or a branch with its target's text
-pub data Reading : Type 0 where
-  WholeOf : Instr → Reading
-  AimedAt : Jump → List ℕ → Reading
+pub data LineReading : Type 0 where
+  WholeOf : Instr → LineReading
+  AimedAt : Jump → List ℕ → LineReading
 
 -- the jump or the branch at `pc` to the address that a text spells
 unfoldable pub aimed_at : Jump → List ℕ → ℕ → Result Instr TextErr
@@ -47,7 +47,7 @@ aimed_at jump text pc =
     and_then (required BadNumber (number_of text)) (λ target. aimed jump (distance_of target pc))
 
 -- the instruction at `pc`
-abbrev pub placed : ℕ → Reading → Result Instr TextErr
+abbrev pub placed : ℕ → LineReading → Result Instr TextErr
 placed pc (WholeOf i) = Ok i
 placed pc (AimedAt jump text) = aimed_at jump text pc
 
@@ -117,23 +117,23 @@ unfoldable pub fence_form : ℕ → List ℕ → Result (ℕ × ℕ × ℕ) Text
 fence_form plain text = if operand_count text == 0 then Ok (0, 0, plain) else set_form text
 
 -- a whole instruction, made of what was found
-abbrev pub whole : {A : Type 0} → (A → Instr) → Result A TextErr → Result Reading TextErr
+abbrev pub whole : {A : Type 0} → (A → Instr) → Result A TextErr → Result LineReading TextErr
 whole make found = and_then found (λ a. Ok (WholeOf (make a)))
 
 -- a destination, and a target
-unfoldable pub jump_form : List ℕ → Result Reading TextErr
+unfoldable pub jump_form : List ℕ → Result LineReading TextErr
 jump_form text =
     and_then (register_in (operand_at text 0)) (λ rd. Ok (AimedAt (jump.Link rd) (operand_at text 1)))
 
 -- two registers, and a target
-unfoldable pub branch_form : Cond → List ℕ → Result Reading TextErr
+unfoldable pub branch_form : Cond → List ℕ → Result LineReading TextErr
 branch_form c text =
     and_then (register_in (operand_at text 0)) (λ rs1.
     and_then (register_in (operand_at text 1)) (λ rs2.
     Ok (AimedAt (jump.Branch c rs1 rs2) (operand_at text 2))))
 
 -- what the operands of a mnemonic say, read from left to right; a store's first register is the one that is stored
-unfoldable pub operands_read : Mnemonic → List ℕ → Result Reading TextErr
+unfoldable pub operands_read : Mnemonic → List ℕ → Result LineReading TextErr
 operands_read Lui text = whole (λ (rd, imm). instr.Lui rd imm) (upper_form text)
 operands_read Auipc text = whole (λ (rd, imm). instr.Auipc rd imm) (upper_form text)
 operands_read Jal text = jump_form text
@@ -154,13 +154,13 @@ abbrev pub counted : ℕ → ℕ
 counted count = min count (2 ^ 32 - 1)
 
 -- what the text after a name says: first the operands are counted
-unfoldable pub statement_by : Mnemonic → List ℕ → Result Reading TextErr
+unfoldable pub statement_by : Mnemonic → List ℕ → Result LineReading TextErr
 statement_by mnemonic text =
     if takes mnemonic (operand_count text) then operands_read mnemonic text
     else Err (WrongCount (counted (operand_count text)) (wanted mnemonic))
 
 -- what a text says: first its name is looked up
-unfoldable pub statement_of : List ℕ → Result Reading TextErr
+unfoldable pub statement_of : List ℕ → Result LineReading TextErr
 statement_of text =
     and_then (required UnknownName (mnemonic_named (name_part text)))
     (λ mnemonic. statement_by mnemonic (operand_part text))

@@ -3,13 +3,13 @@ use Rattle.std.specs.Prelude.{◌≡◌, Result, Ok, Err, MatchResult}
 use Rattle.rv_text.specs.declared.statement.Statement.{Statement}
 use Rattle.rv_text.specs.declared.statement.Statement.TheVariants.{Whole, Aimed}
 use Rattle.rv_text.specs.declared.text_err.TextErr.{TextErr}
-use Rattle.rv_text.specs.Reading.{Reading, WholeOf, AimedAt}
+use Rattle.rv_text.specs.LineReading.{LineReading, WholeOf, AimedAt}
 
 -- a statement, with its target's text
-abbrev pub seen : Statement → Reading
+abbrev pub seen : Statement → LineReading
 seen (Whole i) = WholeOf i
 seen (Aimed jump target) = AimedAt jump target.now
 
 -- the result is this answer
-abbrev pub Reads : Result Statement TextErr → Result Reading TextErr → Type 0
-Reads result answer = MatchResult result (λ statement. answer ≡ Ok (seen statement)) (λ e. answer ≡ Err e)
+abbrev pub ReadsStatement : Result Statement TextErr → Result LineReading TextErr → Type 0
+ReadsStatement result answer = MatchResult result (λ statement. answer ≡ Ok (seen statement)) (λ e. answer ≡ Err e)

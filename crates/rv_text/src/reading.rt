@@ -1,9 +1,9 @@
 //! The instruction that a text spells.
-#![tactic(auto, unfolding(crate::specs::Reading::upper_form, crate::specs::Reading::address_form, crate::specs::Reading::immediate_form, crate::specs::Reading::register_form, crate::specs::Reading::set_form, crate::specs::Reading::fence_form, crate::specs::Reading::jump_form, crate::specs::Reading::branch_form, crate::specs::Reading::takes))]
+#![tactic(auto, unfolding(crate::specs::LineReading::upper_form, crate::specs::LineReading::address_form, crate::specs::LineReading::immediate_form, crate::specs::LineReading::register_form, crate::specs::LineReading::set_form, crate::specs::LineReading::fence_form, crate::specs::LineReading::jump_form, crate::specs::LineReading::branch_form, crate::specs::LineReading::takes))]
 
 ghost use Rattle.std.specs.Prelude.{◌≡◌, Ok, Err, MatchResult};
-ghost use Rattle.rv_text.specs.Seen.{Reads};
-ghost use Rattle.rv_text.specs.Reading.{upper_form, address_form, immediate_form, register_form, set_form, fence_form, jump_form, branch_form, operands_read, wanted, is_fence, takes, counted, statement_by, statement_of, aimed_at, read_text};
+ghost use Rattle.rv_text.specs.Seen.{ReadsStatement};
+ghost use Rattle.rv_text.specs.LineReading.{upper_form, address_form, immediate_form, register_form, set_form, fence_form, jump_form, branch_form, operands_read, wanted, is_fence, takes, counted, statement_by, statement_of, aimed_at, read_text};
 
 use crate::fields::{base_in, field_below, immediate_of, offset_in, register_in};
 use crate::mnemonic::Mnemonic;
@@ -68,23 +68,23 @@ fn fence_form(plain: u32, text: &[u8]) -> Result<(u8, u8, u32), TextErr>
 }
 
 fn jump_form(text: &[u8]) -> Result<Statement<'_>, TextErr>
-    ensures { Reads result (jump_form text.now) }
+    ensures { ReadsStatement result (jump_form text.now) }
 {
     let rd = register_in(operand(text, 0))?;
     Ok(Statement::Aimed(Jump::Link(rd), operand(text, 1)))
 }
 
 fn branch_form(cond: Cond, text: &[u8]) -> Result<Statement<'_>, TextErr>
-    ensures { Reads result (branch_form cond text.now) }
+    ensures { ReadsStatement result (branch_form cond text.now) }
 {
     let rs1 = register_in(operand(text, 0))?;
     let rs2 = register_in(operand(text, 1))?;
     Ok(Statement::Aimed(Jump::Branch(cond, rs1, rs2), operand(text, 2)))
 }
 
-#[tactic(auto, unfolding(crate::specs::Reading::operands_read))]
+#[tactic(auto, unfolding(crate::specs::LineReading::operands_read))]
 fn read_operands(mnemonic: Mnemonic, text: &[u8]) -> Result<Statement<'_>, TextErr>
-    ensures { Reads result (operands_read mnemonic text.now) }
+    ensures { ReadsStatement result (operands_read mnemonic text.now) }
 {
     let instr = match mnemonic {
         Mnemonic::Jal => return jump_form(text),
@@ -169,9 +169,9 @@ fn takes(mnemonic: Mnemonic, count: usize) -> bool
 
 /// What the text after a name says: `WrongCount` where the operands are too many or too few, else
 /// the first refusal of an operand from left to right.
-#[tactic(auto, unfolding(crate::specs::Reading::statement_by))]
+#[tactic(auto, unfolding(crate::specs::LineReading::statement_by))]
 pub fn read_statement_of(mnemonic: Mnemonic, text: &[u8]) -> Result<Statement<'_>, TextErr>
-    ensures { Reads result (statement_by mnemonic text.now) }
+    ensures { ReadsStatement result (statement_by mnemonic text.now) }
 {
     let count = count_operands(text);
     if takes(mnemonic, count) {
@@ -185,9 +185,9 @@ pub fn read_statement_of(mnemonic: Mnemonic, text: &[u8]) -> Result<Statement<'_
 
 /// What a text says before its target is read: `UnknownName` where its first word is not an
 /// instruction's name, else as `read_statement_of` of what follows.
-#[tactic(auto, unfolding(crate::specs::Reading::statement_of))]
+#[tactic(auto, unfolding(crate::specs::LineReading::statement_of))]
 pub fn read_statement(text: &[u8]) -> Result<Statement<'_>, TextErr>
-    ensures { Reads result (statement_of text.now) }
+    ensures { ReadsStatement result (statement_of text.now) }
 {
     let (name, after) = split_name(text);
     match Mnemonic::named(name) {
@@ -196,7 +196,7 @@ pub fn read_statement(text: &[u8]) -> Result<Statement<'_>, TextErr>
     }
 }
 
-#[tactic(auto, unfolding(crate::specs::Reading::aimed_at))]
+#[tactic(auto, unfolding(crate::specs::LineReading::aimed_at))]
 fn aim(jump: Jump, target: &[u8], pc: u32) -> Result<Instr, TextErr>
     ensures { result ≡ aimed_at jump target.now pc }
 {
@@ -208,7 +208,7 @@ fn aim(jump: Jump, target: &[u8], pc: u32) -> Result<Instr, TextErr>
 ///
 /// The first refusal is the answer: of the name, of the count of operands, of the operands from
 /// left to right.
-#[tactic(auto, unfolding(crate::specs::Reading::read_text))]
+#[tactic(auto, unfolding(crate::specs::LineReading::read_text))]
 pub fn read_instr(text: &str, pc: u32) -> Result<Instr, TextErr>
     ensures { result ≡ read_text text.now pc }
 {

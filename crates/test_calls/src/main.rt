@@ -7,7 +7,7 @@ mod report;
 mod tally;
 
 use crate::report::judge;
-use crate::tally::Tally;
+use crate::tally::RowTally;
 use cf_io::{DirFiles, Files};
 use test_rows::Sheet;
 use std::process::ExitCode;
@@ -23,7 +23,7 @@ fn run_line(
     number: u64,
     line: &str,
     sheet: &mut Sheet,
-    tally: &mut Tally,
+    tally: &mut RowTally,
 ) -> io::Result<()> {
     if Sheet::begins_row(line) {
         judge(rt, name, sheet, tally)?;
@@ -41,7 +41,7 @@ fn run_lines(
     name: &str,
     text: &str,
     sheet: &mut Sheet,
-    tally: &mut Tally,
+    tally: &mut RowTally,
 ) -> io::Result<()> {
     let mut number = 0u64;
     for line in text.lines() {
@@ -56,7 +56,7 @@ fn run_rows(
     rt: &(impl Print + AllocGlobal),
     name: &str,
     bytes: &[u8],
-    tally: &mut Tally,
+    tally: &mut RowTally,
 ) -> io::Result<()> {
     let text = str::from_utf8(bytes).unwrap_or("");
     if text.is_empty() {
@@ -77,7 +77,7 @@ fn bytes_of(rt: &HostRuntime, name: &str) -> Vec<u8> {
 }
 
 /// Makes the calls of one file.
-fn run_file(rt: &HostRuntime, name: &str, tally: &mut Tally) -> io::Result<()> {
+fn run_file(rt: &HostRuntime, name: &str, tally: &mut RowTally) -> io::Result<()> {
     let bytes = bytes_of(rt, name);
     run_rows(rt, name, bytes.as_slice(), tally)
 }
@@ -89,7 +89,7 @@ fn names_of<R: rt::Env + AllocGlobal>(rt: &R) -> io::Result<Vec<String>> {
     Ok(args.collect(rt.alloc())?)
 }
 
-fn run_files(rt: &HostRuntime, tally: &mut Tally) -> io::Result<()> {
+fn run_files(rt: &HostRuntime, tally: &mut RowTally) -> io::Result<()> {
     let names = names_of(rt)?;
     for name in names.iter() {
         run_file(rt, name.as_str(), tally)?;
@@ -98,7 +98,7 @@ fn run_files(rt: &HostRuntime, tally: &mut Tally) -> io::Result<()> {
 }
 
 fn main(rt: HostRuntime) -> ExitCode {
-    let mut tally = Tally::new();
+    let mut tally = RowTally::new();
     if run_files(&rt, &mut tally).is_err() {
         return ExitCode::from(2);
     }

@@ -2,7 +2,7 @@
 
 use cf_io::{MemFiles, MemSink, MemSource};
 use cfpp_cli::cfpp;
-use test_rows::{Call, Named, Outcome};
+use test_rows::{Call, NamedBytes, CallOutcome};
 use std::alloc::{AllocError, Global};
 
 /// The room of the report in bytes.
@@ -15,12 +15,12 @@ struct Sinks {
     report: MemSink,
 }
 
-fn copy_of(alloc: Global, named: &Named) -> Result<Named, AllocError> {
+fn copy_of(alloc: Global, named: &NamedBytes) -> Result<NamedBytes, AllocError> {
     let name = String::from_str(alloc, named.0.as_str())?;
     Ok((name, named.1.as_slice().to_vec(alloc)?))
 }
 
-fn copies_of(alloc: Global, files: &[Named]) -> Result<Vec<Named>, AllocError> {
+fn copies_of(alloc: Global, files: &[NamedBytes]) -> Result<Vec<NamedBytes>, AllocError> {
     let mut copies = Vec::new(alloc);
     for named in files {
         copies.push(copy_of(alloc, named)?)?;
@@ -68,10 +68,10 @@ fn status_of(
     .code()
 }
 
-fn outcome_of(alloc: Global, status: u8, sinks: &Sinks) -> Result<Outcome, AllocError> {
+fn outcome_of(alloc: Global, status: u8, sinks: &Sinks) -> Result<CallOutcome, AllocError> {
     let output = sinks.output.bytes().to_vec(alloc)?;
     let report = sinks.report.bytes().to_vec(alloc)?;
-    Ok(Outcome {
+    Ok(CallOutcome {
         status,
         output,
         report,
@@ -84,14 +84,14 @@ fn make_over(
     call: &Call,
     files: &mut MemFiles,
     input: &mut MemSource,
-) -> Result<Outcome, AllocError> {
+) -> Result<CallOutcome, AllocError> {
     let mut sinks = sinks_of(alloc, call)?;
     let status = status_of(alloc, call.words.as_slice(), files, input, &mut sinks);
     outcome_of(alloc, status, &sinks)
 }
 
 /// Makes the call.
-pub(crate) fn make(alloc: Global, call: &Call) -> Result<Outcome, AllocError> {
+pub(crate) fn make(alloc: Global, call: &Call) -> Result<CallOutcome, AllocError> {
     let mut files = files_in_memory(alloc, call)?;
     let mut input = source_of(alloc, call)?;
     make_over(alloc, call, &mut files, &mut input)

@@ -1,8 +1,8 @@
 //! What is printed of a row.
 
 use crate::making::make;
-use crate::tally::Tally;
-use test_rows::{Matching, Outcome, Sheet, Wanted};
+use crate::tally::RowTally;
+use test_rows::{Matching, CallOutcome, Sheet, Wanted};
 use std::alloc::{AllocError, Global};
 use std::{io, str};
 
@@ -37,7 +37,7 @@ fn status_agrees(rt: &impl Print, wanted: u8, came: u8) -> io::Result<bool> {
 }
 
 /// Whether the outcome of the call is what was wanted; what differs is printed.
-fn agrees(rt: &impl Print, wanted: &Wanted, outcome: &Outcome) -> io::Result<bool> {
+fn agrees(rt: &impl Print, wanted: &Wanted, outcome: &CallOutcome) -> io::Result<bool> {
     let status = status_agrees(rt, wanted.status, outcome.status)?;
     let output = bytes_agree(rt, "output", &wanted.output, outcome.output.as_slice())?;
     let report = bytes_agree(rt, "report", &wanted.report, outcome.report.as_slice())?;
@@ -45,7 +45,7 @@ fn agrees(rt: &impl Print, wanted: &Wanted, outcome: &Outcome) -> io::Result<boo
 }
 
 /// The outcome of the row's call, which the sheet keeps for the rows that follow.
-fn outcome_of(alloc: Global, sheet: &mut Sheet) -> Result<Outcome, AllocError> {
+fn outcome_of(alloc: Global, sheet: &mut Sheet) -> Result<CallOutcome, AllocError> {
     let outcome = make(alloc, sheet.call()?)?;
     sheet.keep(&outcome)?;
     Ok(outcome)
@@ -62,7 +62,7 @@ pub(crate) fn judge(
     rt: &(impl Print + AllocGlobal),
     file: &str,
     sheet: &mut Sheet,
-    tally: &mut Tally,
+    tally: &mut RowTally,
 ) -> io::Result<()> {
     if sheet.name().is_none() {
         return Ok(());

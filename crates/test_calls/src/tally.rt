@@ -2,15 +2,15 @@
 
 /// How many rows agree with the outcomes of their calls, and how many differ.
 #[derive(Drop)]
-pub(crate) struct Tally {
+pub(crate) struct RowTally {
     agreeing: u64,
     differing: u64,
 }
 
-impl Tally {
+impl RowTally {
     /// No rows yet.
-    pub(crate) fn new() -> Tally {
-        Tally {
+    pub(crate) fn new() -> RowTally {
+        RowTally {
             agreeing: 0,
             differing: 0,
         }

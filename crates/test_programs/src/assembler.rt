@@ -1,5 +1,5 @@
 //! Sources and the words that GNU as and ld 2.40 make of them, and refusals in their order.
-ghost use Rattle.rv_asm.specs.Small.{IsSmall};
+ghost use Rattle.rv_asm.specs.Small.{IsSmallObject};
 ghost use Rattle.std.specs.Prelude.{IfSome};
 
 use rv_asm::{AsmKind, Object, assemble};
@@ -103,7 +103,7 @@ fn spell(bytes: &[u8], words: &[u32]) -> bool {
 
 /// What a source is assembled to, if it is.
 pub(crate) fn object_of(rt: &impl AllocGlobal, source: &[u8]) -> Option<Object>
-    ensures { IfSome result (λ object. IsSmall object) }
+    ensures { IfSome result (λ object. IsSmallObject object) }
 {
     assemble(rt.alloc(), source).ok()
 }

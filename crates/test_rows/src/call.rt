@@ -6,7 +6,7 @@ use std::alloc::{AllocError, Global};
 const ROOM: usize = 100_000;
 
 /// A name, and the bytes that it stands for.
-pub type Named = (String, Vec<u8>);
+pub type NamedBytes = (String, Vec<u8>);
 
 /// What the simulator is called with.
 #[derive(Drop)]
@@ -14,7 +14,7 @@ pub struct Call {
     /// The words of the command line.
     pub words: Vec<String>,
     /// The files in memory.
-    pub files: Vec<Named>,
+    pub files: Vec<NamedBytes>,
     /// The bytes of the input.
     pub input: Vec<u8>,
     /// How many bytes of the input come at once.
@@ -22,12 +22,12 @@ pub struct Call {
     /// How many bytes the output takes.
     pub room: usize,
     /// The numbers of the calls that fail.
-    pub fails: Fails,
+    pub fails: FailingCallNumbers,
 }
 
 /// The numbers of the calls that fail, counted from 1.
 #[derive(Drop)]
-pub struct Fails {
+pub struct FailingCallNumbers {
     /// Of the reads of files.
     pub files: Vec<u64>,
     /// Of the takes from the input.
@@ -40,7 +40,7 @@ pub struct Fails {
 
 /// The outcome of a call.
 #[derive(Drop)]
-pub struct Outcome {
+pub struct CallOutcome {
     /// The status that the process ends with.
     pub status: u8,
     /// What was written to the output.
@@ -50,7 +50,7 @@ pub struct Outcome {
 }
 
 /// The bytes under the name, if there are any.
-pub(crate) fn find<'a>(list: &'a [Named], name: &str) -> Option<&'a [u8]> {
+pub(crate) fn find<'a>(list: &'a [NamedBytes], name: &str) -> Option<&'a [u8]> {
     for (other, bytes) in list {
         if other.as_str() == name {
             return Some(bytes.as_slice());
@@ -60,7 +60,7 @@ pub(crate) fn find<'a>(list: &'a [Named], name: &str) -> Option<&'a [u8]> {
 }
 
 /// A copy of the bytes, under the name.
-fn copy_under(alloc: Global, name: &str, bytes: &[u8]) -> Result<Named, AllocError> {
+fn copy_under(alloc: Global, name: &str, bytes: &[u8]) -> Result<NamedBytes, AllocError> {
     let name = String::from_str(alloc, name)?;
     Ok((name, bytes.to_vec(alloc)?))
 }
@@ -68,7 +68,7 @@ fn copy_under(alloc: Global, name: &str, bytes: &[u8]) -> Result<Named, AllocErr
 /// Puts a copy of the bytes under the name, in place of those that stood there.
 pub(crate) fn keep(
     alloc: Global,
-    list: &mut Vec<Named>,
+    list: &mut Vec<NamedBytes>,
     name: &str,
     bytes: &[u8],
 ) -> Result<(), AllocError> {
@@ -77,10 +77,10 @@ pub(crate) fn keep(
     Ok(())
 }
 
-impl Fails {
+impl FailingCallNumbers {
     /// No call fails.
-    pub(crate) fn new(alloc: Global) -> Fails {
-        Fails {
+    pub(crate) fn new(alloc: Global) -> FailingCallNumbers {
+        FailingCallNumbers {
             files: Vec::new(alloc),
             input: Vec::new(alloc),
             output: Vec::new(alloc),
@@ -109,7 +109,7 @@ impl Call {
             input: Vec::new(alloc),
             piece: 1,
             room: ROOM,
-            fails: Fails::new(alloc),
+            fails: FailingCallNumbers::new(alloc),
         }
     }
 }

@@ -1,6 +1,6 @@
 //! The lines that give bytes.
 
-use crate::call::{Named, find};
+use crate::call::{NamedBytes, find};
 use crate::line_err::LineErr;
 use rv_text::numeral;
 use std::alloc::Global;
@@ -102,7 +102,7 @@ fn add_registers(content: &mut Vec<u8>, words: &str) -> Result<(), LineErr> {
 }
 
 /// Adds what stands under a name.
-fn copy(content: &mut Vec<u8>, kept: &[Named], name: &str) -> Result<(), LineErr> {
+fn copy(content: &mut Vec<u8>, kept: &[NamedBytes], name: &str) -> Result<(), LineErr> {
     match find(kept, name) {
         Some(bytes) => Ok(content.extend_from_slice(bytes)?),
         None => Err(LineErr::Unknown),
@@ -151,7 +151,7 @@ fn add_line(content: &mut Vec<u8>, text: &str) -> Result<(), LineErr> {
 /// Changes the content as the line says.
 pub(crate) fn change(
     content: &mut Vec<u8>,
-    kept: &[Named],
+    kept: &[NamedBytes],
     word: &str,
     rest: &str,
 ) -> Result<(), LineErr> {

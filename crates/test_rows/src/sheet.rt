@@ -3,7 +3,7 @@
 ghost use Rattle.std.specs.Prelude.{◌↔◌, IsTrue};
 ghost use Rattle.test_rows.specs.Heads.{IsHead};
 
-use crate::call::{Call, Fails, Named, Outcome, keep};
+use crate::call::{Call, FailingCallNumbers, NamedBytes, CallOutcome, keep};
 use crate::content::{change, number, split};
 use crate::line_err::LineErr;
 use crate::matching::Matching;
@@ -45,7 +45,7 @@ pub struct Sheet {
     rest: String,
     content: Vec<u8>,
     /// Bytes under names, among them the `output` and the `report` of the last call.
-    kept: Vec<Named>,
+    kept: Vec<NamedBytes>,
 }
 
 fn nothing_wanted(alloc: Global) -> Wanted {
@@ -147,7 +147,7 @@ impl Sheet {
     }
 
     /// Keeps what the row's call wrote, under the names `output` and `report`.
-    pub fn keep(&mut self, outcome: &Outcome) -> Result<(), AllocError> {
+    pub fn keep(&mut self, outcome: &CallOutcome) -> Result<(), AllocError> {
         let (alloc, kept) = (self.alloc, &mut self.kept);
         keep(alloc, kept, "output", outcome.output.as_slice())?;
         keep(alloc, kept, "report", outcome.report.as_slice())
@@ -157,7 +157,7 @@ impl Sheet {
     fn begin_again(&mut self, name: &str) -> Result<(), LineErr> {
         self.name = Some(String::from_str(self.alloc, name)?);
         self.wanted = nothing_wanted(self.alloc);
-        self.call.fails = Fails::new(self.alloc);
+        self.call.fails = FailingCallNumbers::new(self.alloc);
         Ok(())
     }
 

@@ -9,7 +9,7 @@ use Rattle.cf_semantics.specs.state.State.{State, Moment}
 use Rattle.cf_semantics.specs.moves.Bars.{bar}
 use Rattle.cf_semantics.specs.moves.Moves.{next}
 use Rattle.cf_semantics.specs.runs.Runs.{IsRun, start}
-use Rattle.theory_examples.specs.Follows.{Ends, IsBarred, after_moves}
+use Rattle.theory_examples.specs.Follows.{EndsIn, IsBarred, after_moves}
 
 -- the first bar on the way
 abbrev pub first_bar : Plan → Moment → List Move → Option Bar
@@ -26,7 +26,7 @@ is_run plan m (mv ∷ moves) e = by (bar plan m.state mv) refl e (is_run plan (n
     by (Some b) f e more = absurd (cc)
 
 -- what computes, put together
-pub ends : {plan : Plan} {x : Machine} {moves : List Move} {s : State} → first_bar plan (start plan x) moves ≡ None → after_moves plan x moves ≡ s → Ends plan x moves s
+pub ends : {plan : Plan} {x : Machine} {moves : List Move} {s : State} → first_bar plan (start plan x) moves ≡ None → after_moves plan x moves ≡ s → EndsIn plan x moves s
 ends {plan} {x} {moves} {s} e f = record { allowed = is_run plan (start plan x) moves e; ends = f }
 
 pub barred : {plan : Plan} {x : Machine} {moves : List Move} {mv : Move} {why : Bar} → first_bar plan (start plan x) moves ≡ None → bar plan (after_moves plan x moves) mv ≡ Some why → IsBarred plan x moves mv why

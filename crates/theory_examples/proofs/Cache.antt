@@ -10,7 +10,7 @@ use Rattle.cf_bind.specs.declared.passenger.Guess.TheVariants.{Next, Wait}
 use Rattle.cf_bind.specs.declared.moves.Move.TheVariants.{Issue, Climb, Execute, Send, Exit}
 use Rattle.cf_semantics.specs.runs.Runs.{opened}
 use Rattle.theory_examples.specs.Samples.{tiny_with_cache, sample, known, issued, done, holds}
-use Rattle.theory_examples.specs.Follows.{Ends}
+use Rattle.theory_examples.specs.Follows.{EndsIn}
 use Rattle.theory_examples.proofs.Allowed.{ends}
 use Rattle.theory_examples.proofs.OnLiterals.{on_literals}
 
@@ -25,7 +25,7 @@ abbrev pub add_one : Instr
 add_one = instr.OpImm imm_op.Add 2 1 (pos 1)
 
 -- The value that left at the bottom is kept there: the next instruction has it when it is issued.
-pub kept_and_used : Ends tiny_with_cache kept_value
+pub kept_and_used : EndsIn tiny_with_cache kept_value
     (Issue Next ∷ Execute 1 ∷ Send 1 ∷ Exit ∷ Climb 1 ∷ Issue Next ∷ Execute 1 ∷ [])
     (record (opened tiny_with_cache kept_value) {
       cells =
@@ -45,7 +45,7 @@ abbrev pub jump_on : Instr
 jump_on = instr.Jal 0 (pos 4)
 
 -- A turn that leaves at the bottom clears what is kept.
-pub turn_clears : Ends tiny_with_cache kept_until_a_turn
+pub turn_clears : EndsIn tiny_with_cache kept_until_a_turn
     (Issue Next ∷ Execute 1 ∷ Send 1 ∷ Exit ∷ Climb 1 ∷ Issue Wait ∷ Execute 1 ∷ Send 1 ∷ Exit ∷ [])
     (record (opened tiny_with_cache kept_until_a_turn) {
       cells =

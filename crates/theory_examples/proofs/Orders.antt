@@ -10,7 +10,7 @@ use Rattle.cf_semantics.specs.state.State.{State}
 use Rattle.cf_semantics.specs.runs.Runs.{opened}
 use Rattle.cf_semantics.specs.claims.Weight.{moves_per_issue, weight}
 use Rattle.theory_examples.specs.Samples.{tiny, sample}
-use Rattle.theory_examples.specs.Follows.{Ends, after_moves}
+use Rattle.theory_examples.specs.Follows.{EndsIn, after_moves}
 use Rattle.theory_examples.proofs.Allowed.{ends}
 use Rattle.theory_examples.proofs.OnLiterals.{on_literals}
 
@@ -32,17 +32,17 @@ abbrev pub common_end : State
 common_end = record (opened tiny skipping_a_sum) { fetch = Running 0x10008; retired = 1 }
 
 -- The turn first: eight moves.
-pub turn_first : Ends tiny skipping_a_sum (wrong_guess ++ (Leave ∷ Meet 1 ∷ Climb 1 ∷ Exit ∷ Leave ∷ Emit ∷ Fall 2 ∷ Exit ∷ [])) common_end
+pub turn_first : EndsIn tiny skipping_a_sum (wrong_guess ++ (Leave ∷ Meet 1 ∷ Climb 1 ∷ Exit ∷ Leave ∷ Emit ∷ Fall 2 ∷ Exit ∷ [])) common_end
 unfolding on_literals
 turn_first = ends refl refl
 
 -- The dead passenger meets the value that it asked for, at the top: nine moves.
-pub value_met_above : Ends tiny skipping_a_sum (wrong_guess ++ (Meet 1 ∷ Exit ∷ Leave ∷ Climb 1 ∷ Emit ∷ Meet 2 ∷ Leave ∷ Fall 2 ∷ Exit ∷ [])) common_end
+pub value_met_above : EndsIn tiny skipping_a_sum (wrong_guess ++ (Meet 1 ∷ Exit ∷ Leave ∷ Climb 1 ∷ Emit ∷ Meet 2 ∷ Leave ∷ Fall 2 ∷ Exit ∷ [])) common_end
 unfolding on_literals
 value_met_above = ends refl refl
 
 -- The value first: it meets the branch and then the dead passenger: ten moves.
-pub value_first : Ends tiny skipping_a_sum (wrong_guess ++ (Emit ∷ Meet 2 ∷ Meet 1 ∷ Exit ∷ Fall 2 ∷ Meet 1 ∷ Exit ∷ Leave ∷ Climb 1 ∷ Leave ∷ [])) common_end
+pub value_first : EndsIn tiny skipping_a_sum (wrong_guess ++ (Emit ∷ Meet 2 ∷ Meet 1 ∷ Exit ∷ Fall 2 ∷ Meet 1 ∷ Exit ∷ Leave ∷ Climb 1 ∷ Leave ∷ [])) common_end
 unfolding on_literals
 value_first = ends refl refl
 

@@ -13,7 +13,7 @@ use Rattle.cf_bind.specs.declared.moves.Move.TheVariants.{Issue, Emit, Climb, Fa
 use Rattle.cf_bind.specs.declared.moves.Bar.TheVariants as bar
 use Rattle.cf_semantics.specs.runs.Runs.{opened, empty_cell}
 use Rattle.theory_examples.specs.Samples.{tiny, shifts_aside, sample, unknown, known, issued, done, holds, carries, complete}
-use Rattle.theory_examples.specs.Follows.{Ends, IsBarred}
+use Rattle.theory_examples.specs.Follows.{EndsIn, IsBarred}
 use Rattle.theory_examples.proofs.Allowed.{ends, barred}
 use Rattle.theory_examples.proofs.OnLiterals.{on_literals}
 
@@ -25,7 +25,7 @@ abbrev pub load_x1 : Instr
 load_x1 = instr.Load load.Word 1 2 (pos 0)
 
 -- A load is launched with its address, memory answers it, and it recovers its value and sends it.
-pub load_comes_back : Ends tiny loading
+pub load_comes_back : EndsIn tiny loading
     (Issue Next ∷ Emit ∷ Fall 2 ∷ Meet 1 ∷ Exit ∷ Launch 1 ∷ Climb 1 ∷ Access ∷ Recover 2 ∷ Send 2 ∷ [])
     (record (opened tiny loading) {
       cells =
@@ -54,7 +54,7 @@ abbrev pub shift_x1 : Instr
 shift_x1 = instr.OpImm imm_op.Sll 1 0 (pos 1)
 
 -- A shift is launched, and dies by the turn of the branch; its operation is still under way.
-pub dead_and_launched : Ends shifts_aside skipping_a_shift
+pub dead_and_launched : EndsIn shifts_aside skipping_a_shift
     (Issue Next ∷ Climb 1 ∷ Climb 2 ∷ Issue Next ∷ Launch 1 ∷ Climb 1 ∷ Execute 3 ∷ Send 3 ∷ Fall 3 ∷ Meet 2 ∷ Climb 3 ∷ Climb 2 ∷ [])
     (record (opened shifts_aside skipping_a_shift) {
       cells =

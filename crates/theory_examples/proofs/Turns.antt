@@ -12,7 +12,7 @@ use Rattle.cf_bind.specs.declared.moves.Move.TheVariants.{Issue, Climb, Fall, Me
 use Rattle.cf_bind.specs.declared.moves.Bar.TheVariants as bar
 use Rattle.cf_semantics.specs.runs.Runs.{opened, empty_cell}
 use Rattle.theory_examples.specs.Samples.{tiny, two_jump_units, sample, unknown, issued, done, holds, complete}
-use Rattle.theory_examples.specs.Follows.{Ends, IsBarred}
+use Rattle.theory_examples.specs.Follows.{EndsIn, IsBarred}
 use Rattle.theory_examples.proofs.Allowed.{ends, barred}
 use Rattle.theory_examples.proofs.OnLiterals.{on_literals}
 
@@ -27,7 +27,7 @@ abbrev pub store_x1 : Instr
 store_x1 = instr.Store store.Word 2 1 (pos 0)
 
 -- The turn of the branch kills the store below it, which is never made.
-pub store_dies : Ends tiny skipping_a_store
+pub store_dies : EndsIn tiny skipping_a_store
     (Issue Next ∷ Execute 1 ∷ Send 1 ∷ Climb 1 ∷ Issue Next ∷ Meet 1 ∷ [])
     (record (opened tiny skipping_a_store) {
       cells =
@@ -57,7 +57,7 @@ abbrev pub jump_by_8 : Instr
 jump_by_8 = instr.Jal 0 (pos 8)
 
 -- The younger jump is the first to turn fetch,
-pub younger_turn_first : Ends two_jump_units two_turns
+pub younger_turn_first : EndsIn two_jump_units two_turns
     (Issue Next ∷ Climb 1 ∷ Climb 2 ∷ Issue Next ∷ Execute 1 ∷ Send 1 ∷ Exit ∷ [])
     (record (opened two_jump_units two_turns) {
       cells =
@@ -69,7 +69,7 @@ unfolding on_literals
 younger_turn_first = ends refl refl
 
 -- and the older branch turns it once more, and kills the jump.
-pub older_turn_wins : Ends two_jump_units two_turns
+pub older_turn_wins : EndsIn two_jump_units two_turns
     (Issue Next ∷ Climb 1 ∷ Climb 2 ∷ Issue Next ∷ Execute 1 ∷ Send 1 ∷ Exit ∷ Execute 3 ∷ Send 3 ∷ Fall 3 ∷ Fall 2 ∷ Meet 1 ∷ Exit ∷ [])
     (record (opened two_jump_units two_turns) {
       cells =

@@ -15,7 +15,7 @@ use Rattle.cf_semantics.specs.runs.Runs.{opened, empty_cell}
 use Rattle.cf_semantics.specs.moves.Kept.{kept, restored}
 use Rattle.cf_semantics.specs.claims.Weight.{weight}
 use Rattle.theory_examples.specs.Samples.{tiny, sample, unknown, known, issued, done, holds, full, complete}
-use Rattle.theory_examples.specs.Follows.{Ends, IsBarred, after_moves}
+use Rattle.theory_examples.specs.Follows.{EndsIn, IsBarred, after_moves}
 use Rattle.theory_examples.proofs.Allowed.{ends, barred}
 use Rattle.theory_examples.proofs.OnLiterals.{on_literals}
 
@@ -27,14 +27,14 @@ abbrev pub put_seven : Instr
 put_seven = instr.OpImm imm_op.Add 10 0 (pos 7)
 
 -- The first instruction executes and sends its result: it stays in stage 1, beside the packet.
-pub executed_and_sent : Ends tiny seven
+pub executed_and_sent : EndsIn tiny seven
     (Issue Next ∷ Execute 1 ∷ Send 1 ∷ [])
     (record (opened tiny seven) { cells = complete (done (issued 0x10000 put_seven None None (known 10 7)) 0x10004) (Value 10 7) ∷ empty_cell ∷ []; fetch = Running 0x10004 })
 unfolding on_literals
 executed_and_sent = ends refl refl
 
 -- Sixteen moves take the program to its end: two instructions retire, and the call exits with 7.
-pub exits_with_seven : Ends tiny seven
+pub exits_with_seven : EndsIn tiny seven
     (Issue Next ∷ Execute 1 ∷ Send 1 ∷ Exit ∷ Climb 1 ∷ Leave ∷ Issue Next ∷ Execute 1 ∷ Send 1 ∷ Exit ∷ Climb 1 ∷ Leave ∷ Issue Next ∷ Climb 1 ∷ Serve ∷ Leave ∷ [])
     (record (opened tiny seven) { fetch = Waiting; regs = slice_set (slice_set start_regs 10 7) 17 93; retired = 2; ending = Some (ending.Exit 7) })
 unfolding on_literals
@@ -48,7 +48,7 @@ abbrev pub count_on : Instr
 count_on = instr.OpImm imm_op.Add 1 1 (pos 1)
 
 -- The first meeting garners and kills; the second updates the packet with the new value; the third garners that value, and kills.
-pub three_meetings : Ends tiny counting
+pub three_meetings : EndsIn tiny counting
     (Issue Next ∷ Climb 1 ∷ Issue Next ∷ Emit ∷ Meet 2 ∷ Emit ∷ Execute 2 ∷ Meet 2 ∷ Fall 2 ∷ Meet 1 ∷ [])
     (record (opened tiny counting) {
       cells =
@@ -67,7 +67,7 @@ abbrev pub add_one : Instr
 add_one = instr.OpImm imm_op.Add 5 10 (pos 1)
 
 -- The register file sends the value that was asked for down the pipe, where it finds the instruction that asked.
-pub asked_and_sent_down : Ends tiny asking
+pub asked_and_sent_down : EndsIn tiny asking
     (Issue Next ∷ Climb 1 ∷ Emit ∷ [])
     (record (opened tiny asking) { cells = empty_cell ∷ full (issued 0x10000 add_one (unknown 10) None (unknown 5)) (Value 10 0) ∷ []; fetch = Running 0x10004 })
 unfolding on_literals
@@ -107,7 +107,7 @@ abbrev pub multiplying : Machine
 multiplying = sample (0xb3 ∷ 0x02 ∷ 0x73 ∷ 0x02 ∷ [])
 
 -- Where the layout does not multiply, the word is not an instruction: it traps where it is issued.
-pub no_multiplication : Ends tiny multiplying
+pub no_multiplication : EndsIn tiny multiplying
     (Issue Next ∷ [])
     (record (opened tiny multiplying) {
       cells = holds (record (issued 0x10000 put_seven None None None) { what = None; done = true; ending = Some (ending.Trap 2 0x10000 0x027302b3) }) ∷ empty_cell ∷ [];

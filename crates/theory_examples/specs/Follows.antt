@@ -13,7 +13,7 @@ abbrev pub after_moves : Plan → Machine → List Move → State
 after_moves plan x moves = (run plan (start plan x) moves).state
 
 -- each move is allowed where it is made, and the last leaves this state
-pub record Ends (plan : Plan) (x : Machine) (moves : List Move) (s : State) : Type 0 where
+pub record EndsIn (plan : Plan) (x : Machine) (moves : List Move) (s : State) : Type 0 where
   pub allowed : IsRun plan (start plan x) moves
   pub ends : after_moves plan x moves ≡ s
 

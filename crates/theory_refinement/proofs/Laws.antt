@@ -19,8 +19,8 @@ use Rattle.cf_bind.specs.declared.binding.Binding.{Binding}
 use Rattle.cf_bind.specs.declared.passenger.End.{End}
 use Rattle.cf_bind.specs.declared.passenger.Guess.{Guess}
 use Rattle.cf_bind.specs.declared.passenger.Passenger.{Passenger}
-use Rattle.cf_semantics.specs.moves.Instructions.{Bad, Fetched, Goes, Got, Stepped, Stops, access_trap, answer_of, after_step, dst_of, fetched, finish_trap, free_trap, is_control, is_free, is_serial, kind_of, mem_after, serve_of, src1_of, src2_of, step_here, value_read, value_written, word_after}
-use Rattle.cf_semantics.specs.claims.Laws.{AccessesAsLaunched, ComputesAsFinished, IsReady, ReadsAsIssued, ServesAndPasses, computes, departed, replied, returned}
+use Rattle.cf_semantics.specs.moves.Instructions.{Bad, Fetched, Goes, Got, StepResult, Stops, access_trap, answer_of, after_step, dst_of, fetched, finish_trap, free_trap, is_control, is_free, is_serial, kind_of, mem_after, serve_of, src1_of, src2_of, step_here, value_read, value_written, word_after}
+use Rattle.cf_semantics.specs.claims.Laws.{AccessesAsLaunched, ComputesAsFinished, IsReadyPassenger, ReadsAsIssued, ServesAndPasses, computes, departed, replied, returned}
 use Rattle.cf_semantics.specs.moves.Moves.{written}
 use Rattle.cf_semantics.specs.state.Options.{on}
 use Rattle.cf_semantics.specs.state.Passengers.{finish, finished, fresh, fresh_end, fresh_fence, instruction, reg_in, trapped, value_in, with_value}
@@ -42,7 +42,7 @@ unfolding finish
 finish_as p answer t n v e f g = rw (e, f, g) refl
 
 -- what finishing leads to, once the passenger has left
-finish_departs : (p : Passenger) (i : Instr) (x : Machine) (answer : Option ℕ) (mem : Memory) → IsReady p i x →
+finish_departs : (p : Passenger) (i : Instr) (x : Machine) (answer : Option ℕ) (mem : Memory) → IsReadyPassenger p i x →
     departed (finish p answer) x mem
     ≡ on (finish_trap i x.hart.pc (value_read x.hart.regs (src1_of i)) (value_read x.hart.regs (src2_of i)))
     (Goes (onward x (next_pc i x.hart.pc (value_read x.hart.regs (src1_of i)) (value_read x.hart.regs (src2_of i)))
@@ -89,11 +89,11 @@ accesses_as_launched isa x i p f c h =
     ∙ rw (straight_trap i x.hart.pc a b k, straight_next i x.hart.pc a b k) refl in
     let s : step_here isa x ≡ stepped_as MemoryClass i a b x = step_is isa x x.hart.pc i f ∙ ap (λ (z : Class). stepped_as z i a b x) m in
     s
-    ∙ ap (λ (z : Stepped). on (access_trap i x.hart.pc a (bounds_of x.hart.mem)) z Stops) (sym gone)
+    ∙ ap (λ (z : StepResult). on (access_trap i x.hart.pc a (bounds_of x.hart.mem)) z Stops) (sym gone)
     ∙ ap (λ (o : Option End). on o (returned p x) Stops) (sym trap)
 
 -- third law
-serves : (isa : Isa) (x : Machine) (i : Instr) (p : Passenger) → fetched isa x.hart.mem x.hart.pc ≡ Got i → is_serial (kind_of i) ≡ true → IsReady p i x → step_here isa x ≡ replied p x (serve_of (instruction p) x.hart.regs x.hart.mem x.rest)
+serves : (isa : Isa) (x : Machine) (i : Instr) (p : Passenger) → fetched isa x.hart.mem x.hart.pc ≡ Got i → is_serial (kind_of i) ≡ true → IsReadyPassenger p i x → step_here isa x ≡ replied p x (serve_of (instruction p) x.hart.regs x.hart.mem x.rest)
 serves isa x i p f c h =
     let is = word_is p i h.what in
     let a = value_read x.hart.regs (src1_of i) in
@@ -135,7 +135,7 @@ reads isa x i f =
 
 others : (isa : Isa) (x : Machine) (i : Instr) (n : Machine) → fetched isa x.hart.mem x.hart.pc ≡ Got i → step_here isa x ≡ Goes n → (r : ℕ) → dst_of i ≢ Some r → slice_index n.hart.regs r ≡ slice_index x.hart.regs r
 others isa x i n f e r d =
-    ap (λ (s : Stepped). slice_index (after_step s x).hart.regs r) (sym e) ∙ (step_keeps isa x x.hart.pc i f).other r d
+    ap (λ (s : StepResult). slice_index (after_step s x).hart.regs r) (sym e) ∙ (step_keeps isa x x.hart.pc i f).other r d
 
 pub reads_as_issued : ReadsAsIssued
 reads_as_issued = record { issue = issue; executes = reads; traps = λ isa x e f. bad_step isa x x.hart.pc e f; code = fetched_alike; others = others }

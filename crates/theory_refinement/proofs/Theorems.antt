@@ -5,14 +5,14 @@ use Rattle.cf_layout.specs.Accepted.{IsAccepted}
 use Rattle.cf_layout.specs.Layout.{Plan}
 use Rattle.cf_bind.specs.declared.moves.Move.{Move}
 use Rattle.cf_semantics.specs.moves.Bars.{bar}
-use Rattle.cf_semantics.specs.claims.Heeds.{Heeds}
+use Rattle.cf_semantics.specs.claims.KeepsOrActsOnPath.{KeepsOrActsOnPath}
 use Rattle.cf_semantics.specs.runs.Lines.{lines}
 use Rattle.cf_semantics.specs.claims.Refines.{IsPrefix, Refines}
 use Rattle.cf_semantics.specs.runs.Runs.{IsRun, run, start}
 use Rattle.cf_semantics.specs.claims.SoundAfter.{IsSoundAfter}
 use Rattle.theory_refinement.proofs.invariant.Invariant.{HoldsAfter}
 use Rattle.theory_refinement.proofs.layouts.Accepted.{accepted_suits}
-use Rattle.theory_refinement.proofs.claims.Heeds as heeds
+use Rattle.theory_refinement.proofs.claims.OnPath as heeds
 use Rattle.theory_refinement.proofs.claims.Refines as refines
 use Rattle.theory_refinement.proofs.claims.Runs as runs
 use Rattle.theory_refinement.proofs.claims.Soundness as soundness
@@ -30,7 +30,7 @@ pub lines_prefix : (plan other : Plan) (x0 : Machine) (moves others : List Move)
 lines_prefix plan other x0 moves others acc accepted wide allowed permitted = refines.lines_prefix plan other x0 moves others (accepted_suits plan acc) (accepted_suits other accepted) wide allowed permitted
 
 -- off the sequential path no move changes anything that is seen
-pub run_heeds : (plan : Plan) (x0 : Machine) (moves : List Move) (mv : Move) → IsAccepted plan → length x0.hart.regs ≡ 32 → IsRun plan (start plan x0) moves → bar plan (run plan (start plan x0) moves).state mv ≡ None → Heeds plan x0 (run plan (start plan x0) moves) mv
+pub run_heeds : (plan : Plan) (x0 : Machine) (moves : List Move) (mv : Move) → IsAccepted plan → length x0.hart.regs ≡ 32 → IsRun plan (start plan x0) moves → bar plan (run plan (start plan x0) moves).state mv ≡ None → KeepsOrActsOnPath plan x0 (run plan (start plan x0) moves) mv
 run_heeds plan x0 moves mv acc wide allowed free = heeds.run_heeds plan x0 moves mv (accepted_suits plan acc) wide allowed free
 
 -- every moment of a run that has not ended is sound, over the machine after as many steps as have retired

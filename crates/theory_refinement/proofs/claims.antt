@@ -10,5 +10,5 @@ pub mod Lines
 pub mod Ahead
 pub mod Output
 pub mod Refines
-pub mod Heeds
+pub mod OnPath
 pub mod Stutters

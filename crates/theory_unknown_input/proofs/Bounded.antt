@@ -15,7 +15,7 @@ use Rattle.theory_refinement.proofs.invariant.Invariant.{HoldsAfter}
 use Rattle.theory_refinement.proofs.invariant.Suited.{Suits}
 use Rattle.theory_refinement.proofs.layouts.Accepted.{accepted_suits}
 use Rattle.theory_confluence.proofs.weight.Bound.{costs, opened_weight, sound_at}
-use Rattle.theory_unknown_input.specs.Anew.{LeadsTo, finding}
+use Rattle.theory_unknown_input.specs.UnknownInput.{LeadsTo, finding}
 use Rattle.theory_unknown_input.proofs.Invariant.{HoldsAnew}
 use Rattle.theory_unknown_input.proofs.Found.{found}
 use Rattle.theory_unknown_input.proofs.Rechosen.{over}

@@ -5,7 +5,7 @@ use Rattle.cf_bind.specs.declared.moves.Move.{Move}
 use Rattle.cf_bind.specs.declared.moves.Move.TheVariants.{Access, Climb, Emit, Execute, Exit, Fall, Issue, Launch, Leave, Meet, Recover, Send, Serve, Slide}
 use Rattle.cf_semantics.specs.moves.Moves.{next}
 use Rattle.cf_semantics.specs.state.State.{Moment}
-use Rattle.theory_unknown_input.specs.Anew.{finding}
+use Rattle.theory_unknown_input.specs.UnknownInput.{finding}
 
 -- any other move does the same whatever it finds, and leaves the input as it found it
 pub found : (plan : Plan) (m : Moment) (mv : Move) (before rest : List ℕ) → (mv ≡ Serve) ⊎ (next plan (finding rest m) mv ≡ finding rest (next plan (finding before m) mv))

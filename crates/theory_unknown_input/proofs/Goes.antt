@@ -8,7 +8,7 @@ use Rattle.rv_machine.specs.Step.{step}
 use Rattle.cf_semantics.specs.moves.Instructions.{Goes, step_at, step_here, stepped}
 use Rattle.cf_semantics.specs.runs.Lines.{Line, lines_at, sequence}
 use Rattle.cf_semantics.specs.state.Options.{on}
-use Rattle.theory_unknown_input.specs.Anew.{GoesTo}
+use Rattle.theory_unknown_input.specs.UnknownInput.{GoesTo}
 
 -- a machine that has made no step
 pub goes_nowhere : (isa : Isa) (x : Machine) → GoesTo isa x 0 x []

@@ -8,7 +8,7 @@ use Rattle.cf_semantics.specs.claims.Refines.{gained}
 use Rattle.cf_semantics.specs.state.State.{Moment}
 use Rattle.theory_refinement.proofs.invariant.Invariant.{HoldsAfter}
 use Rattle.theory_confluence.proofs.drains.Tidy.{IsTidy}
-use Rattle.theory_unknown_input.specs.Anew.{GoesTo, finding}
+use Rattle.theory_unknown_input.specs.UnknownInput.{GoesTo, finding}
 use Rattle.theory_unknown_input.proofs.Clear.{IsClear}
 
 -- steps that each find some input lead to a machine, as many as have retired; with some input left the moment is sound over that machine, or ended by its next step; and no value stands below a call that is still to give it

@@ -25,7 +25,7 @@ use Rattle.theory_refinement.proofs.moves.Serve.{Scene, Serves, scene, serve_rea
 use Rattle.theory_confluence.proofs.drains.Apart.{Reaching, all_retired, first_move, move_keeps, only_issue, past_first, past_grows}
 use Rattle.theory_confluence.proofs.weight.Bound.{sound_at}
 use Rattle.theory_confluence.proofs.drains.Rested.{retired_is}
-use Rattle.theory_unknown_input.specs.Anew.{finding}
+use Rattle.theory_unknown_input.specs.UnknownInput.{finding}
 use Rattle.theory_unknown_input.proofs.Invariant.{HoldsAnew}
 use Rattle.theory_unknown_input.proofs.Found.{found}
 use Rattle.theory_unknown_input.proofs.Rechosen.{over}

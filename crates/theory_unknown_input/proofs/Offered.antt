@@ -18,7 +18,7 @@ use Rattle.theory_refinement.proofs.invariant.Invariant.{HoldsAt, Sound}
 use Rattle.theory_refinement.proofs.layouts.Accepted.{accepted_suits}
 use Rattle.theory_confluence.proofs.Candidates.{HasShape, has_some, held_stuck, kept_passes, some_pick}
 use Rattle.theory_confluence.proofs.drains.Rested.{Rested, rested}
-use Rattle.theory_unknown_input.specs.Anew.{finding}
+use Rattle.theory_unknown_input.specs.UnknownInput.{finding}
 use Rattle.theory_unknown_input.proofs.Invariant.{HoldsAnew}
 
 -- a candidate is allowed

@@ -24,7 +24,7 @@ use Rattle.theory_refinement.proofs.layouts.Accepted.{accepted_suits}
 use Rattle.theory_refinement.proofs.claims.Runs.{going, opened_retired}
 use Rattle.theory_confluence.proofs.drains.Rested.{drained_is, rested}
 use Rattle.theory_confluence.proofs.drains.Retiring.{retires_so}
-use Rattle.theory_unknown_input.specs.Anew.{LeadsTo, finding}
+use Rattle.theory_unknown_input.specs.UnknownInput.{LeadsTo, finding}
 use Rattle.theory_unknown_input.proofs.Invariant.{HoldsAnew}
 use Rattle.theory_unknown_input.specs.Paced.{PacesTo}
 use Rattle.theory_unknown_input.proofs.Bounded.{run_bounded_anew}

@@ -22,7 +22,7 @@ use Rattle.theory_refinement.proofs.claims.Refines.{refined}
 use Rattle.theory_refinement.proofs.claims.Runs.{going, kept, opened_retired, started}
 use Rattle.theory_confluence.proofs.drains.Rested.{after_gained, retired_is}
 use Rattle.theory_confluence.proofs.drains.Tidy.{IsTidy, tidy_next, tidy_opened}
-use Rattle.theory_unknown_input.specs.Anew.{GoesTo, LeadsTo, RefinesAnew, finding}
+use Rattle.theory_unknown_input.specs.UnknownInput.{GoesTo, LeadsTo, RefinesOverUnknownInput, finding}
 use Rattle.theory_unknown_input.proofs.Clear.{IsClear}
 use Rattle.theory_unknown_input.proofs.Invariant.{HoldsAnew}
 use Rattle.theory_unknown_input.proofs.ClearEnds.{clear_opened}
@@ -169,7 +169,7 @@ pub holds_anew : (plan : Plan) (x : Machine) (moves : List Move) (m : Moment) (w
 holds_anew plan x moves m written accepted wide leads = anew_after plan x (start plan x) m moves [] written (accepted_suits plan accepted) leads (anew_started plan x wide)
 
 -- what is seen of every run is what the sequential machine does
-pub refines_anew : (plan : Plan) (x : Machine) (moves : List Move) (m : Moment) (written : List Line) → IsAccepted plan → length x.hart.regs ≡ 32 → LeadsTo plan (start plan x) moves m written → RefinesAnew plan x written m
+pub refines_anew : (plan : Plan) (x : Machine) (moves : List Move) (m : Moment) (written : List Line) → IsAccepted plan → length x.hart.regs ≡ 32 → LeadsTo plan (start plan x) moves m written → RefinesOverUnknownInput plan x written m
 refines_anew plan x moves m written accepted wide leads =
     let h : HoldsAnew plan x written m = holds_anew plan x moves m written accepted wide leads in
     record { at = h.at; rises = (let c = h.count in omega (arith, c)); goes = h.goes; rest = h.rest; refines = refines_held plan h.at (finding h.rest m) accepted h.held h.level }

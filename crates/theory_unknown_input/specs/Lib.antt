@@ -1,2 +1,2 @@
-pub mod Anew
+pub mod UnknownInput
 pub mod Paced

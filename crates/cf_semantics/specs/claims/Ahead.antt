@@ -38,13 +38,13 @@ abbrev pub served_count : Plan → State → ℕ
 served_count plan s = on (cell_at s.cells plan.stages) 0 (λ c. on c.passenger 0 (λ p. one (has_served p)))
 
 -- the live passengers so far, how many of these there are down to the lowest that has passed the port, and the answer at the end of Memory's siding until its own passenger is passed
-pub record Tally : Type 0 where
+pub record PortTally : Type 0 where
   pub live : ℕ
   pub ported : ℕ
   pub answer : Option ℕ
 
 -- one item further down
-unfoldable pub counted : Item → Tally → Tally
+unfoldable pub counted : Item → PortTally → PortTally
 counted (Up i p) t = record {
   live = t.live + one (not p.dead);
   ported = if has_ported p t.answer then t.live + 1 else t.ported;
@@ -53,7 +53,7 @@ counted (Up i p) t = record {
 counted (Down i k) t = t
 
 -- at the top
-abbrev pub uncounted : Plan → State → Tally
+abbrev pub uncounted : Plan → State → PortTally
 uncounted plan s = record { live = 0; ported = 0; answer = answer_there plan s }
 
 -- how many live passengers there are from the top down to the lowest that has passed the port, 0 where none has passed it

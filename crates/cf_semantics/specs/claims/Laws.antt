@@ -18,7 +18,7 @@ use Rattle.cf_bind.specs.declared.passenger.End.TheVariants.{Exit}
 use Rattle.cf_bind.specs.declared.passenger.Guess.{Guess}
 use Rattle.cf_bind.specs.declared.passenger.Passenger.{Passenger}
 use Rattle.cf_semantics.specs.state.Options.{on}
-use Rattle.cf_semantics.specs.moves.Instructions.{kind_of, is_memory, is_serial, is_free, src1_of, src2_of, dst_of, value_read, access_trap, mem_after, answer_of, serve_of, Fetched, Got, Bad, fetched, Stepped, Goes, Stops, step_here}
+use Rattle.cf_semantics.specs.moves.Instructions.{kind_of, is_memory, is_serial, is_free, src1_of, src2_of, dst_of, value_read, access_trap, mem_after, answer_of, serve_of, Fetched, Got, Bad, fetched, StepResult, Goes, Stops, step_here}
 use Rattle.cf_semantics.specs.moves.Fetches.{code_of}
 use Rattle.cf_semantics.specs.state.Passengers.{instruction, value_in, reg_in, finish, fresh}
 use Rattle.cf_semantics.specs.moves.Moves.{operation, answered, written}
@@ -26,7 +26,7 @@ use Rattle.cf_semantics.specs.claims.Soundness.{Holds}
 use Rattle.cf_semantics.specs.moves.Steps.{onward}
 
 -- a passenger of the instruction at the machine's address, whose sources have the machine's values, and which has not ended
-pub record IsReady (p : Passenger) (i : Instr) (x : Machine) : Type 0 where
+pub record IsReadyPassenger (p : Passenger) (i : Instr) (x : Machine) : Type 0 where
   pub pc : p.pc ≡ x.hart.pc
   pub what : p.what ≡ Some i
   pub first : value_in p.src1 ≡ value_read x.hart.regs (src1_of i)
@@ -35,7 +35,7 @@ pub record IsReady (p : Passenger) (i : Instr) (x : Machine) : Type 0 where
   pub unended : p.ending ≡ None
 
 -- an executed passenger has left: the program ends with its ending, or goes on at its next address, with its destination written
-abbrev pub departed : Passenger → Machine → Memory → Stepped
+abbrev pub departed : Passenger → Machine → Memory → StepResult
 departed p x mem = on p.ending (Goes (onward x (on p.next 0 (λ n. n)) (written x.hart.regs p.dst) mem)) Stops
 
 -- neither a load or a store, nor what needs the whole machine, nor what needs no unit
@@ -45,29 +45,29 @@ computes c = not (is_memory c || is_serial c || is_free c)
 -- first law: the step of what is computed is what finishing makes of the passenger, and leaves memory, input and output
 abbrev pub ComputesAsFinished : Type 0
 ComputesAsFinished = (isa : Isa) (x : Machine) (i : Instr) (p : Passenger) →
-    fetched isa x.hart.mem x.hart.pc ≡ Got i → computes (kind_of i) ≡ true → IsReady p i x →
+    fetched isa x.hart.mem x.hart.pc ≡ Got i → computes (kind_of i) ≡ true → IsReadyPassenger p i x →
     step_here isa x ≡ departed (finish p None) x x.hart.mem
 
 -- its access is made on the machine's memory, and it finishes with the answer
-abbrev pub returned : Passenger → Machine → Stepped
+abbrev pub returned : Passenger → Machine → StepResult
 returned p x = let op = operation p in
     departed (finish p (Some (answer_of op.instr op.a op.b x.hart.mem))) x (mem_after op.instr op.a op.b x.hart.mem)
 
 -- second law: the step of a load or a store is the trap at its launch, or its access, with whose answer the passenger finishes
 abbrev pub AccessesAsLaunched : Type 0
 AccessesAsLaunched = (isa : Isa) (x : Machine) (i : Instr) (p : Passenger) →
-    fetched isa x.hart.mem x.hart.pc ≡ Got i → is_memory (kind_of i) ≡ true → IsReady p i x →
+    fetched isa x.hart.mem x.hart.pc ≡ Got i → is_memory (kind_of i) ≡ true → IsReadyPassenger p i x →
     step_here isa x ≡ on (access_trap (instruction p) p.pc (value_in p.src1) (bounds_of x.hart.mem)) (returned p x) Stops
 
 -- the environment answers it, or ends the program
-abbrev pub replied : Passenger → Machine → Called → Stepped
+abbrev pub replied : Passenger → Machine → Called → StepResult
 replied p x (called.Value a) = departed (answered p a.value) (record x { rest = a.rest; output = x.output ++ a.output }) a.mem
 replied p x (called.Exit status) = Stops (Exit status)
 
 -- third law: the step of what needs the whole machine is what serving makes of the passenger, and the step of what needs no unit is what its issue makes of it
 pub record ServesAndPasses : Type 0 where
   pub serves : (isa : Isa) (x : Machine) (i : Instr) (p : Passenger) →
-      fetched isa x.hart.mem x.hart.pc ≡ Got i → is_serial (kind_of i) ≡ true → IsReady p i x →
+      fetched isa x.hart.mem x.hart.pc ≡ Got i → is_serial (kind_of i) ≡ true → IsReadyPassenger p i x →
       step_here isa x ≡ replied p x (serve_of (instruction p) x.hart.regs x.hart.mem x.rest)
   pub passes : (isa : Isa) (x : Machine) (i : Instr) (cache : List (Option ℕ)) (g : Guess) →
       fetched isa x.hart.mem x.hart.pc ≡ Got i → is_free (kind_of i) ≡ true →

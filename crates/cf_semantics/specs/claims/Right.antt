@@ -3,7 +3,7 @@ use Rattle.std.specs.Prelude.{ℕ, ◌+◌, Bool, true, false, ◌&&◌, ◌==�
 use Rattle.rv_inst.specs.declared.isa.Isa.{Isa}
 use Rattle.rv_machine.specs.Machine.{Machine}
 use Rattle.cf_bind.specs.declared.passenger.Passenger.{Passenger}
-use Rattle.cf_semantics.specs.moves.Instructions.{Stepped, Goes, Stops, step_at}
+use Rattle.cf_semantics.specs.moves.Instructions.{StepResult, Goes, Stops, step_at}
 use Rattle.cf_semantics.specs.state.State.{State}
 use Rattle.cf_semantics.specs.state.Column.{Item, Up, Down, column}
 use Rattle.cf_semantics.specs.claims.Walks.{walk}
@@ -17,7 +17,7 @@ pub record Way : Type 0 where
   pub count : ℕ
   pub stop : Bool
 
-abbrev pub goes : Stepped → Bool
+abbrev pub goes : StepResult → Bool
 goes (Goes m) = true
 goes (Stops e) = false
 

@@ -17,7 +17,7 @@ use Rattle.cf_bind.specs.declared.passenger.Guess.{Guess}
 use Rattle.cf_bind.specs.declared.passenger.Passenger.{Passenger}
 use Rattle.cf_bind.specs.declared.passenger.End.{End}
 use Rattle.cf_semantics.specs.state.Options.{on, is_some, When, Where}
-use Rattle.cf_semantics.specs.moves.Instructions.{is_memory, is_serial, is_free, Fetched, Got, Bad, fetched, Stepped, Goes, Stops, step_at, after_step}
+use Rattle.cf_semantics.specs.moves.Instructions.{is_memory, is_serial, is_free, Fetched, Got, Bad, fetched, StepResult, Goes, Stops, step_at, after_step}
 use Rattle.cf_semantics.specs.state.State.{State, Moment, siding_at}
 use Rattle.cf_semantics.specs.state.Column.{Item, Up, Down, column}
 use Rattle.cf_semantics.specs.state.Passengers.{kind, missing, cached}
@@ -43,7 +43,7 @@ OwesValue (Some (Value r v)) dst = dst ≡ Some (record { reg = r; value = Some 
 OwesValue owed dst = Unit {0}
 
 -- for a sure passenger, where x is the machine before it and s that machine's step at its address
-pub record HasValues (p : Passenger) (x : Machine) (s : Stepped) : Type 0 where
+pub record HasValues (p : Passenger) (x : Machine) (s : StepResult) : Type 0 where
   pub first : HasValue p.src1 x.hart.regs
   pub second : HasValue p.src2 x.hart.regs
   pub destination : HasValue p.dst (after_step s x).hart.regs

@@ -154,11 +154,11 @@ serve_of i regs mem rest =
     else call regs mem rest
 
 -- a step goes on to a machine, or it ends the program
-pub data Stepped : Type 0 where
-  Goes : Machine → Stepped
-  Stops : End → Stepped
+pub data StepResult : Type 0 where
+  Goes : Machine → StepResult
+  Stops : End → StepResult
 
-abbrev pub stepped : outcome.Outcome Machine → Stepped
+abbrev pub stepped : outcome.Outcome Machine → StepResult
 stepped (outcome.Next m line) = Goes m
 stepped (outcome.Trap cause pc detail) = Stops (Trap cause pc detail)
 stepped (outcome.Exit status) = Stops (Exit status)
@@ -168,14 +168,14 @@ abbrev pub at_pc : Machine → ℕ → Machine
 at_pc x pc = record x { hart = record x.hart { pc = pc } }
 
 -- the step of the machine at this address
-unfoldable pub step_at : Isa → Machine → ℕ → Stepped
+unfoldable pub step_at : Isa → Machine → ℕ → StepResult
 step_at isa x pc = stepped (step isa (at_pc x pc))
 
 -- the step of the machine where it is
-abbrev pub step_here : Isa → Machine → Stepped
+abbrev pub step_here : Isa → Machine → StepResult
 step_here isa x = step_at isa x x.hart.pc
 
 -- the machine after a step, or as it was where the step ends the program
-abbrev pub after_step : Stepped → Machine → Machine
+abbrev pub after_step : StepResult → Machine → Machine
 after_step (Goes n) m = n
 after_step (Stops e) m = m

@@ -12,14 +12,14 @@ use Rattle.rv_machine.specs.Call.{Called}
 use Rattle.rv_machine.specs.Call as called
 use Rattle.cf_bind.specs.declared.passenger.End.TheVariants.{Exit}
 use Rattle.cf_semantics.specs.state.Options.{on}
-use Rattle.cf_semantics.specs.moves.Instructions.{dst_of, value_written, word_after, finish_trap, free_trap, access_trap, mem_after, answer_of, serve_of, Stepped, Goes, Stops}
+use Rattle.cf_semantics.specs.moves.Instructions.{dst_of, value_written, word_after, finish_trap, free_trap, access_trap, mem_after, answer_of, serve_of, StepResult, Goes, Stops}
 
 -- the machine one instruction further, at another address, with these registers and this memory
 abbrev pub onward : Machine → ℕ → List ℕ → Memory → Machine
 onward m pc regs mem = record m { hart = record { pc = pc; regs = regs; mem = mem; retired = m.hart.retired + 1 } }
 
 -- what the environment answers goes to the destination
-abbrev pub served : Called → Option ℕ → Machine → Stepped
+abbrev pub served : Called → Option ℕ → Machine → StepResult
 served (called.Value a) d m = Goes (record {
   hart = record {
     pc = word_after m.hart.pc;
@@ -33,7 +33,7 @@ served (called.Value a) d m = Goes (record {
 served (called.Exit status) d m = Stops (Exit status)
 
 -- the step of the instruction i, whose sources have the values a and b
-abbrev pub stepped_as : Class → Instr → ℕ → ℕ → Machine → Stepped
+abbrev pub stepped_as : Class → Instr → ℕ → ℕ → Machine → StepResult
 stepped_as class.Memory i a b m = on (access_trap i m.hart.pc a (bounds_of m.hart.mem))
     (Goes (onward m (word_after m.hart.pc) (value_written m.hart.regs (dst_of i) (answer_of i a b m.hart.mem)) (mem_after i a b m.hart.mem)))
     Stops

@@ -33,11 +33,11 @@ use Rattle.theory_refinement.proofs.instructions.Classes.{memory_is}
 use Rattle.theory_refinement.proofs.walks.Path.{sure_at}
 
 -- the machine so far is on the sequential path, t.live steps after m's n-th
-pub record OnPath (isa : Isa) (m : Machine) (n : ℕ) (w : dock.Dock) (t : ahead.Tally) : Type 0 where
+pub record OnPath (isa : Isa) (m : Machine) (n : ℕ) (w : dock.Dock) (t : ahead.PortTally) : Type 0 where
   pub so_far : after isa m (n + t.live) ≡ Some w.path.machine
   pub goto : w.path.goto ≡ Some w.path.machine.hart.pc
 
-pub record Reach (isa : Isa) (m : Machine) (n : ℕ) (w : dock.Dock) (t : ahead.Tally) : Type 0 where
+pub record Reach (isa : Isa) (m : Machine) (n : ℕ) (w : dock.Dock) (t : ahead.PortTally) : Type 0 where
   pub at : Machine
   pub count : after isa m (n + t.ported) ≡ Some at
   pub mem : w.mem ≡ at.hart.mem
@@ -89,20 +89,20 @@ pub mem_past : (isa : Isa) (i : ℕ) (p : Passenger) (w : dock.Dock) (b : Bool) 
 unfolding dock.past
 mem_past isa i p w b e = rw e refl
 
-pub answer_past : (isa : Isa) (i : ℕ) (p : Passenger) (w : dock.Dock) (t : ahead.Tally) → t.answer ≡ w.answer → (ahead.counted (Up i p) t).answer ≡ (dock.past isa (Up i p) w).answer
+pub answer_past : (isa : Isa) (i : ℕ) (p : Passenger) (w : dock.Dock) (t : ahead.PortTally) → t.answer ≡ w.answer → (ahead.counted (Up i p) t).answer ≡ (dock.past isa (Up i p) w).answer
 unfolding dock.past ahead.counted
 answer_past isa i p w t e = rw e refl
 
-tally_past : (i : ℕ) (p : Passenger) (t : ahead.Tally) (b : Bool) → ahead.has_ported p t.answer ≡ b → ((ahead.counted (Up i p) t).ported ≡ (if b then t.live + 1 else t.ported)) × ((ahead.counted (Up i p) t).live ≡ t.live + ahead.one (not p.dead))
+tally_past : (i : ℕ) (p : Passenger) (t : ahead.PortTally) (b : Bool) → ahead.has_ported p t.answer ≡ b → ((ahead.counted (Up i p) t).ported ≡ (if b then t.live + 1 else t.ported)) × ((ahead.counted (Up i p) t).live ≡ t.live + ahead.one (not p.dead))
 unfolding ahead.counted
 tally_past i p t b e = (rw e refl, refl)
 
-pub result_past : (isa : Isa) (i : ℕ) (k : Packet) (w : dock.Dock) (t : ahead.Tally) → ((dock.past isa (Down i k) w).path.machine ≡ w.path.machine) × ((dock.past isa (Down i k) w).path.goto ≡ w.path.goto) × ((dock.past isa (Down i k) w).mem ≡ w.mem) × ((dock.past isa (Down i k) w).answer ≡ w.answer) × (ahead.counted (Down i k) t ≡ t) × ((dock.past isa (Down i k) w).risky ≡ false → w.risky ≡ false)
+pub result_past : (isa : Isa) (i : ℕ) (k : Packet) (w : dock.Dock) (t : ahead.PortTally) → ((dock.past isa (Down i k) w).path.machine ≡ w.path.machine) × ((dock.past isa (Down i k) w).path.goto ≡ w.path.goto) × ((dock.past isa (Down i k) w).mem ≡ w.mem) × ((dock.past isa (Down i k) w).answer ≡ w.answer) × (ahead.counted (Down i k) t ≡ t) × ((dock.past isa (Down i k) w).risky ≡ false → w.risky ≡ false)
 unfolding dock.past trail.past ahead.counted
 result_past isa i k w t = (grind arith, grind arith, refl, refl, refl, λ e. grind arith)
 
 -- at a rider
-pub live_on : (l : Plan) (m : Machine) (n i : ℕ) (p : Passenger) (w : dock.Dock) (t : ahead.Tally) → Stands l i p → sure.Fits (isa_of l) (Up i p) w.path → dock.Fits (isa_of l) (Up i p) w → (w.path.barred ≡ true → w.risky ≡ true) → p.dead ≡ false → (dock.past (isa_of l) (Up i p) w).risky ≡ false → still p ≡ false → OnPath (isa_of l) m n w t → OnPath (isa_of l) m n (dock.past (isa_of l) (Up i p) w) (ahead.counted (Up i p) t)
+pub live_on : (l : Plan) (m : Machine) (n i : ℕ) (p : Passenger) (w : dock.Dock) (t : ahead.PortTally) → Stands l i p → sure.Fits (isa_of l) (Up i p) w.path → dock.Fits (isa_of l) (Up i p) w → (w.path.barred ≡ true → w.risky ≡ true) → p.dead ≡ false → (dock.past (isa_of l) (Up i p) w).risky ≡ false → still p ≡ false → OnPath (isa_of l) m n w t → OnPath (isa_of l) m n (dock.past (isa_of l) (Up i p) w) (ahead.counted (Up i p) t)
 live_on l m n i p w t s f k g d r b h =
     let q = risk_past (isa_of l) (Up i p) w r in
     let o = open_of w g q.0 in
@@ -119,14 +119,14 @@ live_on l m n i p w t s f k g d r b h =
     still_off : p.dead ≡ false → (is_memory (kind p) && not p.done && not p.launched) ≡ false
     still_off d = grind arith
 
-pub dead_on : (isa : Isa) (m : Machine) (n i : ℕ) (p : Passenger) (w : dock.Dock) (t : ahead.Tally) → p.dead ≡ true → OnPath isa m n w t → OnPath isa m n (dock.past isa (Up i p) w) (ahead.counted (Up i p) t)
+pub dead_on : (isa : Isa) (m : Machine) (n i : ℕ) (p : Passenger) (w : dock.Dock) (t : ahead.PortTally) → p.dead ≡ true → OnPath isa m n w t → OnPath isa m n (dock.past isa (Up i p) w) (ahead.counted (Up i p) t)
 dead_on isa m n i p w t d h =
     let v = dead_past isa i p w d in
     let u = (tally_past i p t (ahead.has_ported p t.answer) refl).1 in
     let count : n + (ahead.counted (Up i p) t).live ≡ n + t.live = omega (arith, u ∙ ap (λ (a : Bool). t.live + ahead.one (not a)) d) in
     record { so_far = ap (after isa m) count ∙ h.so_far ∙ ap Some (sym v.0); goto = v.1 ∙ h.goto ∙ ap (λ (a : Machine). Some a.hart.pc) (sym v.0) }
 
-rider_reach : (l : Plan) (m : Machine) (n i : ℕ) (p : Passenger) (w : dock.Dock) (t : ahead.Tally) → Stands l i p → sure.Fits (isa_of l) (Up i p) w.path → dock.Fits (isa_of l) (Up i p) w → (w.path.barred ≡ true → w.risky ≡ true) → t.answer ≡ w.answer → (ahead.has_ported p w.answer ≡ true → w.risky ≡ false → OnPath (isa_of l) m n w t) → Reach (isa_of l) m n w t → Reach (isa_of l) m n (dock.past (isa_of l) (Up i p) w) (ahead.counted (Up i p) t)
+rider_reach : (l : Plan) (m : Machine) (n i : ℕ) (p : Passenger) (w : dock.Dock) (t : ahead.PortTally) → Stands l i p → sure.Fits (isa_of l) (Up i p) w.path → dock.Fits (isa_of l) (Up i p) w → (w.path.barred ≡ true → w.risky ≡ true) → t.answer ≡ w.answer → (ahead.has_ported p w.answer ≡ true → w.risky ≡ false → OnPath (isa_of l) m n w t) → Reach (isa_of l) m n w t → Reach (isa_of l) m n (dock.past (isa_of l) (Up i p) w) (ahead.counted (Up i p) t)
 rider_reach l m n i p w t s f k g a o h = go (ahead.has_ported p w.answer) refl
   where
     go : (b : Bool) → ahead.has_ported p w.answer ≡ b → Reach (isa_of l) m n (dock.past (isa_of l) (Up i p) w) (ahead.counted (Up i p) t)
@@ -151,7 +151,7 @@ rider_reach l m n i p w t s f k g a o h = go (ahead.has_ported p w.answer) refl
         live false x = x
         live true x = absurd (grind arith)
 
-pub walk_reach : (l : Plan) (m : Machine) (n : ℕ) (xs : List Item) (w : dock.Dock) (t : ahead.Tally) (b : Bool) → Suits l → Sorted xs → Each l xs → Everywhere (sure.Fits (isa_of l)) (trail.past (isa_of l)) xs w.path → Everywhere (dock.Fits (isa_of l)) (dock.past (isa_of l)) xs w → (w.path.barred ≡ true → w.risky ≡ true) → t.answer ≡ w.answer → (b ≡ true → Riders (λ j. j < launch_stage l (port l)) xs) → (w.risky ≡ false → b ≡ false → OnPath (isa_of l) m n w t) → Reach (isa_of l) m n w t → Reach (isa_of l) m n (walk (dock.past (isa_of l)) xs w) (walk ahead.counted xs t)
+pub walk_reach : (l : Plan) (m : Machine) (n : ℕ) (xs : List Item) (w : dock.Dock) (t : ahead.PortTally) (b : Bool) → Suits l → Sorted xs → Each l xs → Everywhere (sure.Fits (isa_of l)) (trail.past (isa_of l)) xs w.path → Everywhere (dock.Fits (isa_of l)) (dock.past (isa_of l)) xs w → (w.path.barred ≡ true → w.risky ≡ true) → t.answer ≡ w.answer → (b ≡ true → Riders (λ j. j < launch_stage l (port l)) xs) → (w.risky ≡ false → b ≡ false → OnPath (isa_of l) m n w t) → Reach (isa_of l) m n w t → Reach (isa_of l) m n (walk (dock.past (isa_of l)) xs w) (walk ahead.counted xs t)
 walk_reach l m n [] w t b acc so ea fp fd g a low o h = h
 walk_reach l m n (Up i p ∷ xs) w t b acc so ea fp fd g a low o h =
     let here : ahead.has_ported p w.answer ≡ true → w.risky ≡ false → OnPath (isa_of l) m n w t = λ e r. o r (behind_not b refl low (ported_high l i p w.answer acc ea.0 e)) in
@@ -174,7 +174,7 @@ walk_reach l m n (Up i p ∷ xs) w t b acc so ea fp fd g a low o h =
     ahead_on false e r q = live_on l m n i p w t ea.0 fp.0 fd.0 g e r q.1 (o (risk_past (isa_of l) (Up i p) w r).0 q.0)
 walk_reach l m n (Down i k ∷ xs) w t b acc so ea fp fd g a low o h =
     let q = result_past (isa_of l) i k w t in
-    walk_reach l m n xs (dock.past (isa_of l) (Down i k) w) (ahead.counted (Down i k) t) b acc so ea (rw (past_path (isa_of l) (Down i k) w) fp.1) fd.1 (past_safe (isa_of l) (Down i k) w g) (ap (λ (z : ahead.Tally). z.answer) q.4 ∙ a ∙ sym q.3) low (λ r e. let z = o (q.5 r) e in record { so_far = ap (λ (y : ahead.Tally). after (isa_of l) m (n + y.live)) q.4 ∙ z.so_far ∙ ap Some (sym q.0); goto = q.1 ∙ z.goto ∙ ap (λ (y : Machine). Some y.hart.pc) (sym q.0) }) (record { at = h.at; count = ap (λ (y : ahead.Tally). after (isa_of l) m (n + y.ported)) q.4 ∙ h.count; mem = q.2 ∙ h.mem })
+    walk_reach l m n xs (dock.past (isa_of l) (Down i k) w) (ahead.counted (Down i k) t) b acc so ea (rw (past_path (isa_of l) (Down i k) w) fp.1) fd.1 (past_safe (isa_of l) (Down i k) w g) (ap (λ (z : ahead.PortTally). z.answer) q.4 ∙ a ∙ sym q.3) low (λ r e. let z = o (q.5 r) e in record { so_far = ap (λ (y : ahead.PortTally). after (isa_of l) m (n + y.live)) q.4 ∙ z.so_far ∙ ap Some (sym q.0); goto = q.1 ∙ z.goto ∙ ap (λ (y : Machine). Some y.hart.pc) (sym q.0) }) (record { at = h.at; count = ap (λ (y : ahead.PortTally). after (isa_of l) m (n + y.ported)) q.4 ∙ h.count; mem = q.2 ∙ h.mem })
 
 pub memory_ahead : {rest out : List ℕ} (l : Plan) (m : Machine) (s : State) (x : Machine) → Suits l → after (isa_of l) m (gained m s) ≡ Some x → Sound l s rest out x → (z : Machine) × (after (isa_of l) m (gained m s + ahead.ported_count l s) ≡ Some z) × (s.mem ≡ z.hart.mem)
 memory_ahead {rest} {out} l m s x acc a h =

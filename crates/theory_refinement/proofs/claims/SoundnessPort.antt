@@ -64,7 +64,7 @@ after_packet isa zero i k xs w = sym (path_result isa i k w).0
 after_packet isa (suc n) i k xs w = refl
 
 -- where nothing is risky, the live passengers so far are the sure ones: after them the column goes on as the rest does
-abbrev pub GoesOn : Isa → List Item → trail.Walk → List Item → dock.Dock → ahead.Tally → Type 0
+abbrev pub GoesOn : Isa → List Item → trail.Walk → List Item → dock.Dock → ahead.PortTally → Type 0
 GoesOn isa all from xs w t = w.risky ≡ false → (n : ℕ) → machine_after isa (t.live + n) all from ≡ machine_after isa n xs w.path
 
 live_one : (t n : ℕ) (dead : Bool) → dead ≡ false → (t + ahead.one (not dead)) + n ≡ t + suc n
@@ -73,18 +73,18 @@ live_one t n dead e = rw e (omega arith)
 live_none : (t n : ℕ) (dead : Bool) → dead ≡ true → (t + ahead.one (not dead)) + n ≡ t + n
 live_none t n dead e = rw e (omega arith)
 
-counted_live : (i : ℕ) (p : Passenger) (t : ahead.Tally) → (ahead.counted (Up i p) t).live ≡ t.live + ahead.one (not p.dead)
+counted_live : (i : ℕ) (p : Passenger) (t : ahead.PortTally) → (ahead.counted (Up i p) t).live ≡ t.live + ahead.one (not p.dead)
 unfolding ahead.counted
 counted_live i p t = refl
 
-counted_ported : (i : ℕ) (p : Passenger) (t : ahead.Tally) → (ahead.counted (Up i p) t).ported ≡ (if ahead.has_ported p t.answer then t.live + 1 else t.ported)
+counted_ported : (i : ℕ) (p : Passenger) (t : ahead.PortTally) → (ahead.counted (Up i p) t).ported ≡ (if ahead.has_ported p t.answer then t.live + 1 else t.ported)
 unfolding ahead.counted
 counted_ported i p t = refl
 
 dead_is : (p : Passenger) (w : trail.Walk) → p.dead ≡ true → trail.is_sure p w ≡ false
 dead_is p w d = grind arith
 
-goes_on_rider : (isa : Isa) (all : List Item) (from : trail.Walk) (i : ℕ) (p : Passenger) (xs : List Item) (w : dock.Dock) (t : ahead.Tally) → (w.path.barred ≡ true → w.risky ≡ true) → GoesOn isa all from (Up i p ∷ xs) w t → GoesOn isa all from xs (dock.past isa (Up i p) w) (ahead.counted (Up i p) t)
+goes_on_rider : (isa : Isa) (all : List Item) (from : trail.Walk) (i : ℕ) (p : Passenger) (xs : List Item) (w : dock.Dock) (t : ahead.PortTally) → (w.path.barred ≡ true → w.risky ≡ true) → GoesOn isa all from (Up i p ∷ xs) w t → GoesOn isa all from xs (dock.past isa (Up i p) w) (ahead.counted (Up i p) t)
 goes_on_rider isa all from i p xs w t safe g r n = by p.dead refl
   where
     calm : w.risky ≡ false
@@ -107,10 +107,10 @@ ported_live p answer e = go p.dead refl
     go true d = absurd (grind arith)
 
 -- memory so far is that of the machine after the passengers so far that have passed the port
-abbrev pub Stored : Isa → List Item → trail.Walk → dock.Dock → ahead.Tally → Type 0
+abbrev pub Stored : Isa → List Item → trail.Walk → dock.Dock → ahead.PortTally → Type 0
 Stored isa all from w t = w.mem ≡ (machine_after isa t.ported all from).hart.mem
 
-stored_rider : (isa : Isa) (all : List Item) (from : trail.Walk) (i : ℕ) (p : Passenger) (xs : List Item) (w : dock.Dock) (t : ahead.Tally) → dock.Fits isa (Up i p) w → (w.path.barred ≡ true → w.risky ≡ true) → t.answer ≡ w.answer → GoesOn isa all from (Up i p ∷ xs) w t → Stored isa all from w t → Stored isa all from (dock.past isa (Up i p) w) (ahead.counted (Up i p) t)
+stored_rider : (isa : Isa) (all : List Item) (from : trail.Walk) (i : ℕ) (p : Passenger) (xs : List Item) (w : dock.Dock) (t : ahead.PortTally) → dock.Fits isa (Up i p) w → (w.path.barred ≡ true → w.risky ≡ true) → t.answer ≡ w.answer → GoesOn isa all from (Up i p ∷ xs) w t → Stored isa all from w t → Stored isa all from (dock.past isa (Up i p) w) (ahead.counted (Up i p) t)
 stored_rider isa all from i p xs w t fit safe same g h = by (ahead.has_ported p w.answer) refl
   where
     count : (b : Bool) → ahead.has_ported p w.answer ≡ b → (ahead.counted (Up i p) t).ported ≡ (if b then t.live + 1 else t.ported)
@@ -125,28 +125,28 @@ stored_rider isa all from i p xs w t fit safe same g h = by (ahead.has_ported p 
         mem_past isa i p w true e ∙ ap (λ (z : Machine). z.hart.mem) (sym q) ∙ ap (λ (z : ℕ). (machine_after isa z all from).hart.mem) (sym (count true e))
 
 -- a packet changes nothing of this
-record Same (w v : dock.Dock) (t u : ahead.Tally) : Type 0 where
+record Same (w v : dock.Dock) (t u : ahead.PortTally) : Type 0 where
   mem : v.mem ≡ w.mem
   answer : v.answer ≡ w.answer
   tally : u ≡ t
   risky : v.risky ≡ false → w.risky ≡ false
 
-same_packet : (isa : Isa) (i : ℕ) (k : Packet) (w : dock.Dock) (t : ahead.Tally) → Same w (dock.past isa (Down i k) w) t (ahead.counted (Down i k) t)
+same_packet : (isa : Isa) (i : ℕ) (k : Packet) (w : dock.Dock) (t : ahead.PortTally) → Same w (dock.past isa (Down i k) w) t (ahead.counted (Down i k) t)
 unfolding dock.past ahead.counted
 same_packet isa i k w t = record { mem = refl; answer = refl; tally = refl; risky = λ e. grind arith }
 
-goes_on_packet : (isa : Isa) (all : List Item) (from : trail.Walk) (i : ℕ) (k : Packet) (xs : List Item) (w : dock.Dock) (t : ahead.Tally) → GoesOn isa all from (Down i k ∷ xs) w t → GoesOn isa all from xs (dock.past isa (Down i k) w) (ahead.counted (Down i k) t)
+goes_on_packet : (isa : Isa) (all : List Item) (from : trail.Walk) (i : ℕ) (k : Packet) (xs : List Item) (w : dock.Dock) (t : ahead.PortTally) → GoesOn isa all from (Down i k ∷ xs) w t → GoesOn isa all from xs (dock.past isa (Down i k) w) (ahead.counted (Down i k) t)
 goes_on_packet isa all from i k xs w t g r n =
     let q = same_packet isa i k w t in
-    ap (λ (z : ahead.Tally). machine_after isa (z.live + n) all from) q.tally ∙ g (q.risky r) n ∙ after_packet isa n i k xs w.path ∙ ap (machine_after isa n xs) (sym (past_path isa (Down i k) w))
+    ap (λ (z : ahead.PortTally). machine_after isa (z.live + n) all from) q.tally ∙ g (q.risky r) n ∙ after_packet isa n i k xs w.path ∙ ap (machine_after isa n xs) (sym (past_path isa (Down i k) w))
 
-stored : (isa : Isa) (all : List Item) (from : trail.Walk) (xs : List Item) (w : dock.Dock) (t : ahead.Tally) → Everywhere (dock.Fits isa) (dock.past isa) xs w → (w.path.barred ≡ true → w.risky ≡ true) → t.answer ≡ w.answer → GoesOn isa all from xs w t → Stored isa all from w t → Stored isa all from (walk (dock.past isa) xs w) (walk ahead.counted xs t)
+stored : (isa : Isa) (all : List Item) (from : trail.Walk) (xs : List Item) (w : dock.Dock) (t : ahead.PortTally) → Everywhere (dock.Fits isa) (dock.past isa) xs w → (w.path.barred ≡ true → w.risky ≡ true) → t.answer ≡ w.answer → GoesOn isa all from xs w t → Stored isa all from w t → Stored isa all from (walk (dock.past isa) xs w) (walk ahead.counted xs t)
 stored isa all from [] w t fit safe same g h = h
 stored isa all from (Up i p ∷ xs) w t fit safe same g h =
     stored isa all from xs (dock.past isa (Up i p) w) (ahead.counted (Up i p) t) fit.1 (past_safe isa (Up i p) w safe) (answer_past isa i p w t same) (goes_on_rider isa all from i p xs w t safe g) (stored_rider isa all from i p xs w t fit.0 safe same g h)
 stored isa all from (Down i k ∷ xs) w t fit safe same g h =
     let q = same_packet isa i k w t in
-    stored isa all from xs (dock.past isa (Down i k) w) (ahead.counted (Down i k) t) fit.1 (past_safe isa (Down i k) w safe) (ap (λ (z : ahead.Tally). z.answer) q.tally ∙ same ∙ sym q.answer) (goes_on_packet isa all from i k xs w t g) (q.mem ∙ h ∙ ap (λ (z : ahead.Tally). (machine_after isa z.ported all from).hart.mem) (sym q.tally))
+    stored isa all from xs (dock.past isa (Down i k) w) (ahead.counted (Down i k) t) fit.1 (past_safe isa (Down i k) w safe) (ap (λ (z : ahead.PortTally). z.answer) q.tally ∙ same ∙ sym q.answer) (goes_on_packet isa all from i k xs w t g) (q.mem ∙ h ∙ ap (λ (z : ahead.PortTally). (machine_after isa z.ported all from).hart.mem) (sym q.tally))
 
 -- only packets are passed
 after_idle : (isa : Isa) (n : ℕ) (xs ys : List Item) (w : trail.Walk) → Idle xs → machine_after isa n (xs ++ ys) w ≡ machine_after isa n ys (walk (trail.past isa) xs w)

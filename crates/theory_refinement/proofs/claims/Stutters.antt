@@ -31,7 +31,7 @@ use Rattle.theory_refinement.proofs.moves.Access.{access_scene, next_access}
 use Rattle.theory_refinement.proofs.claims.Ahead.{OnPath, dead_on, live_on, result_past, sure_pc}
 use Rattle.theory_refinement.proofs.column.Change.{past_safe}
 use Rattle.theory_refinement.proofs.column.Fold.{fit_front}
-use Rattle.theory_refinement.proofs.claims.Heeds.{Out, out_above, quiet_unmoved}
+use Rattle.theory_refinement.proofs.claims.OnPath.{Out, out_above, quiet_unmoved}
 use Rattle.theory_refinement.proofs.moves.Rows.{bar_row}
 use Rattle.theory_refinement.proofs.moves.Leave.{Left, at_top, leave_kept}
 use Rattle.theory_refinement.proofs.claims.Lines.{gained_is}
@@ -153,7 +153,7 @@ spoken_steps l m x Exit e h = inl (record { rest = refl; output = refl })
 spoken_steps l m x Serve e h = (serve_steps l m x e h).spoken
 
 -- the machine after the live passengers of the column, as far as nothing bars the path
-path_on : (l : Plan) (m : Machine) (n : ℕ) (xs : List Item) (w : dock.Dock) (t : ahead.Tally) → Each l xs → Everywhere (sure.Fits (isa_of l)) (trail.past (isa_of l)) xs w.path → Everywhere (dock.Fits (isa_of l)) (dock.past (isa_of l)) xs w → (w.path.barred ≡ true → w.risky ≡ true) → Out xs → (walk (dock.past (isa_of l)) xs w).risky ≡ false → OnPath (isa_of l) m n w t → OnPath (isa_of l) m n (walk (dock.past (isa_of l)) xs w) (walk ahead.counted xs t)
+path_on : (l : Plan) (m : Machine) (n : ℕ) (xs : List Item) (w : dock.Dock) (t : ahead.PortTally) → Each l xs → Everywhere (sure.Fits (isa_of l)) (trail.past (isa_of l)) xs w.path → Everywhere (dock.Fits (isa_of l)) (dock.past (isa_of l)) xs w → (w.path.barred ≡ true → w.risky ≡ true) → Out xs → (walk (dock.past (isa_of l)) xs w).risky ≡ false → OnPath (isa_of l) m n w t → OnPath (isa_of l) m n (walk (dock.past (isa_of l)) xs w) (walk ahead.counted xs t)
 path_on l m n [] w t ea fp fd g out r h = h
 path_on l m n (Up i p ∷ xs) w t ea fp fd g out r h =
     path_on l m n xs (dock.past (isa_of l) (Up i p) w) (ahead.counted (Up i p) t) ea.1 (rw (past_path (isa_of l) (Up i p) w) fp.1) fd.1 (past_safe (isa_of l) (Up i p) w g) out.1 r (by p.dead refl)
@@ -164,7 +164,7 @@ path_on l m n (Up i p ∷ xs) w t ea fp fd g out r h =
 path_on l m n (Down i k ∷ xs) w t ea fp fd g out r h =
     let q = result_past (isa_of l) i k w t in
     path_on l m n xs (dock.past (isa_of l) (Down i k) w) (ahead.counted (Down i k) t) ea (rw (past_path (isa_of l) (Down i k) w) fp.1) fd.1 (past_safe (isa_of l) (Down i k) w g) out r
-    (record { so_far = ap (λ (y : ahead.Tally). after (isa_of l) m (n + y.live)) q.4 ∙ h.so_far ∙ ap Some (sym q.0); goto = q.1 ∙ h.goto ∙ ap (λ (y : Machine). Some y.hart.pc) (sym q.0) })
+    (record { so_far = ap (λ (y : ahead.PortTally). after (isa_of l) m (n + y.live)) q.4 ∙ h.so_far ∙ ap Some (sym q.0); goto = q.1 ∙ h.goto ∙ ap (λ (y : Machine). Some y.hart.pc) (sym q.0) })
 
 -- the memory
 access_steps : {rest out : List ℕ} (l : Plan) (start : Machine) (s : State) (x : Machine) → Suits l → after (isa_of l) start (gained start s) ≡ Some x → bar l s Access ≡ None → Sound l s rest out x → OneStored (isa_of l) start s (moved l s Access)

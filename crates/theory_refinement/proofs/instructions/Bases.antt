@@ -12,7 +12,7 @@ use Rattle.rv_machine.specs.Machine.{Machine}
 use Rattle.rv_machine.specs.Outcome as outcome
 use Rattle.rv_machine.specs.Step.{step}
 use Rattle.cf_semantics.specs.state.Options.{on}
-use Rattle.cf_semantics.specs.moves.Instructions.{Fetched, Got, Bad, fetched, Stepped, Goes, Stops, step_at, step_here, stepped}
+use Rattle.cf_semantics.specs.moves.Instructions.{Fetched, Got, Bad, fetched, StepResult, Goes, Stops, step_at, step_here, stepped}
 use Rattle.cf_semantics.specs.runs.Lines.{Line, lines_at, lines_in, sequence}
 use Rattle.theory_refinement.proofs.instructions.OwnLines.{GivesOwn, own_step}
 use Rattle.theory_refinement.proofs.instructions.Steps.{IsFetched, fetched_is, bad_step, step_executes, step_is}
@@ -50,7 +50,7 @@ same_line x i e =
     ∙ ap (lines_in Rv32im) (step_executes Rv32i x i q ∙ sym (step_executes Rv32im x i r))
 
 -- the machine after a step that goes on
-abbrev onward_of : Stepped → Option Machine
+abbrev onward_of : StepResult → Option Machine
 onward_of (Goes m) = Some m
 onward_of (Stops e) = None
 

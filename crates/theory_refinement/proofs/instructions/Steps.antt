@@ -43,7 +43,7 @@ use Rattle.cf_bind.specs.declared.passenger.Passenger.{Passenger}
 use Rattle.cf_bind.specs.declared.passenger.End.{End}
 use Rattle.cf_bind.specs.declared.passenger.End.TheVariants.{Trap}
 use Rattle.cf_semantics.specs.state.Options.{on}
-use Rattle.cf_semantics.specs.moves.Instructions.{kind_of, is_control, is_serial, Fetched, Got, Bad, read_as, word_read, fetched, register, src1_of, src2_of, dst_of, value_read, value_written, word_after, finish_trap, free_trap, refused, access_trap, mem_after, number, answer_of, serve_of, Stepped, Goes, Stops, stepped, step_at, at_pc, after_step}
+use Rattle.cf_semantics.specs.moves.Instructions.{kind_of, is_control, is_serial, Fetched, Got, Bad, read_as, word_read, fetched, register, src1_of, src2_of, dst_of, value_read, value_written, word_after, finish_trap, free_trap, refused, access_trap, mem_after, number, answer_of, serve_of, StepResult, Goes, Stops, stepped, step_at, at_pc, after_step}
 use Rattle.cf_semantics.specs.state.Passengers.{kind, instruction, reg_in}
 use Rattle.cf_semantics.specs.moves.Steps.{onward, served, stepped_as}
 use Rattle.cf_semantics.specs.claims.Path.{is_trap, has_reg}
@@ -126,7 +126,7 @@ destination_written regs r v = go (r == 0) refl
     go false e = rw e refl
 
 -- the hart's outcome beside an input and an output that stay
-abbrev alone : Machine → outcome.Outcome Hart → Stepped
+abbrev alone : Machine → outcome.Outcome Hart → StepResult
 alone x o = stepped (machine.after_output x.output (machine.beside x.rest [] o))
 
 -- an instruction that retires
@@ -237,7 +237,7 @@ accesses_as x word i a b access false e w =
     rw (← load_at-permits x.hart.mem access.addr access.width) (loaded x word i access (load_at x.hart.mem access.addr access.width) w)
 
 -- the step that goes on, or traps as is said
-abbrev or_trap : Stepped → Option End → Stepped
+abbrev or_trap : StepResult → Option End → StepResult
 or_trap s o = on o s Stops
 
 -- loads and stores
@@ -387,7 +387,7 @@ class_keeps Serial i a b m = served_keeps (serve_of i m.hart.regs m.hart.mem m.r
 class_keeps Free i a b m = on_keeps (free_trap i m.hart.pc) _ m (dst_of i) (record { wide = refl; other = λ r f. refl })
 class_keeps _ i a b m = on_keeps (finish_trap i m.hart.pc a b) _ m (dst_of i) (write_keeps m _ (dst_of i) _ refl)
 
-keeps_at : (s : Stepped) (x : Machine) (pc : ℕ) (d : Option ℕ) → Keeps (at_pc x pc) (after_step s (at_pc x pc)) d → Keeps x (after_step s x) d
+keeps_at : (s : StepResult) (x : Machine) (pc : ℕ) (d : Option ℕ) → Keeps (at_pc x pc) (after_step s (at_pc x pc)) d → Keeps x (after_step s x) d
 keeps_at (Goes n) x pc d h = record { wide = h.wide; other = h.other }
 keeps_at (Stops e) x pc d h = stay_keeps x d
 
@@ -446,17 +446,17 @@ bounds_after i a b mem = go (access_made i a b)
         by false = refl
 
 -- a call that answers leaves the bounds
-answer_bounds : (mem : Memory) (rest : List ℕ) (value : ℕ) (a : called.Answer) → called.answered value mem rest ≡ called.Value a → bounds_of a.mem ≡ bounds_of mem
+answer_bounds : (mem : Memory) (rest : List ℕ) (value : ℕ) (a : called.CallAnswer) → called.answered value mem rest ≡ called.Value a → bounds_of a.mem ≡ bounds_of mem
 answer_bounds mem rest value a e =
     let g : record { value = value; mem = mem; rest = rest; output = [] } ≡ a = cc in
-    ap (λ (z : called.Answer). bounds_of z.mem) (sym g)
+    ap (λ (z : called.CallAnswer). bounds_of z.mem) (sym g)
 
 -- by the first test that holds
-choice_bounds : (b : Bool) (mem : Memory) (u v : Called) (a : called.Answer) → (u ≡ called.Value a → bounds_of a.mem ≡ bounds_of mem) → (v ≡ called.Value a → bounds_of a.mem ≡ bounds_of mem) → (if b then u else v) ≡ called.Value a → bounds_of a.mem ≡ bounds_of mem
+choice_bounds : (b : Bool) (mem : Memory) (u v : Called) (a : called.CallAnswer) → (u ≡ called.Value a → bounds_of a.mem ≡ bounds_of mem) → (v ≡ called.Value a → bounds_of a.mem ≡ bounds_of mem) → (if b then u else v) ≡ called.Value a → bounds_of a.mem ≡ bounds_of mem
 choice_bounds true mem u v a f g e = f e
 choice_bounds false mem u v a f g e = g e
 
-read_bounds : (fd addr len : ℕ) (mem : Memory) (rest : List ℕ) (a : called.Answer) → called.read fd addr len mem rest ≡ called.Value a → bounds_of a.mem ≡ bounds_of mem
+read_bounds : (fd addr len : ℕ) (mem : Memory) (rest : List ℕ) (a : called.CallAnswer) → called.read fd addr len mem rest ≡ called.Value a → bounds_of a.mem ≡ bounds_of mem
 unfolding called.read
 read_bounds fd addr len mem rest a e =
     choice_bounds (not (fd == 0)) mem _ _ a (answer_bounds mem rest called.bad_file a)
@@ -467,9 +467,9 @@ read_bounds fd addr len mem rest a e =
     into f =
         let count = min len (length rest) in
         let g : record { value = count; mem = memory_with mem addr len (take count rest); rest = drop count rest; output = [] } ≡ a = cc in
-        ap (λ (z : called.Answer). bounds_of z.mem) (sym g) ∙ bounds-memory_with mem addr len (take count rest)
+        ap (λ (z : called.CallAnswer). bounds_of z.mem) (sym g) ∙ bounds-memory_with mem addr len (take count rest)
 
-write_bounds : (fd addr len : ℕ) (mem : Memory) (rest : List ℕ) (a : called.Answer) → called.write fd addr len mem rest ≡ called.Value a → bounds_of a.mem ≡ bounds_of mem
+write_bounds : (fd addr len : ℕ) (mem : Memory) (rest : List ℕ) (a : called.CallAnswer) → called.write fd addr len mem rest ≡ called.Value a → bounds_of a.mem ≡ bounds_of mem
 unfolding called.write
 write_bounds fd addr len mem rest a e =
     choice_bounds (not (called.is_output fd)) mem _ _ a (answer_bounds mem rest called.bad_file a)
@@ -479,9 +479,9 @@ write_bounds fd addr len mem rest a e =
     from None f = answer_bounds mem rest called.bad_address a f
     from (Some bytes) f =
         let g : record { value = len; mem = mem; rest = rest; output = bytes } ≡ a = cc in
-        ap (λ (z : called.Answer). bounds_of z.mem) (sym g)
+        ap (λ (z : called.CallAnswer). bounds_of z.mem) (sym g)
 
-brk_bounds : (addr : ℕ) (mem : Memory) (rest : List ℕ) (a : called.Answer) → called.brk addr mem rest ≡ called.Value a → bounds_of a.mem ≡ bounds_of mem
+brk_bounds : (addr : ℕ) (mem : Memory) (rest : List ℕ) (a : called.CallAnswer) → called.brk addr mem rest ≡ called.Value a → bounds_of a.mem ≡ bounds_of mem
 unfolding called.with_break
 brk_bounds addr mem rest a e = by (called.is_break addr) e
   where
@@ -490,7 +490,7 @@ brk_bounds addr mem rest a e = by (called.is_break addr) e
     by false f = answer_bounds mem rest mem.program_break a f
 
 -- the same of calls
-pub call_bounds : (regs : List ℕ) (mem : Memory) (rest : List ℕ) (a : called.Answer) → call regs mem rest ≡ called.Value a → bounds_of a.mem ≡ bounds_of mem
+pub call_bounds : (regs : List ℕ) (mem : Memory) (rest : List ℕ) (a : called.CallAnswer) → call regs mem rest ≡ called.Value a → bounds_of a.mem ≡ bounds_of mem
 unfolding call
 call_bounds regs mem rest a e =
     let x = called.first_argument regs in
@@ -501,12 +501,12 @@ call_bounds regs mem rest a e =
     (choice_bounds (called.is_exit (called.number_in regs)) mem _ _ a (λ f. absurd (cc))
     (choice_bounds (called.number_in regs == 214) mem _ _ a (brk_bounds x mem rest a) (answer_bounds mem rest called.no_such_call a)))) e
 
-pub served_bounds : (i : Instr) (regs : List ℕ) (mem : Memory) (rest : List ℕ) (a : called.Answer) → serve_of i regs mem rest ≡ called.Value a → bounds_of a.mem ≡ bounds_of mem
+pub served_bounds : (i : Instr) (regs : List ℕ) (mem : Memory) (rest : List ℕ) (a : called.CallAnswer) → serve_of i regs mem rest ≡ called.Value a → bounds_of a.mem ≡ bounds_of mem
 unfolding serve_of
 served_bounds i regs mem rest a e = go (machine.synchronizes i) e
   where
     go : (b : Bool) → (if b then called.Value (record { value = 0; mem = synced mem; rest = rest; output = [] }) else call regs mem rest) ≡ called.Value a → bounds_of a.mem ≡ bounds_of mem
-    go true f = let g : record { value = 0; mem = synced mem; rest = rest; output = [] } ≡ a = cc in ap (λ (z : called.Answer). bounds_of z.mem) (sym g) ∙ bounds-synced mem
+    go true f = let g : record { value = 0; mem = synced mem; rest = rest; output = [] } ≡ a = cc in ap (λ (z : called.CallAnswer). bounds_of z.mem) (sym g) ∙ bounds-synced mem
     go false f = call_bounds regs mem rest a f
 
 -- from a region that was written the same code is fetched as before
@@ -553,7 +553,7 @@ class_leaves Serial i a b m e = absurd (cc)
 class_leaves Free i a b m e = leaves_on (free_trap i m.hart.pc) _ m (record { code = refl; rest = refl; out = refl })
 class_leaves _ i a b m e = leaves_on (finish_trap i m.hart.pc a b) _ m (record { code = refl; rest = refl; out = refl })
 
-leaves_at : (s : Stepped) (x : Machine) (pc : ℕ) → Leaves (at_pc x pc) (after_step s (at_pc x pc)) → Leaves x (after_step s x)
+leaves_at : (s : StepResult) (x : Machine) (pc : ℕ) → Leaves (at_pc x pc) (after_step s (at_pc x pc)) → Leaves x (after_step s x)
 leaves_at (Goes n) x pc h = record { code = h.code; rest = h.rest; out = h.out }
 leaves_at (Stops e) x pc h = record { code = refl; rest = refl; out = refl }
 
@@ -579,7 +579,7 @@ class_bounds Serial i a b m = bounds_served i (serve_of i m.hart.regs m.hart.mem
 class_bounds Free i a b m = bounds_on (free_trap i m.hart.pc) _ m refl
 class_bounds _ i a b m = bounds_on (finish_trap i m.hart.pc a b) _ m refl
 
-bounds_at : (s : Stepped) (x : Machine) (pc : ℕ) → bounds_of (after_step s (at_pc x pc)).hart.mem ≡ bounds_of x.hart.mem → bounds_of (after_step s x).hart.mem ≡ bounds_of x.hart.mem
+bounds_at : (s : StepResult) (x : Machine) (pc : ℕ) → bounds_of (after_step s (at_pc x pc)).hart.mem ≡ bounds_of x.hart.mem → bounds_of (after_step s x).hart.mem ≡ bounds_of x.hart.mem
 bounds_at (Goes n) x pc h = h
 bounds_at (Stops e) x pc h = refl
 
@@ -609,7 +609,7 @@ pub step_writes : (isa : Isa) (x : Machine) (pc : ℕ) (i : Instr) (n : Machine)
 step_writes isa x pc i n f e = class_writes (kind_of i) i (value_read x.hart.regs (src1_of i)) (value_read x.hart.regs (src2_of i)) (at_pc x pc) n refl (sym (step_is isa x pc i f) ∙ e)
 
 -- the destination of a sure passenger is one of the 32 registers
-pub sure_dst_below : (isa : Isa) (p : Passenger) (x : Machine) (s : Stepped) (g : Option ℕ) (i : Instr) → p.what ≡ Some i → IsSure isa p x s g → (r : ℕ) → dst_of i ≡ Some r → r < 32
+pub sure_dst_below : (isa : Isa) (p : Passenger) (x : Machine) (s : StepResult) (g : Option ℕ) (i : Instr) → p.what ≡ Some i → IsSure isa p x s g → (r : ℕ) → dst_of i ≡ Some r → r < 32
 sure_dst_below isa p x s g i w h = go (fetched isa x.hart.mem p.pc) refl h.reads
   where
     go : (q : Fetched) → fetched isa x.hart.mem p.pc ≡ q → Holds p q → (r : ℕ) → dst_of i ≡ Some r → r < 32

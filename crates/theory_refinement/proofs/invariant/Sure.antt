@@ -10,7 +10,7 @@ use Rattle.cf_bind.specs.declared.packet.Fetch.{Fetch}
 use Rattle.cf_bind.specs.declared.passenger.Passenger.{Passenger}
 use Rattle.cf_bind.specs.declared.passenger.End.{End}
 use Rattle.cf_semantics.specs.state.Options.{When}
-use Rattle.cf_semantics.specs.moves.Instructions.{src1_of, src2_of, dst_of, fetched, Stepped, step_at}
+use Rattle.cf_semantics.specs.moves.Instructions.{src1_of, src2_of, dst_of, fetched, StepResult, step_at}
 use Rattle.cf_semantics.specs.state.Column.{Item, Up, Down}
 use Rattle.cf_semantics.specs.state.Passengers.{reg_in, missing, cached}
 use Rattle.cf_semantics.specs.moves.Moves.{fetch_at}
@@ -35,7 +35,7 @@ pub record IsShaped (p : Passenger) (i : Instr) : Type 0 where
   pub three : reg_in p.dst ≡ dst_of i
 
 -- a sure passenger: x is the machine before it, s the step there, and the program goes on at g
-pub record IsSure (isa : Isa) (p : Passenger) (x : Machine) (s : Stepped) (g : Option ℕ) : Type 0 where
+pub record IsSure (isa : Isa) (p : Passenger) (x : Machine) (s : StepResult) (g : Option ℕ) : Type 0 where
   pub path : g ≡ Some p.pc
   pub reads : Holds p (fetched isa x.hart.mem p.pc)
   pub shape : (i : Instr) → p.what ≡ Some i → IsShaped p i

@@ -28,7 +28,7 @@ use Rattle.theory_refinement.proofs.invariant.Stands.{Each, Stands}
 use Rattle.theory_refinement.proofs.invariant.Suited.{Suits}
 use Rattle.cf_semantics.specs.moves.Bars.{access_bar, bar, last_op, row_bar}
 use Rattle.cf_semantics.specs.state.Column.{Down, Item, Up, column}
-use Rattle.cf_semantics.specs.moves.Instructions.{Goes, Stepped, access_trap, answer_of, after_step, dst_of, is_memory, mem_after, step_at, value_written}
+use Rattle.cf_semantics.specs.moves.Instructions.{Goes, StepResult, access_trap, answer_of, after_step, dst_of, is_memory, mem_after, step_at, value_written}
 use Rattle.cf_semantics.specs.state.Layouts.{isa_of, port}
 use Rattle.cf_semantics.specs.moves.Moves.{accessed, moved, operation, set_last}
 use Rattle.cf_semantics.specs.state.Options.{is_some, on}
@@ -142,7 +142,7 @@ unfolding sure.SureAt
 made isa p w l m m1 m2 t h =
     let q = memory_steps isa p w.machine w.goto m m1 m2 h.0 in
     let s : step_at isa w.machine p.pc ≡ Goes (after_access w.machine (instruction p) p.pc (value_in p.src1) (value_in p.src2)) = rw t at q.1 in
-    (s ∙ ap (λ (z : Stepped). Goes (after_step z w.machine)) (sym s), rw s refl, rw s (write_answers p.dst (dst_of (instruction p)) _ w.machine.hart.regs l (sure_dst_below isa p w.machine (step_at isa w.machine p.pc) w.goto (instruction p) q.0 h.0) (h.0.shape (instruction p) q.0).three))
+    (s ∙ ap (λ (z : StepResult). Goes (after_step z w.machine)) (sym s), rw s refl, rw s (write_answers p.dst (dst_of (instruction p)) _ w.machine.hart.regs l (sure_dst_below isa p w.machine (step_at isa w.machine p.pc) w.goto (instruction p) q.0 h.0) (h.0.shape (instruction p) q.0).three))
 
 unanswered : (p : Passenger) (o : Option ℕ) → o ≡ None → is_memory (kind p) ≡ true → p.recovered ≡ false → ahead.has_ported p o ≡ false
 unanswered p o e m n = grind arith

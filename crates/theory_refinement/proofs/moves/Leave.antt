@@ -25,7 +25,7 @@ use Rattle.theory_refinement.proofs.invariant.Invariant.{IsOver, Sound}
 use Rattle.theory_refinement.proofs.invariant.Stands.{Stands}
 use Rattle.cf_semantics.specs.moves.Bars.{bar, is_full, leave_bar, row_bar}
 use Rattle.cf_semantics.specs.state.Column.{Down, Item, Up, column, column_from, packet_in}
-use Rattle.cf_semantics.specs.moves.Instructions.{Bad, Fetched, Goes, Got, Stepped, Stops, after_step, dst_of, fetched, is_memory, is_serial, step_at, step_here, value_written}
+use Rattle.cf_semantics.specs.moves.Instructions.{Bad, Fetched, Goes, Got, StepResult, Stops, after_step, dst_of, fetched, is_memory, is_serial, step_at, step_here, value_written}
 use Rattle.cf_semantics.specs.state.Layouts.{isa_of}
 use Rattle.cf_semantics.specs.runs.Lines.{Line, line_of, lines_at, retired_by, retires, row}
 use Rattle.cf_semantics.specs.moves.Moves.{left, moved, without_passenger, written}
@@ -247,7 +247,7 @@ ended_answer : (isa : Isa) (n : ℕ) (p : Passenger) (w : dock.Dock) → ahead.f
 unfolding dock.past
 ended_answer isa n p w e = rw e refl
 
-past_ported : (isa : Isa) (i : ℕ) (p : Passenger) (w : dock.Dock) (t : ahead.Tally) → w.risky ≡ true → dock.Fits isa (Up i p) w → t.answer ≡ w.answer → ((ahead.counted (Up i p) t).ported ≡ t.ported) × ((ahead.counted (Up i p) t).answer ≡ (dock.past isa (Up i p) w).answer)
+past_ported : (isa : Isa) (i : ℕ) (p : Passenger) (w : dock.Dock) (t : ahead.PortTally) → w.risky ≡ true → dock.Fits isa (Up i p) w → t.answer ≡ w.answer → ((ahead.counted (Up i p) t).ported ≡ t.ported) × ((ahead.counted (Up i p) t).answer ≡ (dock.past isa (Up i p) w).answer)
 unfolding dock.past dock.Fits ahead.counted
 past_ported isa i p w t r h e = go (ahead.has_ported p w.answer) refl
   where
@@ -255,7 +255,7 @@ past_ported isa i p w t r h e = go (ahead.has_ported p w.answer) refl
     go true f = absurd (let z = ported_calm isa p w h f in cc)
     go false f = rw (e, f) (refl, refl)
 
-past_result : (isa : Isa) (i : ℕ) (k : _) (w : dock.Dock) (t : ahead.Tally) → w.risky ≡ true → t.answer ≡ w.answer → ((ahead.counted (Down i k) t) ≡ t) × (t.answer ≡ (dock.past isa (Down i k) w).answer) × ((dock.past isa (Down i k) w).risky ≡ true)
+past_result : (isa : Isa) (i : ℕ) (k : _) (w : dock.Dock) (t : ahead.PortTally) → w.risky ≡ true → t.answer ≡ w.answer → ((ahead.counted (Down i k) t) ≡ t) × (t.answer ≡ (dock.past isa (Down i k) w).answer) × ((dock.past isa (Down i k) w).risky ≡ true)
 unfolding dock.past ahead.counted
 past_result isa i k w t r e = (refl, e, rw r refl)
 
@@ -264,14 +264,14 @@ unfolding dock.past
 past_risk isa i p w r = rw r refl
 
 -- below a risk no passenger has passed the port
-none_ported : (isa : Isa) (xs : List Item) (w : dock.Dock) (t : ahead.Tally) → w.risky ≡ true → Everywhere (dock.Fits isa) (dock.past isa) xs w → t.answer ≡ w.answer → (walk ahead.counted xs t).ported ≡ t.ported
+none_ported : (isa : Isa) (xs : List Item) (w : dock.Dock) (t : ahead.PortTally) → w.risky ≡ true → Everywhere (dock.Fits isa) (dock.past isa) xs w → t.answer ≡ w.answer → (walk ahead.counted xs t).ported ≡ t.ported
 none_ported isa [] w t r h e = refl
 none_ported isa (Up i p ∷ xs) w t r h e =
     let a = past_ported isa i p w t r h.0 e in
     none_ported isa xs (dock.past isa (Up i p) w) (ahead.counted (Up i p) t) (past_risk isa i p w r) h.1 a.1 ∙ a.0
 none_ported isa (Down i k ∷ xs) w t r h e =
     let a = past_result isa i k w t r e in
-    subst (λ (z : ahead.Tally). (walk ahead.counted xs z).ported ≡ t.ported) (sym a.0) (none_ported isa xs (dock.past isa (Down i k) w) t a.2 h.1 a.1)
+    subst (λ (z : ahead.PortTally). (walk ahead.counted xs z).ported ≡ t.ported) (sym a.0) (none_ported isa xs (dock.past isa (Down i k) w) t a.2 h.1 a.1)
 
 nobody : (l : Plan) (s : State) (c : Cell) → cell_at s.cells l.stages ≡ Some c → on (cell_at (put_cell s.cells l.stages (without_passenger c)) l.stages) 0 (λ d. on d.passenger 0 (λ p. ahead.one (ahead.has_served p))) ≡ 0
 nobody l s c e = go s.cells l.stages c e
@@ -316,7 +316,7 @@ line_sure isa p x y g wide goes c d n h = go (fetched isa x.hart.mem p.pc) refl 
         let z = dst_got p.dst (dst_of i) (after_step (step_at isa x p.pc) x).hart.regs (h.shape i w).three (h.values.done d n) h.values.destination in
         let f' : fetched isa x.hart.mem x.hart.pc ≡ Got i = ap (fetched isa x.hart.mem) (sym c) ∙ f in
         let z' : p.dst ≡ got (after_step (step_here isa x) x).hart.regs (dst_of i) = subst (λ (a : ℕ). p.dst ≡ got (after_step (step_at isa x a) x).hart.regs (dst_of i)) c z in
-        let z'' : p.dst ≡ got y.hart.regs (dst_of i) = z' ∙ ap (λ (s : Stepped). got (after_step s x).hart.regs (dst_of i)) goes in
+        let z'' : p.dst ≡ got y.hart.regs (dst_of i) = z' ∙ ap (λ (s : StepResult). got (after_step s x).hart.regs (dst_of i)) goes in
         ap (λ (l : Line). l ∷ []) (same_line c (word_is p i w) z'') ∙ sym (own_line isa x y i wide f' goes)
     go (Bad b) f w = absurd (let z = sym n ∙ w.1 in cc)
 

@@ -26,7 +26,7 @@ use Rattle.cf_semantics.specs.state.State.{Moment, State, cell_at, put_cell}
 use Rattle.cf_semantics.specs.claims.Walks.{Everywhere, walk}
 use Rattle.rv_inst.specs.declared.classes.Class.TheVariants.{Serial}
 use Rattle.rv_inst.specs.declared.isa.Isa.{Isa}
-use Rattle.rv_machine.specs.Call.{Answer, Called}
+use Rattle.rv_machine.specs.Call.{CallAnswer, Called}
 use Rattle.rv_machine.specs.Call as called
 use Rattle.cf_semantics.specs.moves.Fetches.{code_of}
 use Rattle.rv_machine.specs.Machine.{Machine}
@@ -72,7 +72,7 @@ abbrev pub quit : Passenger → ℕ → Passenger
 quit p e = record p { done = true; ending = Some (Exit e) }
 
 -- on the path
-pub gave_at : (isa : Isa) (p : Passenger) (w : trail.Walk) (a : Answer) → length w.machine.hart.regs ≡ 32 → kind p ≡ Serial → p.done ≡ false → serve_of (instruction p) w.machine.hart.regs w.machine.hart.mem w.machine.rest ≡ called.Value a → sure.SureAt isa p w → sure.SureAt isa (answered p a.value) w
+pub gave_at : (isa : Isa) (p : Passenger) (w : trail.Walk) (a : CallAnswer) → length w.machine.hart.regs ≡ 32 → kind p ≡ Serial → p.done ≡ false → serve_of (instruction p) w.machine.hart.regs w.machine.hart.mem w.machine.rest ≡ called.Value a → sure.SureAt isa p w → sure.SureAt isa (answered p a.value) w
 unfolding sure.SureAt
 gave_at isa p w a l k d e h = (served_sure isa p w.machine w.goto a l k d e h.0, record { source1 = h.1.source1; source2 = h.1.source2 })
 
@@ -269,7 +269,7 @@ scene {rest} {out} l s x r h =
       output = ends.is_out ∙ under.out ∙ same.out;
     }
 
-pub sure_step : (isa : Isa) (p : Passenger) (w : trail.Walk) (a : Answer) → kind p ≡ Serial → serve_of (instruction p) w.machine.hart.regs w.machine.hart.mem w.machine.rest ≡ called.Value a → sure.SureAt isa p w → step_at isa w.machine p.pc ≡ Goes (after_call w.machine (instruction p) p.pc a)
+pub sure_step : (isa : Isa) (p : Passenger) (w : trail.Walk) (a : CallAnswer) → kind p ≡ Serial → serve_of (instruction p) w.machine.hart.regs w.machine.hart.mem w.machine.rest ≡ called.Value a → sure.SureAt isa p w → step_at isa w.machine p.pc ≡ Goes (after_call w.machine (instruction p) p.pc a)
 unfolding sure.SureAt
 sure_step isa p w a k e h = served_steps isa p w.machine w.goto a k e h.0
 

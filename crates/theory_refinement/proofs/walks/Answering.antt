@@ -9,7 +9,7 @@ use Rattle.theory_refinement.proofs.instructions.Steps.{step_is}
 use Rattle.theory_refinement.proofs.invariant.Port.{Dock, DockedAt, Fits, past}
 use Rattle.cf_semantics.specs.claims.Ahead.{flies, has_ported}
 use Rattle.cf_semantics.specs.state.Column.{Down, Item, Up}
-use Rattle.cf_semantics.specs.moves.Instructions.{Bad, Fetched, Goes, Got, Stepped, Stops, at_pc, after_step, fetched, finish_trap, free_trap, is_memory, is_serial, kind_of, src1_of, src2_of, step_at, value_read}
+use Rattle.cf_semantics.specs.moves.Instructions.{Bad, Fetched, Goes, Got, StepResult, Stops, at_pc, after_step, fetched, finish_trap, free_trap, is_memory, is_serial, kind_of, src1_of, src2_of, step_at, value_read}
 use Rattle.cf_semantics.specs.state.Options.{is_some, on}
 use Rattle.cf_semantics.specs.state.Passengers.{kind}
 use Rattle.cf_semantics.specs.moves.Steps.{stepped_as}
@@ -78,7 +78,7 @@ class_mem Serial i a b m e f = absurd (cc)
 class_mem Free i a b m e f = mem_on (free_trap i m.hart.pc) _ m refl
 class_mem _ i a b m e f = mem_on (finish_trap i m.hart.pc a b) _ m refl
 
-mem_at : (s : Stepped) (x : Machine) (pc : ℕ) → (after_step s (at_pc x pc)).hart.mem ≡ x.hart.mem → (after_step s x).hart.mem ≡ x.hart.mem
+mem_at : (s : StepResult) (x : Machine) (pc : ℕ) → (after_step s (at_pc x pc)).hart.mem ≡ x.hart.mem → (after_step s x).hart.mem ≡ x.hart.mem
 mem_at (Goes n) x pc e = e
 mem_at (Stops b) x pc e = refl
 

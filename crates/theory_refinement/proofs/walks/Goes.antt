@@ -9,7 +9,7 @@ use Rattle.theory_refinement.proofs.instructions.Steps.{kind_is, plain_steps, st
 use Rattle.theory_refinement.proofs.invariant.Stands.{Stands}
 use Rattle.theory_refinement.proofs.invariant.Suited.{is_plain}
 use Rattle.cf_semantics.specs.state.Column.{Up}
-use Rattle.cf_semantics.specs.moves.Instructions.{at_pc, Bad, Fetched, Goes, Got, Stepped, Stops, access_trap, after_step, dst_of, fetched, is_control, is_free, is_memory, is_serial, kind_of, src1_of, src2_of, step_at, value_read, value_written, word_after}
+use Rattle.cf_semantics.specs.moves.Instructions.{at_pc, Bad, Fetched, Goes, Got, StepResult, Stops, access_trap, after_step, dst_of, fetched, is_control, is_free, is_memory, is_serial, kind_of, src1_of, src2_of, step_at, value_read, value_written, word_after}
 use Rattle.cf_semantics.specs.state.Layouts.{isa_of}
 use Rattle.cf_semantics.specs.state.Options.{on}
 use Rattle.cf_semantics.specs.moves.Steps.{onward}
@@ -27,7 +27,7 @@ use Rattle.cf_semantics.specs.claims.Path as trail
 use Rattle.cf_semantics.specs.claims.Soundness.{Holds, may_turn}
 
 -- the step goes on, to g
-pub record On (s : Stepped) (x : Machine) (g : Option ℕ) : Type 0 where
+pub record On (s : StepResult) (x : Machine) (g : Option ℕ) : Type 0 where
   pub goes : s ≡ Goes (after_step s x)
   pub next : g ≡ Some (after_step s x).hart.pc
 
@@ -47,7 +47,7 @@ memory_step isa p w m m1 m2 t h = let q = memory_steps isa p w.machine w.goto m 
 memory_goto : (p : Passenger) → is_memory (kind p) ≡ true → p.done ≡ false → p.guess ≡ Next → goto p ≡ Some (word_after p.pc)
 memory_goto p m d g = grind arith
 
-step_on : (s : Stepped) (x y : Machine) (g : Option ℕ) → s ≡ Goes y → g ≡ Some y.hart.pc → On s x g
+step_on : (s : StepResult) (x y : Machine) (g : Option ℕ) → s ≡ Goes y → g ≡ Some y.hart.pc → On s x g
 step_on s x y g e f = record { goes = rw e refl; next = rw e f }
 
 -- a plain passenger that is neither a branch nor a jump

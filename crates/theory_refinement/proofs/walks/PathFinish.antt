@@ -11,7 +11,7 @@ use Rattle.theory_refinement.proofs.walks.Path.{Follows}
 use Rattle.theory_refinement.proofs.instructions.Steps.{sure_dst_below, finish_traps}
 use Rattle.theory_refinement.proofs.invariant.Sure.{Fits, IsSure, Owed, SureAt}
 use Rattle.cf_semantics.specs.state.Column.{Up}
-use Rattle.cf_semantics.specs.moves.Instructions.{Bad, Fetched, Goes, Got, Stepped, Stops, after_step, dst_of, fetched, finish_trap, step_at, value_read, value_written}
+use Rattle.cf_semantics.specs.moves.Instructions.{Bad, Fetched, Goes, Got, StepResult, Stops, after_step, dst_of, fetched, finish_trap, step_at, value_read, value_written}
 use Rattle.cf_semantics.specs.state.Options.{on}
 use Rattle.cf_semantics.specs.state.Passengers.{finish, finished, goto_undone, guessed, instruction, is_place, kind, missing, reg_in, trapped, value_in, value_packet, with_value}
 use Rattle.cf_semantics.specs.claims.Path.{Walk, is_trap, past}
@@ -47,7 +47,7 @@ pub record GivesOn (x m : Machine) (d : Option ℕ) (n v : ℕ) : Type 0 where
   pub pc : m.hart.pc ≡ n
   pub regs : m.hart.regs ≡ value_written x.hart.regs d v
 
-finished_sure : (isa : Isa) (p : Passenger) (i : Instr) (x m : Machine) (s : Stepped) (g : Option ℕ) (n v : ℕ) → length x.hart.regs ≡ 32 → p.what ≡ Some i → p.done ≡ false → s ≡ Goes m → GivesOn x m (dst_of i) n v → IsSure isa p x s g → IsSure isa (finished p n v) x s g
+finished_sure : (isa : Isa) (p : Passenger) (i : Instr) (x m : Machine) (s : StepResult) (g : Option ℕ) (n v : ℕ) → length x.hart.regs ≡ 32 → p.what ≡ Some i → p.done ≡ false → s ≡ Goes m → GivesOn x m (dst_of i) n v → IsSure isa p x s g → IsSure isa (finished p n v) x s g
 finished_sure isa p i x m s g n v l w d e f h =
     let y : after_step s x ≡ m = rw e in
     record {
@@ -69,7 +69,7 @@ finished_sure isa p i x m s g n v l w d e f h =
       owed = owed_by p.dst (is_place (guessed p.guess (instruction p) p.pc) n) n v p.ending (h.unended d);
     }
 
-pub trapped_sure : (isa : Isa) (p : Passenger) (x : Machine) (s : Stepped) (g : Option ℕ) (e : End) → p.done ≡ false → (i : Instr) → p.what ≡ Some i → s ≡ Stops e → is_trap (Some e) ≡ true → IsSure isa p x s g → IsSure isa (trapped p e) x s g
+pub trapped_sure : (isa : Isa) (p : Passenger) (x : Machine) (s : StepResult) (g : Option ℕ) (e : End) → p.done ≡ false → (i : Instr) → p.what ≡ Some i → s ≡ Stops e → is_trap (Some e) ≡ true → IsSure isa p x s g → IsSure isa (trapped p e) x s g
 trapped_sure isa p x s g e d i w f t h = record {
   path = h.path;
   reads = reads (fetched isa x.hart.mem p.pc) h.reads;
@@ -94,12 +94,12 @@ trapped_sure isa p x s g e d i w f t h = record {
     reads (Bad b) k = absurd (cc)
 
 -- what finishing leaves, for a passenger whose step it is
-pub record Finishes (p : Passenger) (x : Machine) (s : Stepped) (answer : Option ℕ) : Type 0 where
+pub record Finishes (p : Passenger) (x : Machine) (s : StepResult) (answer : Option ℕ) : Type 0 where
   pub what : p.what ≡ Some (instruction p)
   pub goes : finish_trap (instruction p) p.pc (value_in p.src1) (value_in p.src2) ≡ None → (m : Machine) × (s ≡ Goes m) × GivesOn x m (dst_of (instruction p)) (next_pc (instruction p) p.pc (value_in p.src1) (value_in p.src2)) (on answer (value_of (instruction p) p.pc (value_in p.src1) (value_in p.src2)) (λ v. v))
   pub stops : (e : End) → finish_trap (instruction p) p.pc (value_in p.src1) (value_in p.src2) ≡ Some e → s ≡ Stops e
 
-finish_sure : (isa : Isa) (p : Passenger) (x : Machine) (s : Stepped) (g : Option ℕ) (answer : Option ℕ) → length x.hart.regs ≡ 32 → p.done ≡ false → Finishes p x s answer → IsSure isa p x s g → IsSure isa (finish p answer) x s g
+finish_sure : (isa : Isa) (p : Passenger) (x : Machine) (s : StepResult) (g : Option ℕ) (answer : Option ℕ) → length x.hart.regs ≡ 32 → p.done ≡ false → Finishes p x s answer → IsSure isa p x s g → IsSure isa (finish p answer) x s g
 unfolding finish
 finish_sure isa p x s g answer l d f h = go (finish_trap (instruction p) p.pc (value_in p.src1) (value_in p.src2)) refl
   where

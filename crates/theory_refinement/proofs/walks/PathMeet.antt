@@ -10,7 +10,7 @@ use Rattle.theory_refinement.proofs.walks.Path.{Follows}
 use Rattle.theory_refinement.proofs.instructions.Steps.{sure_keeps}
 use Rattle.theory_refinement.proofs.invariant.Sure.{Comes, Fits, IsSourced, IsSure, SureAt}
 use Rattle.cf_semantics.specs.state.Column.{Down, Item, Up}
-use Rattle.cf_semantics.specs.moves.Instructions.{Stepped, after_step, step_at}
+use Rattle.cf_semantics.specs.moves.Instructions.{StepResult, after_step, step_at}
 use Rattle.cf_semantics.specs.state.Passengers.{reg_in}
 use Rattle.cf_semantics.specs.claims.Path.{Walk, has_reg, past, past_packet}
 use Rattle.cf_semantics.specs.claims.Walks.{Everywhere, walk}
@@ -31,7 +31,7 @@ garner_comes r v o c h = grind arith
 garner_reg : (r v : ℕ) (o : Option Binding) → reg_in (garnered r v o) ≡ reg_in o
 garner_reg r v o = grind arith
 
-garner_sure : (isa : Isa) (p : Passenger) (r v : ℕ) (x : Machine) (s : Stepped) (g : Option ℕ) → v ≡ slice_index x.hart.regs r → IsSure isa p x s g → IsSure isa (passenger_met (Value r v) p) x s g
+garner_sure : (isa : Isa) (p : Passenger) (r v : ℕ) (x : Machine) (s : StepResult) (g : Option ℕ) → v ≡ slice_index x.hart.regs r → IsSure isa p x s g → IsSure isa (passenger_met (Value r v) p) x s g
 garner_sure isa p r v x s g e h = record {
   path = h.path;
   reads = h.reads;

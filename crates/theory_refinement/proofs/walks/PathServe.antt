@@ -15,7 +15,7 @@ use Rattle.cf_semantics.specs.claims.Soundness.{Holds}
 use Rattle.rv_inst.specs.declared.classes.Class.{Class}
 use Rattle.rv_inst.specs.declared.classes.Class.TheVariants.{Free, Serial}
 use Rattle.rv_inst.specs.declared.isa.Isa.{Isa}
-use Rattle.rv_machine.specs.Call.{Answer, Called}
+use Rattle.rv_machine.specs.Call.{CallAnswer, Called}
 use Rattle.rv_machine.specs.Call as called
 use Rattle.rv_machine.specs.Machine.{Machine}
 use Rattle.theory_refinement.proofs.invariant.Sure as sure
@@ -32,20 +32,20 @@ serial_steps isa p x g c h = go (fetched isa x.hart.mem p.pc) refl h.reads
     go (Bad b) f k = let e : kind p ≡ Free = ap (λ (o : Option Instr). on o Free kind_of) k.0 in absurd (cc)
 
 -- the machine after a call that was answered
-abbrev pub after_call : Machine → Instr → ℕ → Answer → Machine
+abbrev pub after_call : Machine → Instr → ℕ → CallAnswer → Machine
 after_call x i pc a = record {
   hart = record { pc = word_after pc; regs = value_written x.hart.regs (dst_of i) a.value; mem = a.mem; retired = x.hart.retired + 1 };
   rest = a.rest;
   output = x.output ++ a.output;
 }
 
-pub served_steps : (isa : Isa) (p : Passenger) (x : Machine) (g : Option ℕ) (a : Answer) → kind p ≡ Serial → serve_of (instruction p) x.hart.regs x.hart.mem x.rest ≡ called.Value a → sure.IsSure isa p x (step_at isa x p.pc) g → step_at isa x p.pc ≡ Goes (after_call x (instruction p) p.pc a)
+pub served_steps : (isa : Isa) (p : Passenger) (x : Machine) (g : Option ℕ) (a : CallAnswer) → kind p ≡ Serial → serve_of (instruction p) x.hart.regs x.hart.mem x.rest ≡ called.Value a → sure.IsSure isa p x (step_at isa x p.pc) g → step_at isa x p.pc ≡ Goes (after_call x (instruction p) p.pc a)
 served_steps isa p x g a c e h =
     let q = serial_steps isa p x g c h in
     let i : instruction p ≡ q.0 = ap (λ (o : Option Instr). on o Ebreak (λ j. j)) q.1 in
     rw i (q.3 ∙ ap (λ (z : Called). served z (dst_of q.0) (at_pc x p.pc)) (rw i at e))
 
-pub served_sure : (isa : Isa) (p : Passenger) (x : Machine) (g : Option ℕ) (a : Answer) → length x.hart.regs ≡ 32 → kind p ≡ Serial → p.done ≡ false → serve_of (instruction p) x.hart.regs x.hart.mem x.rest ≡ called.Value a → sure.IsSure isa p x (step_at isa x p.pc) g → sure.IsSure isa (answered p a.value) x (step_at isa x p.pc) g
+pub served_sure : (isa : Isa) (p : Passenger) (x : Machine) (g : Option ℕ) (a : CallAnswer) → length x.hart.regs ≡ 32 → kind p ≡ Serial → p.done ≡ false → serve_of (instruction p) x.hart.regs x.hart.mem x.rest ≡ called.Value a → sure.IsSure isa p x (step_at isa x p.pc) g → sure.IsSure isa (answered p a.value) x (step_at isa x p.pc) g
 served_sure isa p x g a l c d e h =
     let q = serial_steps isa p x g c h in
     let i : instruction p ≡ q.0 = ap (λ (o : Option Instr). on o Ebreak (λ j. j)) q.1 in

@@ -1,5 +1,5 @@
 use Rattle.std.proofs.Common.{refl, sym}
-use Rattle.cf_run.specs.Moving.{Does}
+use Rattle.cf_run.specs.Moving.{MoveDoes}
 use Rattle.cf_audit.proofs.Trying.{tried-shown, tried-unshown, tried-still}
 use Rattle.cf_audit.proofs.Turning.{tests-none, tests-tried}
 use Rattle.cf_audit.proofs.auditing.advance.Goals as goal
@@ -9,15 +9,15 @@ returns-in_default-clause-tests g c =
     tests-none _ _ _ _ _ _ c.wrong-in_default.ensures c.agreed-in_default.ensures.count c.rest-left.ensures (sym c.if-not-has_line.ensures) c.in_default.ensures refl
 
 pub unreachable-requires-in-Err-Exit : goal.unreachable-requires-in-Err-Exit
-unfolding Does
+unfolding MoveDoes
 unreachable-requires-in-Err-Exit g c = rw c.in-Err-Exit.field-0-is at c.in-Err-Exit.ensures.does
 
 pub unreachable-requires-in-Err-Trap : goal.unreachable-requires-in-Err-Trap
-unfolding Does
+unfolding MoveDoes
 unreachable-requires-in-Err-Trap g c = rw c.in-Err-Trap.field-0-is at c.in-Err-Trap.ensures.does
 
 pub unreachable-requires-in-Err-Limit : goal.unreachable-requires-in-Err-Limit
-unfolding Does
+unfolding MoveDoes
 unreachable-requires-in-Err-Limit g c = rw c.in-Err-Limit.field-0-is at c.in-Err-Limit.ensures.does
 
 pub returns-in-Ok-clause-tests : goal.returns-in-Ok-clause-tests

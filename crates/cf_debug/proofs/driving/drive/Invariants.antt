@@ -1,7 +1,7 @@
 use Rattle.std.proofs.Common.{◌≡◌, ◌≤◌}
 use Rattle.cf_layout.specs.Accepted.{IsAccepted}
 use Rattle.cf_run.specs.Policies.{chooser}
-use Rattle.cf_debug.specs.Making.{Bench, bench_of}
+use Rattle.cf_debug.specs.Making.{ProcessorState, processor_state}
 use Rattle.cf_debug.specs.Standing.{StandsSomewhere}
 use Rattle.cf_debug.proofs.InTurn.{Comes}
 use Rattle.cf_debug.proofs.driving.drive.Given as goal
@@ -9,8 +9,8 @@ use Rattle.cf_debug.proofs.driving.drive.Given as goal
 -- the moves so far lead here, and no fault was counted
 abbrev pub invariant-loop-made : goal.invariant-loop-made
 invariant-loop-made g l =
-    let start : Bench = bench_of l.initial.core l.initial.ring (g.K.Sink.written l.initial.output) in
-    let now : Bench = bench_of l.core l.ring (g.K.Sink.written l.output) in
+    let start : ProcessorState = processor_state l.initial.core l.initial.ring (g.K.Sink.written l.initial.output) in
+    let now : ProcessorState = processor_state l.core l.ring (g.K.Sink.written l.output) in
     record {
       comes : Comes l.stop start now (chooser l.round l.pace.count) (g.R.Sink.written l.initial.report) (g.R.Sink.written l.report) l.made;
       stages : l.pace.stages ≡ l.core.plan.stages;

@@ -1,12 +1,12 @@
 use Rattle.std.proofs.Common.{refl, sym, ap, ◌∙◌}
 use Rattle.std.specs.Prelude.{Ok}
-use Rattle.cf_debug.specs.Sessions.{Ends}
+use Rattle.cf_debug.specs.Sessions.{LineLeaves}
 use Rattle.cf_debug.proofs.Answering.{ends-refusal, ends-told}
 use Rattle.cf_debug.proofs.Ranges.{few-told}
 use Rattle.cf_debug.proofs.session.answer_line.Goals as goal
 
 pub returns-then-is_end-clause-ends : goal.returns-then-is_end-clause-ends
-unfolding Ends
+unfolding LineLeaves
 returns-then-is_end-clause-ends g c = (sym c.read_command.ensures ∙ c.in-Ok.is ∙ ap Ok (c.is_end.ensures.yes c.if-is_end.true), refl, refl)
 
 pub carry_out-requires-clause-few : goal.carry_out-requires-clause-few

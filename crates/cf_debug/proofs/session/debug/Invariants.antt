@@ -1,8 +1,8 @@
 use Rattle.std.proofs.Common.{◌≡◌, ◌+◌, None, length}
-use Rattle.cf_debug.specs.Making.{bench_of}
-use Rattle.cf_debug.specs.Replies.{Desk, desk_of}
+use Rattle.cf_debug.specs.Making.{processor_state}
+use Rattle.cf_debug.specs.Replies.{DebuggerState, debugger_state}
 use Rattle.cf_debug.specs.Sessions.{Session, session_of}
-use Rattle.cf_debug.specs.Standing.{Stands}
+use Rattle.cf_debug.specs.Standing.{StandsAfterMoves}
 use Rattle.cf_debug.proofs.Sessions.{Comes}
 use Rattle.cf_debug.proofs.session.debug.Given as goal
 
@@ -12,12 +12,12 @@ invariant-loop-byte g l =
     let left = g.S.Source.left in
     let written = g.K.Sink.written in
     let reported = g.R.Sink.written in
-    let begin : Desk = desk_of (bench_of l.initial.core l.initial.ring (written l.initial.output)) None in
-    let now : Desk = desk_of (bench_of l.core l.ring (written l.output)) l.stop in
+    let begin : DebuggerState = debugger_state (processor_state l.initial.core l.initial.ring (written l.initial.output)) None in
+    let now : DebuggerState = debugger_state (processor_state l.core l.ring (written l.output)) l.stop in
     let before : Session = session_of begin.bench (left l.initial.commands) (reported l.initial.report) in
     record {
       comes : Comes before begin now (left l.commands) (reported l.report) l.line l.feed;
-      stands : Stands l.initial.core l.core l.ring;
+      stands : StandsAfterMoves l.initial.core l.core l.ring;
       commands : g.S.Source.faults l.commands ≡ g.S.Source.faults l.initial.commands;
       output : g.K.Sink.faults l.output ≡ g.K.Sink.faults l.initial.output;
       report : g.R.Sink.faults l.report ≡ g.R.Sink.faults l.initial.report;

@@ -1,5 +1,5 @@
 use Rattle.std.proofs.Common.{refl, ◌∙◌}
-use Rattle.cf_run.specs.Moving.{Does}
+use Rattle.cf_run.specs.Moving.{MoveDoes}
 use Rattle.cf_index.proofs.There.{has_sidings}
 use Rattle.cf_rounds.proofs.Making.{fired-allowed, fired-more, fired-none, fired-unread, fired-unwritten}
 use Rattle.cf_rounds.proofs.firing.fire.Goals as goal
@@ -23,15 +23,15 @@ returns-in-Err-WriteFault-clause-fires g c =
     fired-unwritten _ _ _ _ _ _ _ _ _ _ c.loop-place.invariant.fired c.get-mv.ensures (rw c.in-Err-WriteFault.field-0-is at c.in-Err-WriteFault.ensures.does)
 
 pub unreachable-requires-in-Err-Exit : goal.unreachable-requires-in-Err-Exit
-unfolding Does
+unfolding MoveDoes
 unreachable-requires-in-Err-Exit g c = rw c.in-Err-Exit.field-0-is at c.in-Err-Exit.ensures.does
 
 pub unreachable-requires-in-Err-Trap : goal.unreachable-requires-in-Err-Trap
-unfolding Does
+unfolding MoveDoes
 unreachable-requires-in-Err-Trap g c = rw c.in-Err-Trap.field-0-is at c.in-Err-Trap.ensures.does
 
 pub unreachable-requires-in-Err-Limit : goal.unreachable-requires-in-Err-Limit
-unfolding Does
+unfolding MoveDoes
 unreachable-requires-in-Err-Limit g c = rw c.in-Err-Limit.field-0-is at c.in-Err-Limit.ensures.does
 
 pub loop-place-preserved : goal.loop-place-preserved

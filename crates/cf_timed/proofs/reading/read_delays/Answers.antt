@@ -1,5 +1,5 @@
 use Rattle.std.proofs.Common.{◌≡◌, ◌∙◌, ap, length, Ok, rules}
-use Rattle.cf_timed.proofs.Told.{told_at_end}
+use Rattle.cf_timed.proofs.DelayLines.{told_at_end}
 use Rattle.cf_timed.proofs.reading.read_delays.Goals as goal
 
 pub returns : goal.returns

@@ -1,5 +1,5 @@
 use Rattle.std.proofs.Common.{◌∙◌, ap}
-use Rattle.cf_timed.specs.Timings.{Pending, clock_after}
+use Rattle.cf_timed.specs.Timings.{PendingMove, clock_after}
 use Rattle.run_ledger.proofs.Noted.{first-is, runs-noted}
 use Rattle.run_ledger.proofs.run.run_noted.Goals as goal
 
@@ -10,7 +10,7 @@ returns-clause-run g c =
     c.known.ensures.accepted c.known.ensures.registers c.requires.begins.can_run.is_opened c.known-2.ensures c.requires.begins.can_run.limit_allowed c.requires.begins.can_run.within ran.reports
     (first-is c.args.core.now.plan c.args.clock.now.delays c.args.clock.now c.args.ledger.now c.new-watching.result c.new-watching.ensures c.requires.begins.clock_is c.requires.ledger)
     ran.right ran.ends (c.timed.ensures ran.reports)
-    (c.clock_after.ensures ∙ ap (λ (p : Pending). clock_after p c.run_unreported-ran.result) c.timing.ensures) c.ledger_after.ensures)
+    (c.clock_after.ensures ∙ ap (λ (p : PendingMove). clock_after p c.run_unreported-ran.result) c.timing.ensures) c.ledger_after.ensures)
 
 pub returns-clause-bounded : goal.returns-clause-bounded
 returns-clause-bounded g c = c.run_unreported-ran.ensures.bounded

@@ -1,6 +1,6 @@
 use Rattle.std.proofs.Common.{◌≡◌, map, take, arith}
 use Rattle.std.specs.Prelude.{unwrap_or}
-use Rattle.cf_timed.proofs.Told.{filled_delays}
+use Rattle.cf_timed.proofs.DelayLines.{filled_delays}
 use Rattle.cf_timed.proofs.delays.Delays.filled.Goals as goal
 
 pub invariant_of-result : goal.invariant_of-result

@@ -58,7 +58,7 @@ pub record Acted (plan : Plan) (s : State) (x : Machine) (mv : Move) : Type 0 wh
   pub way : OnWay (isa_of plan) s x above who
 
 -- a move changes none of these, or acts for a passenger on the sequential path
-abbrev pub Heeds : Plan → Machine → Moment → Move → Type 0
-Heeds plan start m mv =
+abbrev pub KeepsOrActsOnPath : Plan → Machine → Moment → Move → Type 0
+KeepsOrActsOnPath plan start m mv =
     Unmoved m (next plan m mv)
     ⊎ ((x : Machine) × (after (isa_of plan) start (gained start m.state) ≡ Some x) × Acted plan m.state x mv)

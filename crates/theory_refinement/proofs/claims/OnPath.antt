@@ -19,7 +19,7 @@ use Rattle.theory_refinement.proofs.claims.Runs.{going, holds_after}
 use Rattle.theory_refinement.proofs.moves.Serve.{serve_ready}
 use Rattle.theory_refinement.proofs.column.Sorted.{Riders, Sorted, over, sorted}
 use Rattle.theory_refinement.proofs.walks.Stands.{each_front}
-use Rattle.cf_semantics.specs.claims.Heeds.{Acted, Heeds, OnWay, Unmoved, as_launched}
+use Rattle.cf_semantics.specs.claims.KeepsOrActsOnPath.{Acted, KeepsOrActsOnPath, OnWay, Unmoved, as_launched}
 use Rattle.cf_semantics.specs.claims.Refines.{gained}
 use Rattle.theory_refinement.proofs.invariant.Invariant.{HoldsAt, Sound}
 use Rattle.theory_refinement.proofs.invariant.Stands.{Each}
@@ -242,7 +242,7 @@ access_acts {rest} {out} l s x acc e h =
     both : (a b : Bool) → a ≡ false → b ≡ false → (not a && not b) ≡ true
     both a b e f = rw (e, f) refl
 
-pub heeds : (l : Plan) (x0 : Machine) (m : Moment) (x : Machine) (mv : Move) → Suits l → after (isa_of l) x0 (gained x0 m.state) ≡ Some x → bar l m.state mv ≡ None → Sound l m.state m.rest m.output x → Heeds l x0 m mv
+pub heeds : (l : Plan) (x0 : Machine) (m : Moment) (x : Machine) (mv : Move) → Suits l → after (isa_of l) x0 (gained x0 m.state) ≡ Some x → bar l m.state mv ≡ None → Sound l m.state m.rest m.output x → KeepsOrActsOnPath l x0 m mv
 unfolding next
 heeds l x0 m x (Issue g) acc a e h = inl (moment_unmoved m _ (issue_unmoved l m.state g))
 heeds l x0 m x Emit acc a e h = inl (moment_unmoved m _ (emit_unmoved l m.state))
@@ -257,14 +257,14 @@ heeds l x0 m x Access acc a e h = inr (x, a, access_acts l m.state x acc e h)
 heeds l x0 m x (Recover i) acc a e h = inl (moment_unmoved m _ (recover_unmoved l m.state i))
 heeds l x0 m x Leave acc a e h = go (leave_acts l m.state x e h)
   where
-    go : Untouched m.state (moved l m.state Leave) ⊎ Acted l m.state x Leave → Heeds l x0 m Leave
+    go : Untouched m.state (moved l m.state Leave) ⊎ Acted l m.state x Leave → KeepsOrActsOnPath l x0 m Leave
     go (inl u) = inl (moment_unmoved m _ u)
     go (inr u) = inr (x, a, u)
 heeds l x0 m x Exit acc a e h = inl (moment_unmoved m _ (exit_unmoved l m.state))
 heeds l x0 m x Serve acc a e h = inr (x, a, serve_acts l m.state x e h)
 
 -- off the sequential path nothing is changed
-pub run_heeds : (l : Plan) (x0 : Machine) (moves : List Move) (mv : Move) → Suits l → length x0.hart.regs ≡ 32 → IsRun l (start l x0) moves → bar l (run l (start l x0) moves).state mv ≡ None → Heeds l x0 (run l (start l x0) moves) mv
+pub run_heeds : (l : Plan) (x0 : Machine) (moves : List Move) (mv : Move) → Suits l → length x0.hart.regs ≡ 32 → IsRun l (start l x0) moves → bar l (run l (start l x0) moves).state mv ≡ None → KeepsOrActsOnPath l x0 (run l (start l x0) moves) mv
 run_heeds l x0 moves mv acc w r e =
     let m = run l (start l x0) moves in
     let h = holds_after l x0 moves acc w r in

@@ -1,13 +1,13 @@
 -- What the objects lent to a command tell, as it begins and as it ends.
 use Rattle.std.specs.Prelude.{ℕ, List, Option}
 use Rattle.std.specs.Borrow.{MutBor}
-use Rattle.cf_io.specs.Reads.{Told}
+use Rattle.cf_io.specs.ReadsFile.{FilesSeen}
 use Rattle.rv_machine.specs.Streams.{Streams as StreamsTold, streams_of}
 use Rattle.cli_files.specs.Outside.{Outside, Report, outside_of, report_of}
-use Rattle.cfpp_cli.specs.declared.streams.Streams.{Streams}
+use Rattle.cfpp_cli.specs.declared.streams.RunStreams.{RunStreams}
 
 -- the streams and the report of a run, before and after
-pub record Passage : Type 0 where
+pub record StreamsChange : Type 0 where
   pub before : StreamsTold
   pub after : StreamsTold
   pub blank : Report
@@ -27,9 +27,9 @@ abbrev pub report_left : {S K R U : Type 0} → StreamsLeft S K R U → R
 report_left left = left.1.1.0.now
 
 -- what they tell, given what a source and two sinks tell, and the count of faults of the report
-abbrev pub passage : {S K R U : Type 0} → (S → Option (List ℕ)) → (K → Option (List ℕ)) → (R → Option (List ℕ)) → (R → ℕ) →
-    Streams S K R → StreamsLeft S K R U → Passage
-passage unread written reported faults lent left = record {
+abbrev pub streams_change : {S K R U : Type 0} → (S → Option (List ℕ)) → (K → Option (List ℕ)) → (R → Option (List ℕ)) → (R → ℕ) →
+    RunStreams S K R → StreamsLeft S K R U → StreamsChange
+streams_change unread written reported faults lent left = record {
   before = streams_of (unread lent.input.now) (written lent.output.now);
   after = streams_of (unread (input_left left)) (written (output_left left));
   blank = report_of (reported lent.report.now) (faults lent.report.now);
@@ -37,16 +37,16 @@ passage unread written reported faults lent left = record {
 }
 
 -- the outside and the report, before and after
-pub record Span : Type 0 where
+pub record OutsideChange : Type 0 where
   pub before : Outside
   pub after : Outside
   pub blank : Report
   pub full : Report
 
 -- what the files and those three tell, given what files, a source and two sinks tell, and their counts of faults
-abbrev pub span : {F S K R U : Type 0} → (F → Option Told) → (F → ℕ) → (S → Option (List ℕ)) → (S → ℕ) →
-    (K → Option (List ℕ)) → (K → ℕ) → (R → Option (List ℕ)) → (R → ℕ) → F → F → Streams S K R → StreamsLeft S K R U → Span
-span told file_faults unread input_faults written output_faults reported report_faults files files_left lent left = record {
+abbrev pub outside_change : {F S K R U : Type 0} → (F → Option FilesSeen) → (F → ℕ) → (S → Option (List ℕ)) → (S → ℕ) →
+    (K → Option (List ℕ)) → (K → ℕ) → (R → Option (List ℕ)) → (R → ℕ) → F → F → RunStreams S K R → StreamsLeft S K R U → OutsideChange
+outside_change told file_faults unread input_faults written output_faults reported report_faults files files_left lent left = record {
   before = outside_of (told files) (file_faults files) (unread lent.input.now) (input_faults lent.input.now)
       (written lent.output.now) (output_faults lent.output.now);
   after = outside_of (told files_left) (file_faults files_left) (unread (input_left left)) (input_faults (input_left left))

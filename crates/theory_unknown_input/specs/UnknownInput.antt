@@ -34,7 +34,7 @@ GoesTo isa start (suc n) x written =
     × (written ≡ earlier ++ lines_at isa before)
 
 -- what is seen of the moment is what the sequential machine does: the count has not fallen; as many steps as have retired since the start lead to a machine, with these lines; and with some input left it is what that machine does next
-pub record RefinesAnew (plan : Plan) (start : Machine) (written : List Line) (m : Moment) : Type 0 where
+pub record RefinesOverUnknownInput (plan : Plan) (start : Machine) (written : List Line) (m : Moment) : Type 0 where
   pub at : Machine
   pub rises : start.hart.retired ≤ m.state.retired
   pub goes : GoesTo (isa_of plan) start (gained start m.state) at written

@@ -8,14 +8,14 @@ use std::marker::Model;
 /// A siding: the classes that go through it, the stage from which it launches, the one at which it recovers, and how
 /// many cells it has.
 #[derive(Clone, Copy)]
-pub(crate) struct Laid {
+pub(crate) struct AcceptedSiding {
     pub(crate) classes: ClassSet,
     pub(crate) launch: u32,
     pub(crate) recover: u32,
     pub(crate) cells: u32,
 }
 
-impl Model for Laid {
+impl Model for AcceptedSiding {
     ghost use Rattle.cf_layout.specs.Layout.{SidingPlan};
 
     ghost Value = { SidingPlan };
@@ -25,9 +25,9 @@ impl Model for Laid {
     ghost inverse = { λ s. record { classes = s.classes; launch = s.launch; recover = s.recover; cells = s.cells } };
 }
 
-impl Laid {
+impl AcceptedSiding {
     /// Whether the two sidings have the same classes, stand in the same place and have equally many cells.
-    pub(crate) fn same(&self, other: &Laid) -> bool
+    pub(crate) fn same(&self, other: &AcceptedSiding) -> bool
         ensures { IsTrue result ↔ (self.now ≡ other.now) }
     {
         self.classes.same(other.classes)

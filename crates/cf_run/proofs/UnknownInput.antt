@@ -17,7 +17,7 @@ use Rattle.cf_semantics.specs.runs.Runs.{start as start_on}
 use Rattle.cf_semantics.specs.state.State.{Moment}
 use Rattle.cf_semantics.specs.claims.Weight.{issues, weight}
 use Rattle.theory_refinement.proofs.claims.Runs.{opened_retired}
-use Rattle.theory_unknown_input.specs.Anew.{finding, GoesTo, LeadsTo}
+use Rattle.theory_unknown_input.specs.UnknownInput.{finding, GoesTo, LeadsTo}
 use Rattle.theory_unknown_input.proofs.Invariant.{HoldsAnew}
 use Rattle.theory_unknown_input.proofs.Bounded.{drain_bounded_anew}
 use Rattle.theory_unknown_input.proofs.Theorems.{holds_anew, left_open}
@@ -25,7 +25,7 @@ use Rattle.cf_core.specs.Processors.{opened}
 use Rattle.cf_run.specs.Going.{moment_of, Leads}
 use Rattle.cf_run.specs.Headline.{machine_on, AreTexts}
 use Rattle.cf_run.specs.Made.{Made, moves_of, all_shown, shown}
-use Rattle.cf_run.specs.Moving.{Place}
+use Rattle.cf_run.specs.Moving.{RunPlace}
 use Rattle.cf_run.specs.Reaching.{Reaches}
 use Rattle.cf_run.proofs.Arrived.{Arrives, begins}
 use Rattle.cf_run.proofs.Retirements.{made-texts}
@@ -66,7 +66,7 @@ pub left-untold : (before after : Streams) (found rest output : List ℕ) → be
 left-untold before after found rest output none h = record { input = untold-input before.input after.input rest none; output = h.output }
 
 -- where a run has arrived over an input that does not tell
-pub record ArrivesAnew (shows : Show) (hart : Hart) (begin now : Place) : Type 0 where
+pub record ArrivesAnew (shows : Show) (hart : Hart) (begin now : RunPlace) : Type 0 where
   pub at : Machine
   pub written : List Line
   pub last : Moment
@@ -77,7 +77,7 @@ pub record ArrivesAnew (shows : Show) (hart : Hart) (begin now : Place) : Type 0
   pub arrives : Arrives shows at last (hart.retired + 1) written begin now
 
 -- a run has arrived there by the moves that it made
-pub arrives-anew : (limit : ℕ) (shows : Show) (hart : Hart) (begin now : Place) → IsAccepted begin.core.plan → length hart.regs ≡ 32 → begin.core ≡ opened begin.core.plan hart → begin.streams.input ≡ None → Reaches limit shows begin now
+pub arrives-anew : (limit : ℕ) (shows : Show) (hart : Hart) (begin now : RunPlace) → IsAccepted begin.core.plan → length hart.regs ≡ 32 → begin.core ≡ opened begin.core.plan hart → begin.streams.input ≡ None → Reaches limit shows begin now
     → ArrivesAnew shows hart begin now
 arrives-anew limit shows hart begin now accepted wide opens none h =
     let plan : Plan = begin.core.plan in
