@@ -8,7 +8,7 @@ use Rattle.rv_asm.specs.declared.draft.Draft.{Draft}
 use Rattle.rv_asm.specs.declared.refusal.AsmKind.{AsmKind}
 use Rattle.rv_asm.specs.declared.refusal.AsmKind.TheVariants.{LabelTwice, TooLarge}
 use Rattle.rv_asm.specs.declared.refusal.AsmErr.{AsmErr}
-use Rattle.rv_asm.specs.Answers.{and_then}
+use Rattle.texts.specs.Answers.{and_then}
 use Rattle.rv_text.specs.Lines.{text_lines}
 use Rattle.rv_asm.specs.Scanning.{said, label_in, statement_in}
 use Rattle.rv_asm.specs.Items.{SourceItem}

@@ -10,7 +10,8 @@ use Rattle.rv_text.specs.LineReading.{aimed, distance_of}
 use Rattle.rv_asm.specs.declared.refusal.AsmKind.{AsmKind}
 use Rattle.rv_asm.specs.declared.refusal.AsmKind.TheVariants.{NoLabel}
 use Rattle.rv_asm.specs.declared.operations.Width.{Width}
-use Rattle.rv_asm.specs.Answers.{and_then, needed, as_text}
+use Rattle.texts.specs.Answers.{and_then, needed}
+use Rattle.rv_asm.specs.Answers.{as_text}
 use Rattle.rv_asm.specs.Operands.{names_label, number_of_width, bytes_of_width}
 use Rattle.rv_asm.specs.Items.{SourceItem, Nothing, Section, Export, Single, Double, Near, Distant, Numbers, Chars, Zeros}
 use Rattle.rv_asm.specs.Pseudos.{word_modulo, reaching}

@@ -11,14 +11,14 @@ pub record Met : Type 0 where
   pub packet : Option Packet
 
 -- a value that was not known becomes v
-abbrev pub or_else : Option ℕ → ℕ → Option ℕ
-or_else None v = Some v
-or_else (Some w) v = Some w
+abbrev pub or_value : Option ℕ → ℕ → Option ℕ
+or_value None v = Some v
+or_value (Some w) v = Some w
 
 -- garnering: a source of register r that has no value gets v
 abbrev pub garnered : ℕ → ℕ → Option Binding → Option Binding
 garnered r v None = None
-garnered r v (Some b) = Some (record b { value = if b.reg == r then or_else b.value v else b.value })
+garnered r v (Some b) = Some (record b { value = if b.reg == r then or_value b.value v else b.value })
 
 -- a value of r after it has met a passenger that writes r: killed while the new value is not known, updated to it once it is
 abbrev pub replaced : ℕ → Option ℕ → Option Packet

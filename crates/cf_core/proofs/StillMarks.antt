@@ -12,7 +12,7 @@ use Rattle.cf_bind.specs.declared.packet.Packet.{Packet}
 use Rattle.cf_bind.specs.declared.packet.Packet.TheVariants.{Value, Turn, Halt}
 use Rattle.cf_bind.specs.declared.passenger.End.{End}
 use Rattle.cf_bind.specs.declared.passenger.Passenger.{Passenger}
-use Rattle.cf_bind.specs.Meeting.{Met, garnered, meeting, or_else, packet_met, passenger_met}
+use Rattle.cf_bind.specs.Meeting.{Met, garnered, meeting, or_value, packet_met, passenger_met}
 use Rattle.cf_layout.specs.Layout.{Plan}
 use Rattle.cf_layout.specs.Words.{has_bit}
 use Rattle.cf_semantics.specs.moves.Bars.{climb_bar, emit_bar, entry_bar, exit_bar, fall_bar, first, first_of, is_full, launch_bar, leave_bar, row_bar, source_bar, stops_at}
@@ -276,7 +276,7 @@ meet_keeps plan s i spent = by_cell (cell_at s.cells i) refl spent
 
 -- Meetings that leave the passenger as it was --
 
-kept_value : (same : Bool) (w : Option ℕ) (v : ℕ) → (not (is_some w) && same) ≡ false → (if same then or_else w v else w) ≡ w
+kept_value : (same : Bool) (w : Option ℕ) (v : ℕ) → (not (is_some w) && same) ≡ false → (if same then or_value w v else w) ≡ w
 kept_value true None v e = absurd (cc)
 kept_value true (Some x) v e = refl
 kept_value false None v e = refl

@@ -207,37 +207,37 @@ pauses_stand start n stop count at now new (made ∷ other ∷ more) h none = ab
 same_stands : (start : Processor) (now new : ProcessorState) → StandsAfterMoves start now.core now.ring → new ≡ now → StandsAfterMoves start new.core new.ring
 same_stands start now new h same = subst (λ (b : ProcessorState). StandsAfterMoves start b.core b.ring) (sym same) h
 
-bench_same : (start : Processor) (now new : DebuggerState) → StandsAfterMoves start now.bench.core now.bench.ring → new ≡ now → StandsAfterMoves start new.bench.core new.bench.ring
-bench_same start now new h same = subst (λ (d : DebuggerState). StandsAfterMoves start d.bench.core d.bench.ring) (sym same) h
+processor_same : (start : Processor) (now new : DebuggerState) → StandsAfterMoves start now.processor.core now.processor.ring → new ≡ now → StandsAfterMoves start new.processor.core new.processor.ring
+processor_same start now new h same = subst (λ (d : DebuggerState). StandsAfterMoves start d.processor.core d.processor.ring) (sym same) h
 
 -- each command keeps a session on its run
-carries_stand : (start : Processor) (command : DebugCommand) (now new : DebuggerState) (text : List ℕ) → StandsAfterMoves start now.bench.core now.bench.ring → CommandAnswers command now new text → StandsAfterMoves start new.bench.core new.bench.ring
+carries_stand : (start : Processor) (command : DebugCommand) (now new : DebuggerState) (text : List ℕ) → StandsAfterMoves start now.processor.core now.processor.ring → CommandAnswers command now new text → StandsAfterMoves start new.processor.core new.processor.ring
 unfolding CommandAnswers
-carries_stand start Nothing now new text h c = bench_same start now new h c.0
-carries_stand start (Move mv) now new text h (same, inl (spent, r)) = same_stands start now.bench new.bench h r.0
-carries_stand start (Move mv) now new text h (same, inr (inl (below, (b, is, r)))) = same_stands start now.bench new.bench h r.0
-carries_stand start (Move mv) now new text h (same, inr (inr (below, (e, makes, is)))) = makes-stands start mv e now.bench new.bench h makes
-carries_stand start (Auto n) now new text h (same, inl (spent, r)) = same_stands start now.bench new.bench h r.0
+carries_stand start Nothing now new text h c = processor_same start now new h c.0
+carries_stand start (Move mv) now new text h (same, inl (spent, r)) = same_stands start now.processor new.processor h r.0
+carries_stand start (Move mv) now new text h (same, inr (inl (below, (b, is, r)))) = same_stands start now.processor new.processor h r.0
+carries_stand start (Move mv) now new text h (same, inr (inr (below, (e, makes, is)))) = makes-stands start mv e now.processor new.processor h makes
+carries_stand start (Auto n) now new text h (same, inl (spent, r)) = same_stands start now.processor new.processor h r.0
 carries_stand start (Auto n) now new text h (same, inr (below, (count, lines, d, is))) =
-    pauses_stand start n now.stop (length d.trace) d.at d.now new.bench d.last (passes_stand start now.stop first_turn d.at now.bench d.now d.trace h d.passes) d.pauses
-carries_stand start (Show view) now new text h c = bench_same start now new h c.0
-carries_stand start (Break stop) now new text h c = same_stands start now.bench new.bench h (ap (λ (d : DebuggerState). d.bench) c.0)
-carries_stand start Back now new text h (same, inl (none, r)) = same_stands start now.bench new.bench h r.0
+    pauses_stand start n now.stop (length d.trace) d.at d.now new.processor d.last (passes_stand start now.stop first_turn d.at now.processor d.now d.trace h d.passes) d.pauses
+carries_stand start (Show view) now new text h c = processor_same start now new h c.0
+carries_stand start (Break stop) now new text h c = same_stands start now.processor new.processor h (ap (λ (d : DebuggerState). d.processor) c.0)
+carries_stand start Back now new text h (same, inl (none, r)) = same_stands start now.processor new.processor h r.0
 carries_stand start Back now new text h (same, inr (older, k, there, is, t)) =
-    let before : StandsAfterMoves start now.bench.core (older ++ k ∷ []) = subst (StandsAfterMoves start now.bench.core) there h in
-    subst (StandsAfterMoves start new.bench.core) (sym (ap (λ (b : ProcessorState). b.ring) is)) (stands-back start now.bench.core new.bench.core older k before (ap (λ (b : ProcessorState). b.core) is))
-carries_stand start End now new text h c = bench_same start now new h c.0
+    let before : StandsAfterMoves start now.processor.core (older ++ k ∷ []) = subst (StandsAfterMoves start now.processor.core) there h in
+    subst (StandsAfterMoves start new.processor.core) (sym (ap (λ (b : ProcessorState). b.ring) is)) (stands-back start now.processor.core new.processor.core older k before (ap (λ (b : ProcessorState). b.core) is))
+carries_stand start End now new text h c = processor_same start now new h c.0
 
 -- so does each line that is answered
-pub answers-stand : (start : Processor) (told : Result DebugCommand Refusal) (now new : DebuggerState) (text : List ℕ) → StandsAfterMoves start now.bench.core now.bench.ring → AnswersLine told now new text → StandsAfterMoves start new.bench.core new.bench.ring
+pub answers-stand : (start : Processor) (told : Result DebugCommand Refusal) (now new : DebuggerState) (text : List ℕ) → StandsAfterMoves start now.processor.core now.processor.ring → AnswersLine told now new text → StandsAfterMoves start new.processor.core new.processor.ring
 unfolding AnswersLine
 answers-stand start (Ok command) now new text h a = carries_stand start command now new text h a.1
-answers-stand start (Err refusal) now new text h a = bench_same start now new h a.0
+answers-stand start (Err refusal) now new text h a = processor_same start now new h a.0
 
 -- and a line that ends the session leaves it there
-pub ends-on_run : (start : Processor) (line : List ℕ) (now new : DebuggerState) (written after : Option (List ℕ)) (answer : Debugged) → StandsAfterMoves start now.bench.core now.bench.ring → LineLeaves line now new written after (Some answer) → StaysOnRun start new.bench.core answer
+pub ends-on_run : (start : Processor) (line : List ℕ) (now new : DebuggerState) (written after : Option (List ℕ)) (answer : Debugged) → StandsAfterMoves start now.processor.core now.processor.ring → LineLeaves line now new written after (Some answer) → StaysOnRun start new.processor.core answer
 unfolding LineLeaves
-ends-on_run start line now new written after Done h e = stands-on_run start new.bench.core new.bench.ring (bench_same start now new h e.1)
+ends-on_run start line now new written after Done h e = stands-on_run start new.processor.core new.processor.ring (processor_same start now new h e.1)
 ends-on_run start line now new written after Limit h e = absurd e
 ends-on_run start line now new written after ReadFault h e = absurd e
 ends-on_run start line now new written after WriteFault h e = tt
@@ -253,12 +253,12 @@ ends-fed line now new written after WriteFault before faults still e = record { 
 ends-fed line now new written after ReportFault before faults still e = record { never_falls = omega (arith, still); rose = tt; still = still }
 
 -- a byte that is used keeps a session on its run too
-pub uses-stand : (start : Processor) (byte : ℕ) (line later : List ℕ) (now new : DebuggerState) (written after : Option (List ℕ)) → StandsAfterMoves start now.bench.core now.bench.ring → UsesByte byte line later now new written after None → StandsAfterMoves start new.bench.core new.bench.ring
+pub uses-stand : (start : Processor) (byte : ℕ) (line later : List ℕ) (now new : DebuggerState) (written after : Option (List ℕ)) → StandsAfterMoves start now.processor.core now.processor.ring → UsesByte byte line later now new written after None → StandsAfterMoves start new.processor.core new.processor.ring
 unfolding LineLeaves
-uses-stand start byte line later now new written after h (inl (other, held_is, same, still, goes)) = bench_same start now new h same
+uses-stand start byte line later now new written after h (inl (other, held_is, same, still, goes)) = processor_same start now new h same
 uses-stand start byte line later now new written after h (inr (end, empty, (text, a, put))) = answers-stand start (command_in (without_return line)) now new text h a
 
-pub uses-on_run : (start : Processor) (byte : ℕ) (line later : List ℕ) (now new : DebuggerState) (written after : Option (List ℕ)) (answer : Debugged) → StandsAfterMoves start now.bench.core now.bench.ring → UsesByte byte line later now new written after (Some answer) → StaysOnRun start new.bench.core answer
+pub uses-on_run : (start : Processor) (byte : ℕ) (line later : List ℕ) (now new : DebuggerState) (written after : Option (List ℕ)) (answer : Debugged) → StandsAfterMoves start now.processor.core now.processor.ring → UsesByte byte line later now new written after (Some answer) → StaysOnRun start new.processor.core answer
 uses-on_run start byte line later now new written after answer h (inl (other, held_is, same, still, goes)) = absurd (cc)
 uses-on_run start byte line later now new written after answer h (inr (end, empty, ends)) = ends-on_run start (without_return line) now new written after answer h ends
 
@@ -267,11 +267,11 @@ uses-fed byte line later now new written after answer before faults still (inl (
 uses-fed byte line later now new written after answer before faults still (inr (end, empty, ends)) = ends-fed (without_return line) now new written after answer before faults still ends
 
 -- and at the end of the commands
-pub finishes-on_run : (start : Processor) (line : List ℕ) (now new : DebuggerState) (written after : Option (List ℕ)) (answer : Debugged) → StandsAfterMoves start now.bench.core now.bench.ring → FinishesSession line now new written after answer → StaysOnRun start new.bench.core answer
+pub finishes-on_run : (start : Processor) (line : List ℕ) (now new : DebuggerState) (written after : Option (List ℕ)) (answer : Debugged) → StandsAfterMoves start now.processor.core now.processor.ring → FinishesSession line now new written after answer → StaysOnRun start new.processor.core answer
 unfolding LineLeaves
-finishes-on_run start line now new written after answer h (inl (empty, done, same, still)) = subst (StaysOnRun start new.bench.core) (sym done) (stands-on_run start new.bench.core new.bench.ring (bench_same start now new h same))
+finishes-on_run start line now new written after answer h (inl (empty, done, same, still)) = subst (StaysOnRun start new.processor.core) (sym done) (stands-on_run start new.processor.core new.processor.ring (processor_same start now new h same))
 finishes-on_run start line now new written after answer h (inr (inl (some, done, (text, a, put)))) =
-    subst (StaysOnRun start new.bench.core) (sym done) (stands-on_run start new.bench.core new.bench.ring (answers-stand start (command_in line) now new text h a))
+    subst (StaysOnRun start new.processor.core) (sym done) (stands-on_run start new.processor.core new.processor.ring (answers-stand start (command_in line) now new text h a))
 finishes-on_run start line now new written after answer h (inr (inr (some, ends))) = ends-on_run start line now new written after answer h ends
 
 pub finishes-fed : (line : List ℕ) (now new : DebuggerState) (written after : Option (List ℕ)) (answer : Debugged) (before faults : ℕ) → faults ≡ before → FinishesSession line now new written after answer → HasCause before faults (commands_ended (Some answer))

@@ -13,7 +13,8 @@ use Rattle.cf_debug.specs.declared.command.DebugCommand.TheVariants.{Nothing, Au
 use Rattle.cf_debug.specs.declared.command.View.TheVariants.{Picture, Registers, Memory, Bound}
 use Rattle.cf_debug.specs.declared.command.Refusal.{Refusal}
 use Rattle.cf_debug.specs.declared.command.Refusal.TheVariants.{TooLong, UnknownCommand, BadNumber, ExtraWords}
-use Rattle.cf_debug.specs.Commands.{AsksFew, address_told, alone, and_then, auto_told, break_told, command_in, command_named, lone_command, lone_told, memory_told, move_told, number_told, stop_told, within}
+use Rattle.texts.specs.Answers.{and_then}
+use Rattle.cf_debug.specs.Commands.{AsksFew, address_told, alone, auto_told, break_told, command_in, command_named, lone_command, lone_told, memory_told, move_told, number_told, stop_told, within}
 
 -- what is told, if anything is, asks for few
 abbrev Few : Result DebugCommand Refusal → Type 0

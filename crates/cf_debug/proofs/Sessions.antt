@@ -118,7 +118,7 @@ comes-nearer commands after feed next byte (taken, gives, is, left, few) = omega
 
 -- one more byte, with which the session ends
 pub ends-byte : (before : Session) (begin now new : DebuggerState) (commands fed_commands report after : Option (List ℕ)) (line later : List ℕ) (feed next : Feeding) (byte : ℕ) (answer : Debugged) → Comes before begin now commands report line feed → Feeds commands fed_commands feed next (Byte byte) → UsesByte byte line later now new report after (Some answer)
-    → EndsAtLine before (session_of new.bench fed_commands after) begin new answer
+    → EndsAtLine before (session_of new.processor fed_commands after) begin new answer
 ends-byte before begin now new commands fed_commands report after line later feed next byte answer c feeds (inl (other, held_is, same, still, goes)) = absurd (cc)
 ends-byte before begin now new commands fed_commands report after line later feed next byte answer c feeds (inr (end, empty, ends)) =
     let f = fed before begin now commands fed_commands report line feed next byte c feeds in
@@ -180,12 +180,12 @@ ended before begin now commands after report line feed c none gives =
 
 -- the commands are at their end, and so is the session
 pub ends-last : (before : Session) (begin now new : DebuggerState) (commands fed_commands report after : Option (List ℕ)) (line : List ℕ) (feed next : Feeding) (answer : Debugged) → Comes before begin now commands report line feed → Feeds commands fed_commands feed next AtEnd → FinishesSession line now new report after answer
-    → EndsSession before (session_of new.bench fed_commands after) begin new answer
+    → EndsSession before (session_of new.processor fed_commands after) begin new answer
 unfolding Feeds EndsSession
 ends-last before begin now new commands fed_commands report after line feed next answer c (none, end, gives, same_feed) (inl (empty, done, same, still)) =
     let e = ended before begin now commands fed_commands report line feed c none gives in
     let no_line : c.unfinished ≡ [] = held-none c.unfinished (sym c.line_is ∙ empty) in
-    let last : EndsAtLast before (session_of new.bench fed_commands after) begin new = record {
+    let last : EndsAtLast before (session_of new.processor fed_commands after) begin new = record {
       bytes = c.used;
       taken = (e.gives, e.few);
       all = all_told before.commands commands c.used e.had end;
@@ -195,11 +195,11 @@ ends-last before begin now new commands fed_commands report after line feed next
       answers = subst (λ (ls : List (List ℕ)). AnswersLines ls begin new before.report after) (sym (append-nil c.lines))
           (subst (λ (d : DebuggerState). AnswersLines c.lines begin d before.report after) (sym same) (subst (λ (o : Option (List ℕ)). AnswersLines c.lines begin now before.report o) (sym still) c.answers));
     } in
-    subst (EndsSession before (session_of new.bench fed_commands after) begin new) (sym done) (inr last)
+    subst (EndsSession before (session_of new.processor fed_commands after) begin new) (sym done) (inr last)
 ends-last before begin now new commands fed_commands report after line feed next answer c (none, end, gives, same_feed) (inr (inl (some, done, ends))) =
     let e = ended before begin now commands fed_commands report line feed c none gives in
     let told : command_in line ≡ command_in c.unfinished = ap command_in c.line_is ∙ held-last c.unfinished in
-    let last : EndsAtLast before (session_of new.bench fed_commands after) begin new = record {
+    let last : EndsAtLast before (session_of new.processor fed_commands after) begin new = record {
       bytes = c.used;
       taken = (e.gives, e.few);
       all = all_told before.commands commands c.used e.had end;
@@ -209,7 +209,7 @@ ends-last before begin now new commands fed_commands report after line feed next
       answers = subst (λ (ls : List (List ℕ)). AnswersLines (c.lines ++ ls) begin new before.report after) (sym (one_line c.unfinished (held-some c.unfinished (subst (λ (l : List ℕ). 0 < length l) c.line_is some))))
           (answers_again c.lines c.unfinished begin now new before.report report after c.answers (ends-same line c.unfinished now new report after None told ends));
     } in
-    subst (EndsSession before (session_of new.bench fed_commands after) begin new) (sym done) (inr last)
+    subst (EndsSession before (session_of new.processor fed_commands after) begin new) (sym done) (inr last)
   where
     one_line : (line : List ℕ) → 0 < length line → last_line line ≡ line ∷ []
     one_line [] some = absurd (omega (arith, some))
@@ -217,7 +217,7 @@ ends-last before begin now new commands fed_commands report after line feed next
 ends-last before begin now new commands fed_commands report after line feed next answer c (none, end, gives, same_feed) (inr (inr (some, ends))) =
     let e = ended before begin now commands fed_commands report line feed c none gives in
     let told : command_in line ≡ command_in c.unfinished = ap command_in c.line_is ∙ held-last c.unfinished in
-    ends-at_line before (session_of new.bench fed_commands after) begin new answer (record {
+    ends-at_line before (session_of new.processor fed_commands after) begin new answer (record {
       bytes = c.used;
       taken = (e.gives, e.few);
       lines = c.lines;
@@ -230,7 +230,7 @@ ends-last before begin now new commands fed_commands report after line feed next
     })
 
 -- there are more bytes than there may be
-pub ends-limit : (before : Session) (begin now : DebuggerState) (commands after report : Option (List ℕ)) (line : List ℕ) (feed next : Feeding) → Comes before begin now commands report line feed → Feeds commands after feed next TooMany → EndsSession before (session_of now.bench after report) begin now Limit
+pub ends-limit : (before : Session) (begin now : DebuggerState) (commands after report : Option (List ℕ)) (line : List ℕ) (feed next : Feeding) → Comes before begin now commands report line feed → Feeds commands after feed next TooMany → EndsSession before (session_of now.processor after report) begin now Limit
 unfolding Feeds EndsSession
 ends-limit before begin now commands after report line feed next c (none, spent, (byte, gives), same) =
     let used : c.used ++ feed.rest ≡ c.used = all_used c.used feed.rest none in
@@ -243,7 +243,7 @@ ends-limit before begin now commands after report line feed next c (none, spent,
     }
 
 -- a take failed
-pub ends-fault : (before : Session) (begin now : DebuggerState) (commands after report : Option (List ℕ)) (line : List ℕ) (feed next : Feeding) → Comes before begin now commands report line feed → Feeds commands after feed next Fault → EndsSession before (session_of now.bench after report) begin now ReadFault
+pub ends-fault : (before : Session) (begin now : DebuggerState) (commands after report : Option (List ℕ)) (line : List ℕ) (feed next : Feeding) → Comes before begin now commands report line feed → Feeds commands after feed next Fault → EndsSession before (session_of now.processor after report) begin now ReadFault
 unfolding Feeds EndsSession
 ends-fault before begin now commands after report line feed next c (none, gives, same) =
     let e = ended before begin now commands after report line feed c none gives in

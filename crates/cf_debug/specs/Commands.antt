@@ -1,6 +1,7 @@
 -- What a line tells the debugger (a format of this project): a command by its first word, and what has to follow that.
 use Rattle.std.specs.Prelude.{ℕ, ◌≤◌, ◌==◌, ◌&&◌, List, [], drop, length, Option, Some, None, Result, Ok, Err, codes, nat_le, nat_lt, if◌then◌else◌}
 use Rattle.std.specs.Str.{bytes_eq}
+use Rattle.texts.specs.Answers.{and_then, needed}
 use Rattle.rv_text.specs.Pieces.{name_part, operand_part}
 use Rattle.cf_bind.specs.declared.moves.Move.{Move as AnyMove}
 use Rattle.run_scripts.specs.declared.refusal.ScriptKind.{ScriptKind}
@@ -14,20 +15,10 @@ use Rattle.cf_debug.specs.declared.command.Refusal.{Refusal}
 use Rattle.cf_debug.specs.declared.command.Refusal.TheVariants.{TooLong, UnknownCommand, BadNumber, ExtraWords, Script}
 use Rattle.cf_debug.specs.Limits.{longest_line, most_moves}
 
--- the first refusal, or what the second step makes of the first one's answer
-abbrev pub and_then : {A B : Type 0} → Result A Refusal → (A → Result B Refusal) → Result B Refusal
-and_then (Ok a) step = step a
-and_then (Err e) step = Err e
-
 -- a number that must be there, from one up to a limit
 abbrev pub within : ℕ → Result ℕ ScriptKind → Result ℕ Refusal
 within most (Err kind) = Err BadNumber
 within most (Ok n) = if nat_le 1 n && nat_le n most then Ok n else Err BadNumber
-
--- an address that must be there
-abbrev pub needed : Option ℕ → Result ℕ Refusal
-needed None = Err BadNumber
-needed (Some address) = Ok address
 
 -- a number that the first word spells in one to nine decimal digits, from one up to a limit
 unfoldable pub number_told : ℕ → List (List ℕ) → Result ℕ Refusal
@@ -35,7 +26,7 @@ number_told most words = within most (first_number words)
 
 -- the address that a word spells in eight hexadecimal digits
 unfoldable pub address_told : List ℕ → Result ℕ Refusal
-address_told word = needed (address_in word)
+address_told word = needed BadNumber (address_in word)
 
 -- an address, or `none`
 unfoldable pub break_told : List ℕ → Result (Option ℕ) Refusal

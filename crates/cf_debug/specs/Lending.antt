@@ -1,4 +1,4 @@
--- The desk that a call is lent, as it begins and as it ends.
+-- The debugger that a call is lent, as it begins and as it ends.
 use Rattle.std.specs.Prelude.{ℕ, List, Option}
 use Rattle.std.specs.Borrow.{MutBor}
 use Rattle.cf_semantics.specs.moves.Kept.{Kept}
@@ -11,7 +11,7 @@ use Rattle.cf_debug.specs.Replies.{DebuggerState, debugger_state}
 abbrev pub Left : (C U : Type 0) → Type 0
 Left C U = MutBor Processor × (MutBor C × (MutBor (List Kept) × (MutBor (Option ℕ) × U)))
 
--- the desk with what the output tells: as the call begins
+-- the debugger with what the output tells: as the call begins
 abbrev pub debugger_state_lent : Lent → Option (List ℕ) → DebuggerState
 debugger_state_lent lent output = debugger_state (processor_state lent.core.now lent.ring.now output) lent.stop.now
 

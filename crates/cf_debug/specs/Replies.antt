@@ -28,13 +28,13 @@ use Rattle.cf_debug.specs.Driving.{Drives, DrivesOn, DrivesAground}
 use Rattle.cf_debug.specs.Limits.{most_retired}
 use Rattle.cf_debug.specs.Making.{ProcessorState, MakesAndKeeps, FailsOne}
 
--- what a session works on: the bench, and the address at which `auto` stops, where there is one
+-- what a session works on: the processor, and the address at which `auto` stops, where there is one
 pub record DebuggerState : Type 0 where
-  pub bench : ProcessorState
+  pub processor : ProcessorState
   pub stop : Option ℕ
 
 abbrev pub debugger_state : ProcessorState → Option ℕ → DebuggerState
-debugger_state bench stop = record { bench = bench; stop = stop }
+debugger_state processor stop = record { processor = processor; stop = stop }
 
 -- Texts --
 
@@ -120,22 +120,22 @@ shown core Bound = counted_line (codes "bound ") (weight core.plan core.state)
 -- the table
 unfoldable pub CommandAnswers : DebugCommand → (now new : DebuggerState) → List ℕ → Type 0
 CommandAnswers Nothing now new text = OnlyAnswers now new text []
-CommandAnswers (Move mv) now new text = (new.stop ≡ now.stop) × Moves mv now.bench new.bench text
-CommandAnswers (Auto n) now new text = (new.stop ≡ now.stop) × Automates n now.stop now.bench new.bench text
-CommandAnswers (Show view) now new text = OnlyAnswers now new text (shown now.bench.core view)
-CommandAnswers (Break stop) now new text = (new ≡ debugger_state now.bench stop) × (text ≡ break_text stop)
-CommandAnswers Back now new text = (new.stop ≡ now.stop) × TakesBack now.bench new.bench text
+CommandAnswers (Move mv) now new text = (new.stop ≡ now.stop) × Moves mv now.processor new.processor text
+CommandAnswers (Auto n) now new text = (new.stop ≡ now.stop) × Automates n now.stop now.processor new.processor text
+CommandAnswers (Show view) now new text = OnlyAnswers now new text (shown now.processor.core view)
+CommandAnswers (Break stop) now new text = (new ≡ debugger_state now.processor stop) × (text ≡ break_text stop)
+CommandAnswers Back now new text = (new.stop ≡ now.stop) × TakesBack now.processor new.processor text
 CommandAnswers End now new text = OnlyAnswers now new text []
 
 -- all of it, or `auto` in part: what is done where the report fails after a front of the text
 unfoldable pub CommandAnswersPart : DebugCommand → (now new : DebuggerState) → List ℕ → Type 0
-CommandAnswersPart (Auto n) now new text = CommandAnswers (Auto n) now new text ⊎ ((new.stop ≡ now.stop) × DrivesOn n now.stop now.bench new.bench text)
+CommandAnswersPart (Auto n) now new text = CommandAnswers (Auto n) now new text ⊎ ((new.stop ≡ now.stop) × DrivesOn n now.stop now.processor new.processor text)
 CommandAnswersPart command now new text = CommandAnswers command now new text
 
 -- the output fails the call of a move
 unfoldable pub RunsAground : DebugCommand → (now new : DebuggerState) → List ℕ → Type 0
-RunsAground (Move mv) now new text = (text ≡ []) × FailsOne mv now.bench new.bench
-RunsAground (Auto n) now new text = DrivesAground n now.stop now.bench new.bench text
+RunsAground (Move mv) now new text = (text ≡ []) × FailsOne mv now.processor new.processor
+RunsAground (Auto n) now new text = DrivesAground n now.stop now.processor new.processor text
 RunsAground command now new text = ⊥
 
 -- Lines --

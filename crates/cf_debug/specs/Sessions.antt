@@ -17,14 +17,14 @@ use Rattle.cf_debug.specs.Making.{ProcessorState, processor_state}
 use Rattle.cf_debug.specs.Replies.{DebuggerState, debugger_state, AnswersLine, AnswersAll, AnswersPart, FailsAnswer}
 use Rattle.cf_debug.specs.Standing.{IsOnRun}
 
--- what is seen of a session from outside: the bench, what the commands tell that they have left, and what the report tells
+-- what is seen of a session from outside: the processor, what the commands tell that they have left, and what the report tells
 pub record Session : Type 0 where
-  pub bench : ProcessorState
+  pub processor : ProcessorState
   pub commands : Option (List ℕ)
   pub report : Option (List ℕ)
 
 abbrev pub session_of : ProcessorState → (commands report : Option (List ℕ)) → Session
-session_of bench commands report = record { bench = bench; commands = commands; report = report }
+session_of processor commands report = record { processor = processor; commands = commands; report = report }
 
 -- One line --
 
@@ -126,7 +126,7 @@ EndsSession before after begin new ReportFault = EndsAtLine before after begin n
 -- the session: it begins without a break address, and ends in this way
 pub record Debugs (before after : Session) (answer : Debugged) : Type 0 where
   pub stop : Option ℕ
-  pub ends : EndsSession before after (debugger_state before.bench None) (debugger_state after.bench stop) answer
+  pub ends : EndsSession before after (debugger_state before.processor None) (debugger_state after.processor stop) answer
 
 -- unless the output or the report failed, the processor stands at a moment of a run
 abbrev pub StaysOnRun : (start core : Processor) → Debugged → Type 0

@@ -36,17 +36,17 @@ pub(crate) fn told(answer: Result<(), Failed>) -> Result<(), Broken>
 /// `move`.
 fn carry_move<K: Sink, R: Sink>(
     mv: Move,
-    desk: DebuggerState<'_>,
+    debugger: DebuggerState<'_>,
     output: &mut K,
     report: &mut R,
 ) -> Result<(), Broken>
     ensures carries { CommandLeaves (commands.Move mv)
-        (debugger_state_lent desk.entry (K.written output.old)) (debugger_state_left desk.exit (K.written output.new))
+        (debugger_state_lent debugger.entry (K.written output.old)) (debugger_state_left debugger.exit (K.written output.new))
         (R.written report.old) (R.written report.new) result }
     ensures output { HasCause (K.faults output.old) (K.faults output.new) (output_broken result) }
     ensures report { HasCause (R.faults report.old) (R.faults report.new) (report_broken result) }
 {
-    let DebuggerState { core, ring, .. } = desk;
+    let DebuggerState { core, ring, .. } = debugger;
     if is_spent(core) {
         return told(refuse(b"Limit", report));
     }
@@ -62,13 +62,13 @@ fn carry_move<K: Sink, R: Sink>(
 /// `auto`.
 fn carry_auto<K: Sink, R: Sink>(
     count: u32,
-    desk: DebuggerState<'_>,
+    debugger: DebuggerState<'_>,
     output: &mut K,
     report: &mut R,
 ) -> Result<(), Broken>
-    requires stands { StandsSomewhere desk.core.now desk.ring.now }
+    requires stands { StandsSomewhere debugger.core.now debugger.ring.now }
     ensures carries { CommandLeaves (commands.Auto count)
-        (debugger_state_lent desk.entry (K.written output.old)) (debugger_state_left desk.exit (K.written output.new))
+        (debugger_state_lent debugger.entry (K.written output.old)) (debugger_state_left debugger.exit (K.written output.new))
         (R.written report.old) (R.written report.new) result }
     ensures output { HasCause (K.faults output.old) (K.faults output.new) (output_broken result) }
     ensures report { HasCause (R.faults report.old) (R.faults report.new) (report_broken result) }
@@ -78,7 +78,7 @@ fn carry_auto<K: Sink, R: Sink>(
         candidates,
         ring,
         stop,
-    } = desk;
+    } = debugger;
     if is_spent(core) {
         return told(refuse(b"Limit", report));
     }
@@ -133,26 +133,26 @@ fn show<R: Sink>(view: View, core: &Core, report: &mut R) -> Result<(), Failed>
 /// Carries a command out.
 pub(crate) fn carry_out<K: Sink, R: Sink>(
     command: DebugCommand,
-    desk: DebuggerState<'_>,
+    debugger: DebuggerState<'_>,
     output: &mut K,
     report: &mut R,
 ) -> Result<(), Broken>
-    requires stands { StandsSomewhere desk.core.now desk.ring.now }
+    requires stands { StandsSomewhere debugger.core.now debugger.ring.now }
     requires few { AsksFew command }
     ensures carries { CommandLeaves command
-        (debugger_state_lent desk.entry (K.written output.old)) (debugger_state_left desk.exit (K.written output.new))
+        (debugger_state_lent debugger.entry (K.written output.old)) (debugger_state_left debugger.exit (K.written output.new))
         (R.written report.old) (R.written report.new) result }
     ensures output { HasCause (K.faults output.old) (K.faults output.new) (output_broken result) }
     ensures report { HasCause (R.faults report.old) (R.faults report.new) (report_broken result) }
 {
     match command {
         DebugCommand::Nothing => Ok(()),
-        DebugCommand::Move(mv) => carry_move(mv, desk, output, report),
-        DebugCommand::Auto(count) => carry_auto(count, desk, output, report),
-        DebugCommand::Show(view) => told(show(view, desk.core, report)),
-        DebugCommand::Break(address) => told(carry_break(address, desk.stop, report)),
+        DebugCommand::Move(mv) => carry_move(mv, debugger, output, report),
+        DebugCommand::Auto(count) => carry_auto(count, debugger, output, report),
+        DebugCommand::Show(view) => told(show(view, debugger.core, report)),
+        DebugCommand::Break(address) => told(carry_break(address, debugger.stop, report)),
         DebugCommand::Back => {
-            let DebuggerState { core, ring, .. } = desk;
+            let DebuggerState { core, ring, .. } = debugger;
             told(carry_back(core, ring, report))
         }
         DebugCommand::End => Ok(()),

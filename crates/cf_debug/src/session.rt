@@ -47,13 +47,13 @@ fn is_end(command: DebugCommand) -> bool
 /// Answers what a line tells, or says how the session ends there.
 fn answer_line<K: Sink, R: Sink>(
     line: &[u8],
-    desk: DebuggerState<'_>,
+    debugger: DebuggerState<'_>,
     output: &mut K,
     report: &mut R,
 ) -> Option<Debugged>
-    requires stands { StandsSomewhere desk.core.now desk.ring.now }
+    requires stands { StandsSomewhere debugger.core.now debugger.ring.now }
     ensures ends { LineLeaves line.now
-        (debugger_state_lent desk.entry (K.written output.old)) (debugger_state_left desk.exit (K.written output.new))
+        (debugger_state_lent debugger.entry (K.written output.old)) (debugger_state_left debugger.exit (K.written output.new))
         (R.written report.old) (R.written report.new) result }
     ensures output { HasCause (K.faults output.old) (K.faults output.new) (output_ended result) }
     ensures report { HasCause (R.faults report.old) (R.faults report.new) (report_ended result) }
@@ -63,7 +63,7 @@ fn answer_line<K: Sink, R: Sink>(
             if is_end(command) {
                 return Some(Debugged::Done);
             }
-            ended(carry_out(command, desk, output, report))
+            ended(carry_out(command, debugger, output, report))
         }
         Err(refusal) => ended(told(refuse_line(refusal, report))),
     }
@@ -73,13 +73,13 @@ fn answer_line<K: Sink, R: Sink>(
 fn use_byte<K: Sink, R: Sink>(
     byte: u8,
     line: &mut PendingLine,
-    desk: DebuggerState<'_>,
+    debugger: DebuggerState<'_>,
     output: &mut K,
     report: &mut R,
 ) -> Option<Debugged>
-    requires stands { StandsSomewhere desk.core.now desk.ring.now }
+    requires stands { StandsSomewhere debugger.core.now debugger.ring.now }
     ensures uses { UsesByte byte line.old line.new
-        (debugger_state_lent desk.entry (K.written output.old)) (debugger_state_left desk.exit (K.written output.new))
+        (debugger_state_lent debugger.entry (K.written output.old)) (debugger_state_left debugger.exit (K.written output.new))
         (R.written report.old) (R.written report.new) result }
     ensures output { HasCause (K.faults output.old) (K.faults output.new) (output_ended result) }
     ensures report { HasCause (R.faults report.old) (R.faults report.new) (report_ended result) }
@@ -88,7 +88,7 @@ fn use_byte<K: Sink, R: Sink>(
         line.push(byte);
         return None;
     }
-    let answer = answer_line(line.whole(), desk, output, report);
+    let answer = answer_line(line.whole(), debugger, output, report);
     line.clear();
     answer
 }
@@ -96,13 +96,13 @@ fn use_byte<K: Sink, R: Sink>(
 /// Answers the unfinished line at the end of the commands, if there is one.
 fn finish<K: Sink, R: Sink>(
     line: &PendingLine,
-    desk: DebuggerState<'_>,
+    debugger: DebuggerState<'_>,
     output: &mut K,
     report: &mut R,
 ) -> Debugged
-    requires stands { StandsSomewhere desk.core.now desk.ring.now }
+    requires stands { StandsSomewhere debugger.core.now debugger.ring.now }
     ensures finishes { FinishesSession line.now
-        (debugger_state_lent desk.entry (K.written output.old)) (debugger_state_left desk.exit (K.written output.new))
+        (debugger_state_lent debugger.entry (K.written output.old)) (debugger_state_left debugger.exit (K.written output.new))
         (R.written report.old) (R.written report.new) result }
     ensures output { HasCause (K.faults output.old) (K.faults output.new) (output_ended (Some result)) }
     ensures report { HasCause (R.faults report.old) (R.faults report.new) (report_ended (Some result)) }
@@ -110,7 +110,7 @@ fn finish<K: Sink, R: Sink>(
     if line.bytes().is_empty() {
         return Debugged::Done;
     }
-    match answer_line(line.bytes(), desk, output, report) {
+    match answer_line(line.bytes(), debugger, output, report) {
         Some(answer) => answer,
         None => Debugged::Done,
     }
@@ -152,7 +152,7 @@ pub fn debug<S: Source, K: Sink, R: Sink>(
     let mut line = PendingLine::new();
     let mut feed = Feed::new();
     loop {
-        let desk = DebuggerState {
+        let debugger = DebuggerState {
             core,
             candidates,
             ring,
@@ -160,11 +160,11 @@ pub fn debug<S: Source, K: Sink, R: Sink>(
         };
         match feed.next(commands) {
             Next::Byte(byte) => {
-                if let Some(answer) = use_byte(byte, &mut line, desk, output, report) {
+                if let Some(answer) = use_byte(byte, &mut line, debugger, output, report) {
                     return answer;
                 }
             }
-            Next::AtEnd => return finish(&line, desk, output, report),
+            Next::AtEnd => return finish(&line, debugger, output, report),
             Next::TooMany => return Debugged::Limit,
             Next::Fault => return Debugged::ReadFault,
         }

@@ -3,7 +3,7 @@ use Rattle.std.specs.Prelude.{ℕ, ◌+◌, ◌*◌, ◌-◌, min, List, ◌++�
 use Rattle.std.specs.List.{flat_map, range_with_len}
 use Rattle.texts.specs.Lines.{line}
 use Rattle.cf_gen.specs.Draws.{state_after, drawn}
-use Rattle.cf_gen.specs.Statements.{choice_of, register_text, label_text, instruction_text}
+use Rattle.cf_gen.specs.Statements.{choice_of, register_operand, label_text, instruction_text}
 
 -- the line of a statement
 abbrev pub statement : List ℕ → List ℕ
@@ -16,7 +16,7 @@ label_line name = name ++ line (codes ":")
 -- a register from 8 on is given the number below 65536 that is drawn after those of the registers before it
 unfoldable pub load_line : ℕ → ℕ → List ℕ
 load_line x r =
-    statement (codes "li " ++ register_text r ++ codes ", " ++ decimal (drawn 65536 (state_after (r - 8) x)))
+    statement (codes "li " ++ register_operand r ++ codes ", " ++ decimal (drawn 65536 (state_after (r - 8) x)))
 
 -- where the program begins, and its first eight draws
 unfoldable pub opening_text : ℕ → List ℕ
@@ -44,7 +44,7 @@ statements_text number = flat_map (numbered_statement number) (range_with_len 1 
 
 -- x8 is made to depend on each register
 abbrev pub gathering_text : List ℕ
-gathering_text = flat_map (λ r. statement (codes "xor x8, x8, " ++ register_text r)) (range_with_len 9 7)
+gathering_text = flat_map (λ r. statement (codes "xor x8, x8, " ++ register_operand r)) (range_with_len 9 7)
 
 -- x8's eight hexadecimal digits are put into the data, the upper ones first
 abbrev pub converting_text : List ℕ

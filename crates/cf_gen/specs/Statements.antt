@@ -29,8 +29,8 @@ choice_of x = record {
 }
 
 -- a register: `x` and its number
-abbrev pub register_text : ℕ → List ℕ
-register_text r = codes "x" ++ decimal r
+abbrev pub register_operand : ℕ → List ℕ
+register_operand r = codes "x" ++ decimal r
 
 -- a label: `L` and its number
 abbrev pub label_text : ℕ → List ℕ
@@ -38,16 +38,16 @@ label_text i = codes "L" ++ decimal i
 
 -- the first two registers
 abbrev pub two_registers : Choice → List ℕ
-two_registers choice = register_text choice.first ++ codes ", " ++ register_text choice.second
+two_registers choice = register_operand choice.first ++ codes ", " ++ register_operand choice.second
 
 -- all three registers
 abbrev pub three_registers : Choice → List ℕ
-three_registers choice = two_registers choice ++ codes ", " ++ register_text choice.third
+three_registers choice = two_registers choice ++ codes ", " ++ register_operand choice.third
 
 -- the first register and a word of the data: its place is the offset times 4 after x7
 abbrev pub register_and_word : Choice → List ℕ
 register_and_word choice =
-    register_text choice.first ++ codes ", " ++ decimal (4 * choice.offset) ++ codes "(x7)"
+    register_operand choice.first ++ codes ", " ++ decimal (4 * choice.offset) ++ codes "(x7)"
 
 -- the text of a statement; a branch goes to this label
 unfoldable pub instruction_text : Operation → Choice → ℕ → List ℕ

@@ -6,7 +6,7 @@ ghost use Rattle.run_options.specs.Limits.{most_statements};
 ghost use Rattle.cf_io.specs.Causes.{HasCause};
 ghost use Rattle.cf_io.specs.Puts.{Writes, WritesFront};
 ghost use Rattle.cf_gen.specs.Draws.{state_after};
-ghost use Rattle.cf_gen.specs.Statements.{register_text};
+ghost use Rattle.cf_gen.specs.Statements.{register_operand};
 ghost use Rattle.cf_gen.specs.Program.{statement as statement_line, opening_text, drawn_statement, closing_text, program_text};
 ghost use Rattle.texts.specs.Room.{page_room};
 
@@ -64,7 +64,7 @@ text:
 fn push_load(page: &mut Page, register: u32, number: u32)
     requires { length page.old + 52 ≤ page_room }
     ensures text { page.new ≡ page.old
-        ++ statement_line (codes "li " ++ register_text register ++ codes ", " ++ decimal number) }
+        ++ statement_line (codes "li " ++ register_operand register ++ codes ", " ++ decimal number) }
     ensures size { length page.new ≤ length page.old + 52 }
 {
     page.push(b"    li ");

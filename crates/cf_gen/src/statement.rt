@@ -2,7 +2,7 @@
 #![tactic(auto, unfolding(crate::specs::Statements::instruction_text))]
 
 ghost use Rattle.std.specs.Prelude.{◌≡◌, ◌+◌, ◌≤◌, ◌++◌, length};
-ghost use Rattle.cf_gen.specs.Statements.{register_text, label_text, two_registers, three_registers, register_and_word, instruction_text};
+ghost use Rattle.cf_gen.specs.Statements.{register_operand, label_text, two_registers, three_registers, register_and_word, instruction_text};
 ghost use Rattle.texts.specs.Room.{page_room};
 
 use crate::choice::{Choice, Operation};
@@ -11,7 +11,7 @@ use texts::Page;
 /// A register: `x` and its number.
 pub fn push_register(page: &mut Page, register: u32)
     requires { length page.old + 21 ≤ page_room }
-    ensures text { page.new ≡ page.old ++ register_text register }
+    ensures text { page.new ≡ page.old ++ register_operand register }
     ensures size { length page.new ≤ length page.old + 21 }
 {
     page.push(b"x");

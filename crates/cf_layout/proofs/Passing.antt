@@ -6,6 +6,7 @@ use Rattle.std.proofs.lemmas.Int.{ints}
 use Rattle.std.proofs.lemmas.List.Folds.{list_any-append}
 use Rattle.std.proofs.Math.Bool.{or-false}
 use Rattle.std.proofs.lemmas.Bool.Decides.{nat_tests}
+use Rattle.std.specs.Option.{option_or}
 use Rattle.rv_inst.specs.declared.classes.Class.{Class}
 use Rattle.rv_inst.specs.declared.classes.Class.TheVariants.{Memory}
 use Rattle.cf_layout.specs.declared.parts.Siding as asked
@@ -14,7 +15,7 @@ use Rattle.cf_layout.specs.declared.refusal.LayoutErr.{LayoutErr}
 use Rattle.cf_layout.specs.Layout.{same_class}
 use Rattle.cf_layout.specs.Asked.{natural, is_within, names, is_unit, is_sided, IsSmallSiding}
 use Rattle.cf_layout.specs.Acceptable.{IsUnit, IsSiding, times, sided_classes}
-use Rattle.cf_layout.specs.Refusal.{told, unless, or_else, outside, twice, limits_refusal, unit_refusal, units_refusal, first_repeated, stages_refusal, classes_refusal, filled_refusal, siding_refusal, sidings_refusal}
+use Rattle.cf_layout.specs.Refusal.{told, unless, outside, twice, limits_refusal, unit_refusal, units_refusal, first_repeated, stages_refusal, classes_refusal, filled_refusal, siding_refusal, sidings_refusal}
 use Rattle.cf_layout.proofs.Counts.{same_true, names_times, times_cons, times_append, times_nil, is_unit_times}
 
 -- a test that refuses nothing holds
@@ -23,12 +24,12 @@ holds true e p = refl
 holds false e p = cc
 
 -- of two tests that refuse nothing the first refuses nothing
-pub first_passes : (a b : Option LayoutErr) → or_else a b ≡ None → a ≡ None
+pub first_passes : (a b : Option LayoutErr) → option_or a b ≡ None → a ≡ None
 first_passes None b e = refl
 first_passes (Some x) b e = cc
 
 -- and so does the other
-pub next_passes : (a b : Option LayoutErr) → or_else a b ≡ None → b ≡ None
+pub next_passes : (a b : Option LayoutErr) → option_or a b ≡ None → b ≡ None
 next_passes None b e = e
 next_passes (Some x) b e = cc
 

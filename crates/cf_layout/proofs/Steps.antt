@@ -4,13 +4,14 @@ use Rattle.std.specs.Prelude.{◌||◌}
 use Rattle.std.proofs.Math.Seq.{take-suc}
 use Rattle.std.proofs.lemmas.List.Elements.{All-tail}
 use Rattle.std.proofs.lemmas.Option.{same_Some}
+use Rattle.std.specs.Option.{option_or}
 use Rattle.rv_inst.specs.declared.classes.Class.{Class}
 use Rattle.cf_layout.specs.declared.parts.Siding.{Siding}
 use Rattle.cf_layout.specs.Asked.{IsSmallSiding, names}
-use Rattle.cf_layout.specs.Refusal.{siding_for, or_else, unit_refusal, units_refusal, siding_refusal, sidings_refusal, first_repeated}
+use Rattle.cf_layout.specs.Refusal.{siding_for, unit_refusal, units_refusal, siding_refusal, sidings_refusal, first_repeated}
 
 -- the units from one unit on are refused for that unit, or else for those after it
-pub units_step : (n : ℕ) (units : List (Class × List ℤ)) (i : ℕ) (d : Class × List ℤ) → i < length units → units_refusal n (take i units) (drop i units) ≡ or_else (unit_refusal n (take i units) (get_or units i d)) (units_refusal n (take (i + 1) units) (drop (i + 1) units))
+pub units_step : (n : ℕ) (units : List (Class × List ℤ)) (i : ℕ) (d : Class × List ℤ) → i < length units → units_refusal n (take i units) (drop i units) ≡ option_or (unit_refusal n (take i units) (get_or units i d)) (units_refusal n (take (i + 1) units) (drop (i + 1) units))
 units_step n units i d within = rw (drop-cons units i d, add-one, take-suc units i d) refl
 
 -- a unit that is not refused is passed over
@@ -18,7 +19,7 @@ pub units_on : (n : ℕ) (units : List (Class × List ℤ)) (i : ℕ) (unit : Cl
 units_on n units i unit within this passes = sym (rw (← this, passes) at (units_step n units i unit within))
 
 -- the sidings from one on likewise
-pub sidings_step : (n : ℕ) (units : List (Class × List ℤ)) (sidings : List Siding) (i : ℕ) (d : Siding) → i < length sidings → sidings_refusal n units (take i sidings) (drop i sidings) ≡ or_else (siding_refusal n units (take i sidings) (get_or sidings i d)) (sidings_refusal n units (take (i + 1) sidings) (drop (i + 1) sidings))
+pub sidings_step : (n : ℕ) (units : List (Class × List ℤ)) (sidings : List Siding) (i : ℕ) (d : Siding) → i < length sidings → sidings_refusal n units (take i sidings) (drop i sidings) ≡ option_or (siding_refusal n units (take i sidings) (get_or sidings i d)) (sidings_refusal n units (take (i + 1) sidings) (drop (i + 1) sidings))
 sidings_step n units sidings i d within = rw (drop-cons sidings i d, add-one, take-suc sidings i d) refl
 
 -- and so is a siding

@@ -8,6 +8,7 @@ use Rattle.std.proofs.lemmas.Int.{ints}
 use Rattle.std.proofs.lemmas.Option.{same_Some}
 use Rattle.std.proofs.Math.Bool.{or-true, or-false}
 use Rattle.std.proofs.lemmas.Bool.Decides.{nat_tests}
+use Rattle.std.specs.Option.{option_or}
 use Rattle.rv_inst.specs.declared.classes.Class.{Class}
 use Rattle.rv_inst.specs.declared.classes.Class.TheVariants.{Branch, Jump, Memory, Mul, Div}
 use Rattle.cf_layout.specs.declared.parts.Siding as asked
@@ -19,7 +20,7 @@ use Rattle.cf_layout.specs.Accepted.{is_needed, is_control}
 use Rattle.cf_layout.specs.Asked.{natural, is_within, names, is_unit, is_sided, is_asked, listed, ascending}
 use Rattle.cf_layout.specs.Acceptable.{IsAcceptable, times, sided_classes, asked_classes}
 use Rattle.cf_layout.specs.Causes.{IsLayoutCause}
-use Rattle.cf_layout.specs.Refusal.{unless, or_else, outside, twice, missing, above, limits_refusal, unit_refusal, units_refusal, first_repeated, stages_refusal, classes_refusal, filled_refusal, siding_refusal, sidings_refusal, missing_refusal, needed_classes, turn_refusal, control_refusal, turns_in, siding_for, memory_launch_in, refusal}
+use Rattle.cf_layout.specs.Refusal.{unless, outside, twice, missing, above, limits_refusal, unit_refusal, units_refusal, first_repeated, stages_refusal, classes_refusal, filled_refusal, siding_refusal, sidings_refusal, missing_refusal, needed_classes, turn_refusal, control_refusal, turns_in, siding_for, memory_launch_in, refusal}
 use Rattle.cf_layout.proofs.Counts.{same_true, same_self, times_cons, times_append, is_unit_times, is_sided_times}
 use Rattle.cf_layout.proofs.Acceptance.{acceptable}
 use Rattle.cf_layout.proofs.Unrefused.{not_refused}
@@ -72,7 +73,7 @@ Says parts None = Unit {0}
 Says parts (Some e) = IsLayoutCause parts e
 
 -- where the refusals of two tests are true, so is the first of them
-says_first : (parts : Parts) (a b : Option LayoutErr) → Says parts a → Says parts b → Says parts (or_else a b)
+says_first : (parts : Parts) (a b : Option LayoutErr) → Says parts a → Says parts b → Says parts (option_or a b)
 unfolding Says
 says_first parts None b s t = t
 says_first parts (Some e) b s t = s

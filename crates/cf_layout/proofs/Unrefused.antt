@@ -5,6 +5,7 @@ use Rattle.std.proofs.lemmas.List.Elements.{All-tail, All-from_recursion}
 use Rattle.std.proofs.lemmas.Int.{ints}
 use Rattle.std.proofs.lemmas.Bool.Decides.{nat_tests}
 use Rattle.std.proofs.Math.Bool.{or-false}
+use Rattle.std.specs.Option.{option_or}
 use Rattle.rv_inst.specs.declared.classes.Class.{Class}
 use Rattle.rv_inst.specs.declared.classes.Class.TheVariants.{Add, Logic, Shift, Compare, Branch, Jump, Memory}
 use Rattle.cf_layout.specs.declared.parts.Siding as asked
@@ -13,7 +14,7 @@ use Rattle.cf_layout.specs.declared.refusal.LayoutErr.{LayoutErr}
 use Rattle.cf_layout.specs.Layout.{same_class}
 use Rattle.cf_layout.specs.Asked.{natural, is_within, names, is_unit, is_sided, is_asked, listed, ascending}
 use Rattle.cf_layout.specs.Acceptable.{IsUnit, IsSiding, IsAcceptable, times, sided_classes}
-use Rattle.cf_layout.specs.Refusal.{unless, or_else, outside, twice, missing, above, limits_refusal, unit_refusal, units_refusal, first_repeated, stages_refusal, classes_refusal, filled_refusal, siding_refusal, sidings_refusal, missing_refusal, needed_classes, turn_refusal, control_refusal, turns_in, siding_for, memory_launch_in, refusal}
+use Rattle.cf_layout.specs.Refusal.{unless, outside, twice, missing, above, limits_refusal, unit_refusal, units_refusal, first_repeated, stages_refusal, classes_refusal, filled_refusal, siding_refusal, sidings_refusal, missing_refusal, needed_classes, turn_refusal, control_refusal, turns_in, siding_for, memory_launch_in, refusal}
 use Rattle.cf_layout.proofs.Counts.{same_true, same_self, times_cons, times_append, is_unit_times}
 use Rattle.cf_layout.proofs.Passing.{unit_more, sided_more, seen_more}
 
@@ -22,7 +23,7 @@ passes : (b : Bool) (e : LayoutErr) → b ≡ true → unless b e ≡ None
 passes b e t = rw t refl
 
 -- two tests that refuse nothing refuse nothing together
-both : (a b : Option LayoutErr) → a ≡ None → b ≡ None → or_else a b ≡ None
+both : (a b : Option LayoutErr) → a ≡ None → b ≡ None → option_or a b ≡ None
 both a b e f = rw e f
 
 -- no element is found where each fails the test

@@ -1,5 +1,6 @@
 -- Why a layout is refused: the first test that fails, in the order in which the tests stand here.
 use Rattle.std.specs.Prelude.{ℕ, min, ℤ, List, [], ◌∷◌, ◌++◌, length, find, nat_le, nat_lt, int_lt, Bool, not, ◌||◌, ◌&&◌, if◌then◌else◌, Option, Some, None, Result, Ok, Err}
+use Rattle.std.specs.Option.{option_or}
 use Rattle.rv_inst.specs.declared.classes.Class.{Class}
 use Rattle.rv_inst.specs.declared.classes.Class.TheVariants.{Add, Logic, Shift, Compare, Branch, Jump, Memory, Mul, Div}
 use Rattle.cf_layout.specs.declared.parts.Siding.{Siding}
@@ -13,16 +14,11 @@ use Rattle.cf_layout.specs.Asked.{natural, is_within, names, is_unit, is_sided, 
 abbrev pub unless : Bool → LayoutErr → Option LayoutErr
 unless holds e = if holds then None else Some e
 
--- the first refusal, or else the second
-abbrev pub or_else : Option LayoutErr → Option LayoutErr → Option LayoutErr
-or_else None next = next
-or_else (Some e) next = Some e
-
 -- 2 to 32 stages, 2 to 64 entries in the lane, at most 8 sidings
 unfoldable pub limits_refusal : Parts → Option LayoutErr
 limits_refusal parts =
-    or_else (unless (is_within 2 32 parts.stages) (StagesOutOfRange parts.stages))
-    (or_else (unless (is_within 2 64 parts.lane) (LaneOutOfRange parts.lane))
+    option_or (unless (is_within 2 32 parts.stages) (StagesOutOfRange parts.stages))
+    (option_or (unless (is_within 2 64 parts.lane) (LaneOutOfRange parts.lane))
     (unless (nat_le (length parts.sidings) 8) (TooManySidings (min (length parts.sidings) 4294967295))))
 
 -- the class's first stage that the pipeline does not have
@@ -38,15 +34,15 @@ twice (Some c) = Some (ClassTwice c)
 -- a unit, in a pipeline of n stages and after the units `before`
 unfoldable pub unit_refusal : ℕ → List (Class × List ℤ) → Class × List ℤ → Option LayoutErr
 unit_refusal n before unit =
-    or_else (unless (not (same_class unit.0 Memory)) MemoryNotSiding)
-    (or_else (unless (nat_lt 0 (length unit.1)) (EmptyUnit unit.0))
-    (or_else (outside unit.0 (find (λ stage. not (is_within 1 n stage)) unit.1))
+    option_or (unless (not (same_class unit.0 Memory)) MemoryNotSiding)
+    (option_or (unless (nat_lt 0 (length unit.1)) (EmptyUnit unit.0))
+    (option_or (outside unit.0 (find (λ stage. not (is_within 1 n stage)) unit.1))
     (unless (not (is_unit before unit.0)) (ClassTwice unit.0))))
 
 -- each unit in order
 abbrev pub units_refusal : ℕ → List (Class × List ℤ) → List (Class × List ℤ) → Option LayoutErr
 units_refusal n before [] = None
-units_refusal n before (unit ∷ units) = or_else (unit_refusal n before unit) (units_refusal n (before ++ unit ∷ []) units)
+units_refusal n before (unit ∷ units) = option_or (unit_refusal n before unit) (units_refusal n (before ++ unit ∷ []) units)
 
 -- the first of the classes that is listed earlier among them, or elsewhere
 abbrev pub first_repeated : (Class → Bool) → List Class → List Class → Option Class
@@ -56,21 +52,21 @@ first_repeated elsewhere before (c ∷ cs) = if elsewhere c || names before c th
 -- the cells and the stages of a siding whose first class this is
 unfoldable pub stages_refusal : ℕ → Siding → Class → Option LayoutErr
 stages_refusal n siding first =
-    or_else (unless (is_within 1 8 siding.cells) (CellsOutOfRange siding.cells))
-    (or_else (unless (is_within 1 n siding.launch) (StageOutOfRange first siding.launch))
-    (or_else (unless (is_within 1 n siding.recover) (StageOutOfRange first siding.recover))
+    option_or (unless (is_within 1 8 siding.cells) (CellsOutOfRange siding.cells))
+    (option_or (unless (is_within 1 n siding.launch) (StageOutOfRange first siding.launch))
+    (option_or (unless (is_within 1 n siding.recover) (StageOutOfRange first siding.recover))
     (unless (int_lt siding.launch siding.recover) (SidingOrder siding.launch siding.recover))))
 
 -- the classes of a siding, given those that are listed elsewhere; Memory shares its siding with no other class
 unfoldable pub classes_refusal : (Class → Bool) → List Class → Option LayoutErr
 classes_refusal elsewhere classes =
-    or_else (twice (first_repeated elsewhere [] classes))
+    option_or (twice (first_repeated elsewhere [] classes))
     (unless (not (names classes Memory && nat_lt 1 (length classes))) MemorySharesSiding)
 
 -- a siding, given which classes are listed elsewhere
 abbrev pub filled_refusal : ℕ → (Class → Bool) → ℕ → Siding → List Class → Option LayoutErr
 filled_refusal n elsewhere index siding [] = Some (EmptySiding index)
-filled_refusal n elsewhere index siding (first ∷ rest) = or_else (stages_refusal n siding first) (classes_refusal elsewhere (first ∷ rest))
+filled_refusal n elsewhere index siding (first ∷ rest) = option_or (stages_refusal n siding first) (classes_refusal elsewhere (first ∷ rest))
 
 -- a siding, after the units and the sidings `before`
 unfoldable pub siding_refusal : ℕ → List (Class × List ℤ) → List Siding → Siding → Option LayoutErr
@@ -79,7 +75,7 @@ siding_refusal n units before siding = filled_refusal n (λ c. is_unit units c |
 -- each siding in order
 abbrev pub sidings_refusal : ℕ → List (Class × List ℤ) → List Siding → List Siding → Option LayoutErr
 sidings_refusal n units before [] = None
-sidings_refusal n units before (siding ∷ sidings) = or_else (siding_refusal n units before siding) (sidings_refusal n units (before ++ siding ∷ []) sidings)
+sidings_refusal n units before (siding ∷ sidings) = option_or (siding_refusal n units before siding) (sidings_refusal n units (before ++ siding ∷ []) sidings)
 
 -- the classes that every processor computes, in class order
 abbrev pub needed_classes : List Class
@@ -93,8 +89,8 @@ missing (Some c) = Some (MissingUnit c)
 -- each class that every processor computes is there; of multiplication and division both or neither
 unfoldable pub missing_refusal : Parts → Option LayoutErr
 missing_refusal parts =
-    or_else (missing (find (λ c. not (is_asked parts c)) needed_classes))
-    (or_else (unless (is_asked parts Mul || not (is_asked parts Div)) (MissingUnit Mul))
+    option_or (missing (find (λ c. not (is_asked parts c)) needed_classes))
+    (option_or (unless (is_asked parts Mul || not (is_asked parts Div)) (MissingUnit Mul))
     (unless (is_asked parts Div || not (is_asked parts Mul)) (MissingUnit Div)))
 
 -- the siding that is asked for the class: the first that names it
@@ -126,15 +122,15 @@ turn_refusal parts c = above c (memory_launch_in parts.sidings) (find (nat_lt (m
 
 -- for branches, then for jumps
 unfoldable pub control_refusal : Parts → Option LayoutErr
-control_refusal parts = or_else (turn_refusal parts Branch) (turn_refusal parts Jump)
+control_refusal parts = option_or (turn_refusal parts Branch) (turn_refusal parts Jump)
 
 -- the first test that the parts fail
 unfoldable pub refusal : Parts → Option LayoutErr
 refusal parts =
-    or_else (limits_refusal parts)
-    (or_else (units_refusal (natural parts.stages) [] parts.units)
-    (or_else (sidings_refusal (natural parts.stages) parts.units [] parts.sidings)
-    (or_else (missing_refusal parts)
+    option_or (limits_refusal parts)
+    (option_or (units_refusal (natural parts.stages) [] parts.units)
+    (option_or (sidings_refusal (natural parts.stages) parts.units [] parts.sidings)
+    (option_or (missing_refusal parts)
     (control_refusal parts))))
 
 -- what a test answers

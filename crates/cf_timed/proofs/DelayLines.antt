@@ -7,7 +7,8 @@ use Rattle.rv_text.specs.Lines.{text_lines}
 use Rattle.rv_text.proofs.LineCuts.{no_lines}
 use Rattle.run_scripts.specs.declared.delay_refusal.DelayErr.{DelayErr}
 use Rattle.cf_timed.specs.Delays.{AreDelays, IsDelay}
-use Rattle.cf_timed.specs.DelayLines.{and_then, delays_in, filled, lines_told, unnamed}
+use Rattle.texts.specs.Answers.{and_then}
+use Rattle.cf_timed.specs.DelayLines.{delays_in, filled, lines_told, unnamed}
 
 -- at the end of the text
 pub told_at_end : (text rest : List ℕ) (above : ℕ) (named : List (Option ℕ)) → length rest ≡ 0 → lines_told above named (text_lines rest) ≡ lines_told 0 unnamed (text_lines text) → Ok (filled named) ≡ delays_in text

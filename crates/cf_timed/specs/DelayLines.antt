@@ -1,25 +1,16 @@
 -- What a text of delays gives (a format of this project): one kind of move and its delay a line, apart from comments and lines without words.
 use Rattle.std.specs.Prelude.{ℕ, ◌+◌, Bool, Option, Some, None, Result, Ok, Err, List, [], ◌∷◌, length, map, drop, replicate, slice_get, slice_set, unwrap_or, ◌&&◌, nat_le, nat_lt, if◌then◌else◌}
+use Rattle.texts.specs.Answers.{and_then, needed}
 use Rattle.rv_text.specs.Lines.{text_lines}
 use Rattle.rv_text.specs.Numbers.{numeral}
 use Rattle.run_scripts.specs.Kinds.{place_named}
-use Rattle.run_scripts.specs.MoveLines.{is_ascii}
+use Rattle.texts.specs.Bytes.{is_ascii}
 use Rattle.run_scripts.specs.Scripts.{is_skipped}
 use Rattle.run_scripts.specs.Words.{words_of, first_word}
 use Rattle.cf_semantics.specs.state.Options.{on, is_some}
 use Rattle.run_scripts.specs.declared.delay_refusal.DelayErr.{DelayErr}
 use Rattle.run_scripts.specs.declared.delay_refusal.DelayKind.{DelayKind}
 use Rattle.run_scripts.specs.declared.delay_refusal.DelayKind.TheVariants.{NotAscii, UnknownKind, KindTwice, BadDelay, ExtraWords}
-
--- the first refusal, or what the second step makes of the first one's answer
-abbrev pub and_then : {A B E : Type 0} → Result A E → (A → Result B E) → Result B E
-and_then (Ok a) step = step a
-and_then (Err e) step = Err e
-
--- what must be there
-abbrev pub needed : {A : Type 0} → DelayKind → Option A → Result A DelayKind
-needed e (Some a) = Ok a
-needed e None = Err e
 
 -- the delay that a word spells: one to four decimal digits, from 1 to 1000
 unfoldable pub delay_word : List ℕ → Option ℕ

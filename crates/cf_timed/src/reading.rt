@@ -6,7 +6,8 @@ ghost use Rattle.cf_timed.specs.DelayLines.{delay_word, delays_in, filled, line_
 ghost use Rattle.cf_timed.specs.Limits.{most_delays};
 
 use crate::delays::Delays;
-use run_scripts::{DelayErr, DelayKind, Words, is_ascii, is_skipped, place_named};
+use run_scripts::{DelayErr, DelayKind, Words, is_skipped, place_named};
+use texts::is_ascii;
 use rv_text::{cut_line, numeral};
 
 /// The delay that a word spells, if it spells one.

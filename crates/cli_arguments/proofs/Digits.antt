@@ -7,7 +7,8 @@ use Rattle.std.specs.List.{list_all}
 use Rattle.std.specs.Result.{OkIff}
 use Rattle.std.specs.Char.{digit_value}
 use Rattle.std.specs.Str.Parse.{AllDigits, IsNumeral, digits_value, without_leading_plus, ParsesUnsigned}
-use Rattle.cli_arguments.specs.Values.{is_digit, is_numeral}
+use Rattle.texts.specs.Bytes.{is_digit}
+use Rattle.cli_arguments.specs.Values.{is_numeral}
 
 -- a byte from `0` to `9` is a digit
 digit-small : (byte : ℕ) → is_digit byte ≡ true → digit_value byte < 10

@@ -2,16 +2,13 @@
 use Rattle.std.specs.Prelude.{ℕ, List, [], ◌∷◌, codes, length, nat_eq, nat_le, Bool, false, not, ◌&&◌, Option, Some, None, if◌then◌else◌}
 use Rattle.std.specs.List.{starts_with, list_all}
 use Rattle.std.specs.Str.Parse.{digits_value}
+use Rattle.texts.specs.Bytes.{is_digit}
 use Rattle.run_options.specs.Limits.{most_statements}
 
 -- a word that may name a file: it is not empty and does not begin as an option does
 abbrev pub is_file_name : List ℕ → Bool
 is_file_name [] = false
 is_file_name (byte ∷ bytes) = not (starts_with nat_eq (byte ∷ bytes) (codes "--"))
-
--- a byte from `0` to `9`
-abbrev pub is_digit : ℕ → Bool
-is_digit byte = nat_le 48 byte && nat_le byte 57
 
 -- 1 to 10 decimal digits, the first of which may be zeros
 abbrev pub is_numeral : List ℕ → Bool

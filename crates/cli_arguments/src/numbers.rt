@@ -3,7 +3,8 @@
 
 ghost use Rattle.std.specs.Prelude.{◌≡◌, ◌≤◌, IfSome};
 ghost use Rattle.std.specs.List.{list_all};
-ghost use Rattle.cli_arguments.specs.Values.{is_digit, is_numeral as is_number_word, count_in};
+ghost use Rattle.texts.specs.Bytes.{is_digit};
+ghost use Rattle.cli_arguments.specs.Values.{is_numeral as is_number_word, count_in};
 ghost use Rattle.cli_arguments.specs.ArgumentReading.{number_in};
 
 /// The longest number: ten decimal digits.

@@ -5,7 +5,7 @@ use Rattle.mem_regions.specs.declared.Part.{Part}
 use Rattle.mem_regions.specs.declared.refusal.LoadErr.{LoadErr}
 use Rattle.mem_regions.specs.declared.refusal.LoadErr.TheVariants.{Overlap, TooMany, TooLarge, WrapsAround, NoMemory}
 use Rattle.mem_regions.specs.Causes.{AreAccepted, IsLoadCause}
-use Rattle.mem_regions.specs.Refusal.{refusal, unless}
+use Rattle.mem_regions.specs.Refusal.{refusal, load_answer}
 use Rattle.mem_regions.proofs.Causes.{refused-cause}
 use Rattle.mem_regions.proofs.Parts.{refusal_is_told}
 use Rattle.cli_files.specs.Image.{IsProgramFile, IsRefused, elf_parts, flat_part, stack_part}
@@ -22,7 +22,7 @@ not_both parts (TooMany n) a is c = omega (arith, c.0, a.few)
 not_both parts (WrapsAround i) a is c = a.in_space i no_part c.within (c.wraps no_part)
 not_both parts (TooLarge n) a is c = omega (arith, c.0, a.small)
 not_both parts (Overlap i j) a is c = a.apart i j c.before c.within no_part no_part (c.share no_part no_part)
-not_both parts NoMemory a is c = cc (is, refusal_is_told parts NoMemory (sym (ap unless is)))
+not_both parts NoMemory a is c = cc (is, refusal_is_told parts NoMemory (sym (ap load_answer is)))
 
 pub never-refused : (image : List ℕ) (error : ProgramErr) → IsRefused image error → IsProgramFile image → ⊥
 never-refused image TooLong long p = omega (arith, long, p.fits)
@@ -31,4 +31,4 @@ never-refused image (Load e) (fits, elf, formed, refused) p =
     let parts : List Part = elf_parts image in
     let accepted : AreAccepted parts =
     subst (λ (b : Bool). AreAccepted (if b then parts else flat_part (length image) ∷ stack_part ∷ [])) elf p.loads in
-    not_both parts e accepted refused (refused-cause parts e (sym (ap unless refused)))
+    not_both parts e accepted refused (refused-cause parts e (sym (ap load_answer refused)))

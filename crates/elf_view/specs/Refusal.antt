@@ -124,6 +124,6 @@ refusal file =
     first_of (identity_refusal file ∷ target_refusal (file_header file) ∷ table_refusal file ∷ segment_refusal file ∷ bad_symbols file ∷ [])
 
 -- what a test answers
-abbrev pub unless : Option ElfErr → Result (Unit {0}) ElfErr
-unless None = Ok tt
-unless (Some e) = Err e
+abbrev pub view_answer : Option ElfErr → Result (Unit {0}) ElfErr
+view_answer None = Ok tt
+view_answer (Some e) = Err e

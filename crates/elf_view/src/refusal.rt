@@ -5,7 +5,7 @@ ghost use Rattle.std.specs.List.{list_any};
 ghost use Rattle.elf_view.specs.Fields.{places, ends_beyond, FitsIn};
 ghost use Rattle.elf_view.specs.Headers.{file_header, program_headers, section_headers, number_of_sections};
 ghost use Rattle.elf_view.specs.Segments.{is_load, is_interpreter};
-ghost use Rattle.elf_view.specs.Refusal.{no_file_header, not_elf, not_32_little, identity_refusal, not_executable, not_riscv, needs_compressed, needs_float, needs_rve, target_refusal, bad_program_size, bad_section_size, cut_program_header, cut_section_header, table_refusal, needs_interpreter, is_outside, is_larger, outside_file, larger_than_memory, segment_refusal, bad_symbols, refusal, first_of, unless};
+ghost use Rattle.elf_view.specs.Refusal.{no_file_header, not_elf, not_32_little, identity_refusal, not_executable, not_riscv, needs_compressed, needs_float, needs_rve, target_refusal, bad_program_size, bad_section_size, cut_program_header, cut_section_header, table_refusal, needs_interpreter, is_outside, is_larger, outside_file, larger_than_memory, segment_refusal, bad_symbols, refusal, first_of, view_answer};
 
 use crate::entries::Entry;
 use crate::headers::{FileHeader, ProgramHeader, SectionHeader};
@@ -63,7 +63,7 @@ const INTERPRETER: u32 = 3;
 
 #[tactic(auto, unfolding(crate::specs::Refusal::no_file_header, crate::specs::Refusal::not_elf, crate::specs::Refusal::not_32_little, crate::specs::Refusal::identity_refusal))]
 fn check_identity(file: &[u8]) -> Result<(), ElfErr>
-    ensures answer { result ≡ unless (identity_refusal file.now) }
+    ensures answer { result ≡ view_answer (identity_refusal file.now) }
     ensures whole { OnOk result (52 ≤ length file.now) }
 {
     if file.len() < HEADER_SIZE {
@@ -80,7 +80,7 @@ fn check_identity(file: &[u8]) -> Result<(), ElfErr>
 
 #[tactic(auto, unfolding(crate::specs::Refusal::not_executable, crate::specs::Refusal::not_riscv, crate::specs::Refusal::needs_compressed, crate::specs::Refusal::needs_float, crate::specs::Refusal::needs_rve, crate::specs::Refusal::target_refusal))]
 fn check_target(header: &FileHeader) -> Result<(), ElfErr>
-    ensures { result ≡ unless (target_refusal header.now) }
+    ensures { result ≡ view_answer (target_refusal header.now) }
 {
     if header.kind != EXECUTABLE {
         return Err(ElfErr::NotExecutable(header.kind));
@@ -143,7 +143,7 @@ fn first_cut(file: &[u8], at: u32, size: usize, count: u16) -> Option<u64>
 #[tactic(auto, unfolding(crate::specs::Refusal::bad_program_size, crate::specs::Refusal::bad_section_size))]
 fn check_sizes(header: &FileHeader) -> Result<(), ElfErr>
     ensures { result
-        ≡ unless (first_of (bad_program_size header.now ∷ bad_section_size header.now ∷ [])) }
+        ≡ view_answer (first_of (bad_program_size header.now ∷ bad_section_size header.now ∷ [])) }
 {
     if header.program_count != 0 && usize::from(header.program_size) != ProgramHeader::SIZE {
         return Err(ElfErr::BadHeaderSize(header.program_size));
@@ -157,7 +157,7 @@ fn check_sizes(header: &FileHeader) -> Result<(), ElfErr>
 #[tactic(auto, unfolding(crate::specs::Refusal::cut_program_header, crate::specs::Refusal::cut_section_header, crate::specs::Refusal::table_refusal))]
 fn check_tables(file: &[u8], header: &FileHeader) -> Result<(), ElfErr>
     requires { header.now ≡ file_header file.now }
-    ensures answer { result ≡ unless (table_refusal file.now) }
+    ensures answer { result ≡ view_answer (table_refusal file.now) }
     ensures programs { OnOk result
         (FitsIn file.now header.now.program_offset 32 header.now.program_count) }
     ensures sections { OnOk result
@@ -200,7 +200,7 @@ fn has_interpreter(file: &[u8], header: &FileHeader) -> bool
 fn check_interpreter(file: &[u8], header: &FileHeader) -> Result<(), ElfErr>
     requires header { header.now ≡ file_header file.now }
     requires fits { FitsIn file.now header.now.program_offset 32 header.now.program_count }
-    ensures { result ≡ unless (needs_interpreter file.now) }
+    ensures { result ≡ view_answer (needs_interpreter file.now) }
 {
     if has_interpreter(file, header) {
         return Err(ElfErr::NeedsInterpreter);
@@ -236,7 +236,7 @@ fn first_larger(file: &[u8], header: &FileHeader) -> Option<usize>
 fn check_outside(file: &[u8], header: &FileHeader) -> Result<(), ElfErr>
     requires header { header.now ≡ file_header file.now }
     requires fits { FitsIn file.now header.now.program_offset 32 header.now.program_count }
-    ensures { result ≡ unless (outside_file file.now) }
+    ensures { result ≡ view_answer (outside_file file.now) }
 {
     match first_outside(file, header) {
         Some(index) => Err(ElfErr::OutsideFile(index as u32)),
@@ -248,7 +248,7 @@ fn check_outside(file: &[u8], header: &FileHeader) -> Result<(), ElfErr>
 fn check_larger(file: &[u8], header: &FileHeader) -> Result<(), ElfErr>
     requires header { header.now ≡ file_header file.now }
     requires fits { FitsIn file.now header.now.program_offset 32 header.now.program_count }
-    ensures { result ≡ unless (larger_than_memory file.now) }
+    ensures { result ≡ view_answer (larger_than_memory file.now) }
 {
     match first_larger(file, header) {
         Some(index) => Err(ElfErr::FileLargerThanMemory(index as u32)),
@@ -260,7 +260,7 @@ fn check_larger(file: &[u8], header: &FileHeader) -> Result<(), ElfErr>
 fn check_segments(file: &[u8], header: &FileHeader) -> Result<(), ElfErr>
     requires header { header.now ≡ file_header file.now }
     requires fits { FitsIn file.now header.now.program_offset 32 header.now.program_count }
-    ensures { result ≡ unless (segment_refusal file.now) }
+    ensures { result ≡ view_answer (segment_refusal file.now) }
 {
     check_interpreter(file, header)?;
     check_outside(file, header)?;
@@ -271,7 +271,7 @@ fn check_segments(file: &[u8], header: &FileHeader) -> Result<(), ElfErr>
 fn check_symbols(file: &[u8], header: &FileHeader) -> Result<(), ElfErr>
     requires header { header.now ≡ file_header file.now }
     requires fits { FitsIn file.now header.now.section_offset 40 (number_of_sections header.now) }
-    ensures { result ≡ unless (bad_symbols file.now) }
+    ensures { result ≡ view_answer (bad_symbols file.now) }
 {
     let Some(index) = first_symbol_table(file, header) else {
         return Ok(());

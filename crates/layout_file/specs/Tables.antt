@@ -29,11 +29,11 @@ knows (Units second) k = is_some (class_of second k)
 knows Siding k = is_among k siding_keys
 
 -- the keys that a table must have, in byte order
-abbrev pub needed : Form → List (List ℕ)
-needed (Top true) = codes "cache" ∷ codes "format" ∷ codes "lane" ∷ codes "stages" ∷ codes "units" ∷ []
-needed (Top false) = codes "format" ∷ codes "lane" ∷ codes "stages" ∷ codes "units" ∷ []
-needed (Units second) = []
-needed Siding = codes "cells" ∷ codes "classes" ∷ codes "launch" ∷ codes "recover" ∷ []
+abbrev pub needed_keys : Form → List (List ℕ)
+needed_keys (Top true) = codes "cache" ∷ codes "format" ∷ codes "lane" ∷ codes "stages" ∷ codes "units" ∷ []
+needed_keys (Top false) = codes "format" ∷ codes "lane" ∷ codes "stages" ∷ codes "units" ∷ []
+needed_keys (Units second) = []
+needed_keys Siding = codes "cells" ∷ codes "classes" ∷ codes "launch" ∷ codes "recover" ∷ []
 
 -- the value is of a type
 abbrev pub has_shape : Shape → Data → Bool
@@ -96,5 +96,5 @@ unknown_in Siding k = UnknownKey k
 unfoldable pub form_fault : Form → Members → Option FileErr
 form_fault f ms =
     option_or (option_map (unknown_in f) (first_unknown f ms))
-    (option_or (option_map MissingKey (first_absent (needed f) ms))
+    (option_or (option_map MissingKey (first_absent (needed_keys f) ms))
     (option_map WrongType (first_misfit f ms)))

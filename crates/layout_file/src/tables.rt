@@ -5,7 +5,7 @@ ghost use Rattle.std.specs.Option.{option_copied};
 ghost use Rattle.std.specs.BTreeMap.{keys};
 ghost use Rattle.std.specs.List.{list_all, list_any};
 ghost use Rattle.layout_file.specs.Names.{same_text};
-ghost use Rattle.layout_file.specs.Tables.{knows, needed, fits, has_shape, is_list_of, all_have, first_unknown, first_absent, first_misfit, form_fault};
+ghost use Rattle.layout_file.specs.Tables.{knows, needed_keys, fits, has_shape, is_list_of, all_have, first_unknown, first_absent, first_misfit, form_fault};
 ghost use Rattle.layout_file.specs.Answers.{ReportsFault};
 ghost use Rattle.toml.specs.Data.{get_member};
 ghost use Rattle.toml.specs.View.{view, table_view, items_view};
@@ -150,7 +150,7 @@ fn first_missing(
 
 /// The first key in byte order that the table lacks.
 fn missing_key(form: Form, table: &Table) -> Option<&'static str>
-    ensures { option_map (λ k. k.now) result ≡ first_absent (needed form) (table_view table.now) }
+    ensures { option_map (λ k. k.now) result ≡ first_absent (needed_keys form) (table_view table.now) }
 {
     match form {
         Form::Top(second) => {

@@ -5,10 +5,11 @@ use Rattle.std.proofs.lemmas.List.Quantifiers.{position-Some}
 use Rattle.std.proofs.Math.ListN.{get_or-append}
 use Rattle.std.proofs.Math.Seq.{get_or-append_seam}
 use Rattle.std.proofs.lemmas.Bool.Decides.{nat_tests}
+use Rattle.std.specs.Option.{option_or}
 use Rattle.mem_regions.specs.declared.part.Part.{Part}
 use Rattle.mem_regions.specs.declared.refusal.LoadErr.{LoadErr}
 use Rattle.mem_regions.specs.declared.refusal.LoadErr.TheVariants.{Overlap, TooMany, TooLarge, WrapsAround, NoMemory}
-use Rattle.mem_regions.specs.Refusal.{refusal, wraps, wraps_at, overlaps, overlap_or, overlap_from, too_many, first_wrapping, too_large, first_overlap, total_size, or_else, unless}
+use Rattle.mem_regions.specs.Refusal.{refusal, wraps, wraps_at, overlaps, overlap_or, overlap_from, too_many, first_wrapping, too_large, first_overlap, total_size, load_answer}
 use Rattle.mem_regions.proofs.Finding.{passes_none}
 use Rattle.mem_regions.proofs.Parts.{first_passes, next_passes, no_index}
 use Rattle.mem_regions.specs.Causes.{IsAddressOf, Share, Wraps, IsFirstToWrap, ShareAt, ApartAt, IsFirstOverlap, IsLoadCause, AreAccepted}
@@ -161,7 +162,7 @@ Says parts None = Unit
 Says parts (Some e) = IsLoadCause parts e
 
 -- where two tests say the truth, so does the first of them that fails
-says-or_else : (parts : List Part) (a b : Option LoadErr) → Says parts a → Says parts b → Says parts (or_else a b)
+says-or_else : (parts : List Part) (a b : Option LoadErr) → Says parts a → Says parts b → Says parts (option_or a b)
 unfolding Says
 says-or_else parts None b s t = t
 says-or_else parts (Some e) b s t = s
@@ -226,13 +227,13 @@ unfolding refusal too_many first_wrapping too_large
 says-refusal parts = says-or_else parts _ _ (says-too_many parts _ refl) (says-or_else parts _ _ (says-wraps parts _ refl) (says-or_else parts _ _ (says-too_large parts _ refl) (says-overlap parts)))
 
 -- the refusal in an answer is the one that was found
-says_where : (parts : List Part) (o : Option LoadErr) (e : LoadErr) → Says parts o → Err e ≡ unless o → IsLoadCause parts e
+says_where : (parts : List Part) (o : Option LoadErr) (e : LoadErr) → Says parts o → Err e ≡ load_answer o → IsLoadCause parts e
 unfolding Says
 says_where parts None e s h = cc
 says_where parts (Some x) e s h = let same : x ≡ e = cc in subst (λ (y : LoadErr). IsLoadCause parts y) same s
 
 -- an answer that refuses the parts names a true cause
-pub refused-cause : (parts : List Part) (e : LoadErr) → Err e ≡ unless (refusal parts) → IsLoadCause parts e
+pub refused-cause : (parts : List Part) (e : LoadErr) → Err e ≡ load_answer (refusal parts) → IsLoadCause parts e
 refused-cause parts e h = says_where parts (refusal parts) e (says-refusal parts) h
 
 -- where there are not too many there are at most 16

@@ -3,19 +3,20 @@ use Rattle.std.proofs.Common.{◌≡◌, ℕ, ◌+◌, ◌<◌, ◌≤◌, ◌^�
 use Rattle.std.proofs.Math.Seq.{take-suc}
 use Rattle.std.specs.Prelude.{position}
 use Rattle.std.proofs.lemmas.Bool.Decides.{nat_tests}
+use Rattle.std.specs.Option.{option_or}
 use Rattle.mem_regions.proofs.Finding.{passes_none}
 use Rattle.mem_regions.specs.declared.part.Part.{Part}
 use Rattle.mem_regions.specs.declared.refusal.LoadErr.{LoadErr}
 use Rattle.mem_regions.specs.declared.refusal.LoadErr.TheVariants.{Overlap, TooMany, TooLarge}
-use Rattle.mem_regions.specs.Refusal.{refusal, refusal_told, unless, or_else, wraps, wraps_at, overlaps, overlap_or, overlap_from, too_many, first_wrapping, too_large, first_overlap}
+use Rattle.mem_regions.specs.Refusal.{refusal, refusal_told, load_answer, wraps, wraps_at, overlaps, overlap_or, overlap_from, too_many, first_wrapping, too_large, first_overlap}
 
 -- of two tests that both pass, the first passes
-pub first_passes : (a b : Option LoadErr) → or_else a b ≡ None → a ≡ None
+pub first_passes : (a b : Option LoadErr) → option_or a b ≡ None → a ≡ None
 first_passes None b e = refl
 first_passes (Some x) b e = cc
 
 -- and so does the second
-pub next_passes : (a b : Option LoadErr) → or_else a b ≡ None → b ≡ None
+pub next_passes : (a b : Option LoadErr) → option_or a b ≡ None → b ≡ None
 next_passes None b e = e
 next_passes (Some x) b e = cc
 
@@ -38,7 +39,7 @@ pub overlap_step : (parts : List Part) (j : ℕ) (p : Part) → j < length parts
 overlap_step parts j p within = let short : length (take j parts) ≡ j = rw length-take (omega arith) in rw (drop-cons parts j p, add-one, take-suc parts j p, short)
 
 -- where the first overlap of parts up to one is an overlap of that one, it is the first overlap of all
-pub overlap_here : (parts : List Part) (j : ℕ) (p : Part) (i : ℕ) → j < length parts → overlap_from (take j parts) (drop j parts) ≡ overlap_from [] parts → Some i ≡ position (λ b. overlaps b (get_or parts j p)) (take j parts) → Err (Overlap i j) ≡ unless (first_overlap parts)
+pub overlap_here : (parts : List Part) (j : ℕ) (p : Part) (i : ℕ) → j < length parts → overlap_from (take j parts) (drop j parts) ≡ overlap_from [] parts → Some i ≡ position (λ b. overlaps b (get_or parts j p)) (take j parts) → Err (Overlap i j) ≡ load_answer (first_overlap parts)
 unfolding first_overlap
 overlap_here parts j p i within so_far here = rw (← so_far, overlap_step parts j p within, ← here) refl
 
@@ -52,7 +53,7 @@ told_again None = None
 told_again (Some e) = refusal_told e
 
 -- where two refusals are given as they are, so is the first of them
-told-or_else : (a b : Option LoadErr) → told_again a ≡ a → told_again b ≡ b → told_again (or_else a b) ≡ or_else a b
+told-or_else : (a b : Option LoadErr) → told_again a ≡ a → told_again b ≡ b → told_again (option_or a b) ≡ option_or a b
 unfolding told_again
 told-or_else None b e f = f
 told-or_else (Some x) b e f = e
@@ -93,13 +94,13 @@ unfolding refusal too_many first_wrapping too_large first_overlap
 told-refusal parts = told-or_else _ _ (told-too_many _ _) (told-or_else _ _ (told-wraps _) (told-or_else _ _ (told-too_large _ _) (told-overlap [] parts)))
 
 -- the refusal in an answer is the one that was found
-told_where : (o : Option LoadErr) (e : LoadErr) → told_again o ≡ o → Err e ≡ unless o → o ≡ refusal_told e
+told_where : (o : Option LoadErr) (e : LoadErr) → told_again o ≡ o → Err e ≡ load_answer o → o ≡ refusal_told e
 unfolding told_again
 told_where None e f h = cc
 told_where (Some x) e f h = let same : x ≡ e = cc in rw (← same) (sym f)
 
 -- an answer gives the refusal of the parts
-pub refusal_is_told : (parts : List Part) (e : LoadErr) → Err e ≡ unless (refusal parts) → refusal parts ≡ refusal_told e
+pub refusal_is_told : (parts : List Part) (e : LoadErr) → Err e ≡ load_answer (refusal parts) → refusal parts ≡ refusal_told e
 refusal_is_told parts e h = told_where (refusal parts) e (told-refusal parts) h
 
 pub ruleset ends = (ends_within, refusal_is_told)

@@ -1,5 +1,6 @@
 -- Why the parts of a program cannot be loaded: the first test that fails gives the refusal.
 use Rattle.std.specs.Prelude.{ℕ, ◌+◌, ◌-◌, ◌^◌, List, [], ◌∷◌, ◌++◌, length, position, sum_by, Bool, min, max, nat_lt, if◌then◌else◌, Option, Some, None, Result, Ok, Err}
+use Rattle.std.specs.Option.{option_or}
 use Rattle.mem_regions.specs.declared.part.Part.{Part}
 use Rattle.mem_regions.specs.declared.refusal.LoadErr.{LoadErr}
 use Rattle.mem_regions.specs.declared.refusal.LoadErr.TheVariants.{Overlap, TooMany, TooLarge, WrapsAround, NoMemory}
@@ -51,19 +52,14 @@ overlap_from before (p ∷ ps) = overlap_or (position (λ b. overlaps b p) befor
 unfoldable pub first_overlap : List Part → Option LoadErr
 first_overlap parts = overlap_from [] parts
 
--- the first refusal, or else the next
-abbrev pub or_else : Option LoadErr → Option LoadErr → Option LoadErr
-or_else None next = next
-or_else (Some e) next = Some e
-
 -- the first test that the parts fail
 unfoldable pub refusal : List Part → Option LoadErr
-refusal parts = or_else (too_many parts) (or_else (first_wrapping parts) (or_else (too_large parts) (first_overlap parts)))
+refusal parts = option_or (too_many parts) (option_or (first_wrapping parts) (option_or (too_large parts) (first_overlap parts)))
 
 -- what a test answers
-abbrev pub unless : Option LoadErr → Result (Unit {0}) LoadErr
-unless None = Ok tt
-unless (Some e) = Err e
+abbrev pub load_answer : Option LoadErr → Result (Unit {0}) LoadErr
+load_answer None = Ok tt
+load_answer (Some e) = Err e
 
 -- the refusal of the parts that an answer gives: none where it is lack of memory
 abbrev pub refusal_told : LoadErr → Option LoadErr

@@ -1,7 +1,7 @@
 //! The tests that the parts of a program must pass before they are loaded.
 
 ghost use Rattle.std.specs.Prelude.{◌≡◌, ◌<◌, ◌≤◌, IfSome, OnOk, length, position};
-ghost use Rattle.mem_regions.specs.Refusal.{end_of, wraps, overlaps, too_many, first_wrapping, too_large, first_overlap, refusal, unless};
+ghost use Rattle.mem_regions.specs.Refusal.{end_of, wraps, overlaps, too_many, first_wrapping, too_large, first_overlap, refusal, load_answer};
 
 use crate::Part;
 
@@ -52,7 +52,7 @@ impl Part {
 
 #[tactic(auto, unfolding(crate::specs::Refusal::too_many))]
 fn check_count(parts: &[Part]) -> Result<(), LoadErr>
-    ensures answer { result ≡ unless (too_many parts.now) }
+    ensures answer { result ≡ load_answer (too_many parts.now) }
     ensures few { OnOk result (length parts.now ≤ 16) }
 {
     if parts.len() > MOST_PARTS {
@@ -81,7 +81,7 @@ fn first_to_overlap(parts: &[Part], other: &Part) -> Option<usize>
 #[tactic(auto, unfolding(crate::specs::Refusal::first_wrapping))]
 fn check_ends(parts: &[Part]) -> Result<(), LoadErr>
     requires { length parts.now ≤ 16 }
-    ensures { result ≡ unless (first_wrapping parts.now) }
+    ensures { result ≡ load_answer (first_wrapping parts.now) }
 {
     match first_to_wrap(parts) {
         Some(index) => Err(LoadErr::WrapsAround(index as u32)),
@@ -92,7 +92,7 @@ fn check_ends(parts: &[Part]) -> Result<(), LoadErr>
 #[tactic(auto, unfolding(crate::specs::Refusal::too_large))]
 fn check_size(parts: &[Part]) -> Result<(), LoadErr>
     requires { length parts.now ≤ 16 }
-    ensures { result ≡ unless (too_large parts.now) }
+    ensures { result ≡ load_answer (too_large parts.now) }
 {
     let size: u64 = parts.iter().map(|part| u64::from(part.size)).sum();
     if size > MOST_BYTES {
@@ -104,7 +104,7 @@ fn check_size(parts: &[Part]) -> Result<(), LoadErr>
 #[tactic(auto, unfolding(crate::specs::Refusal::first_overlap))]
 fn check_overlaps(parts: &[Part]) -> Result<(), LoadErr>
     requires { length parts.now ≤ 16 }
-    ensures { result ≡ unless (first_overlap parts.now) }
+    ensures { result ≡ load_answer (first_overlap parts.now) }
 {
     for (second, part) in parts.iter().enumerate() {
         if let Some(first) = first_to_overlap(&parts[..second], part) {
@@ -117,7 +117,7 @@ fn check_overlaps(parts: &[Part]) -> Result<(), LoadErr>
 /// Tests the parts, in the order of the definition.
 #[tactic(auto, unfolding(crate::specs::Refusal::refusal))]
 pub(crate) fn check(parts: &[Part]) -> Result<(), LoadErr>
-    ensures { result ≡ unless (refusal parts.now) }
+    ensures { result ≡ load_answer (refusal parts.now) }
 {
     check_count(parts)?;
     check_ends(parts)?;

@@ -8,7 +8,8 @@ use Rattle.texts.specs.Hexadecimal.{hex8}
 use Rattle.cf_bind.specs.MoveTexts.{at_stage as stage_text, move_line}
 use Rattle.run_scripts.specs.Kinds.{kind_named}
 use Rattle.run_scripts.specs.Words.{first_number, first_address}
-use Rattle.run_scripts.specs.MoveLines.{NumbersBelow, and_then, guess_read, at_stage, move_read, words_read, closed, move_in}
+use Rattle.texts.specs.Answers.{and_then}
+use Rattle.run_scripts.specs.MoveLines.{NumbersBelow, guess_read, at_stage, move_read, words_read, closed, move_in}
 use Rattle.run_scripts.proofs.Written.{IsWord, Says, says-word, says-append, decimal-word, decimal-spells, address-word, address-spells}
 
 -- a line is read by its words

@@ -14,7 +14,7 @@ use Rattle.rv_text.specs.Numbers.{numeral}
 use Rattle.texts.specs.Hexadecimal.{hex8}
 use Rattle.rv_text.proofs.Written.{numeral-digits, decimal_read, hex8_digits, hex8_value}
 use Rattle.run_scripts.specs.Words.{is_word, words_of, address_in}
-use Rattle.run_scripts.specs.MoveLines.{is_ascii}
+use Rattle.texts.specs.Bytes.{is_ascii}
 use Rattle.run_scripts.proofs.WordCuts.{words-at}
 
 -- a byte that a word of a line may have: neither a blank nor above 127

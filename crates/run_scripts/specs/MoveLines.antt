@@ -2,6 +2,8 @@
 use Rattle.std.specs.Prelude.{◌≡◌, ◌==◌, ◌<◌, ◌^◌, ℕ, Bool, Option, Some, None, Result, Ok, Err, MatchResult, List, length, drop, codes, nat_lt, if◌then◌else◌}
 use Rattle.std.specs.List.{list_all}
 use Rattle.std.specs.Str.{bytes_eq}
+use Rattle.texts.specs.Bytes.{is_ascii}
+use Rattle.texts.specs.Answers.{and_then}
 use Rattle.cf_bind.specs.declared.passenger.Guess.{Guess}
 use Rattle.cf_bind.specs.declared.passenger.Guess.TheVariants as guess
 use Rattle.cf_bind.specs.declared.moves.Move.{Move}
@@ -12,11 +14,6 @@ use Rattle.run_scripts.specs.declared.kind.Kind.{Kind}
 use Rattle.run_scripts.specs.declared.kind.Kind.TheVariants as kind
 use Rattle.run_scripts.specs.Kinds.{kind_named}
 use Rattle.run_scripts.specs.Words.{words_of, first_word, first_number, first_address}
-
--- the first refusal, or what the second step makes of the first one's answer
-abbrev pub and_then : {A B : Type 0} → Result A ScriptKind → (A → Result B ScriptKind) → Result B ScriptKind
-and_then (Ok a) step = step a
-and_then (Err e) step = Err e
 
 -- a kind that must be there
 abbrev pub named : Option Kind → Result Kind ScriptKind
@@ -70,10 +67,6 @@ kind_read kind.Serve words = read_with Serve words
 -- the move of the kind that some words begin with
 unfoldable pub move_read : List (List ℕ) → Result (Move × List (List ℕ)) ScriptKind
 move_read words = and_then (named (kind_named (first_word words))) (λ k. kind_read k (drop 1 words))
-
--- no byte is above 127
-unfoldable pub is_ascii : List ℕ → Bool
-is_ascii line = list_all (λ byte. nat_lt byte 128) line
 
 -- a move after which no word is left
 abbrev pub closed : Move × List (List ℕ) → Result Move ScriptKind

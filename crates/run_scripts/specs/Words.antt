@@ -1,6 +1,7 @@
 -- The words of a line, and the numbers that they spell (a format of this project).
 use Rattle.std.specs.Prelude.{ℕ, ◌==◌, Bool, true, false, Option, Some, None, Result, Ok, Err, List, [], ◌∷◌, length, if◌then◌else◌}
 use Rattle.std.specs.List.{filter, slice_split}
+use Rattle.texts.specs.Answers.{needed}
 use Rattle.rv_text.specs.Pieces.{is_blank}
 use Rattle.rv_text.specs.Numbers.{numeral}
 use Rattle.run_scripts.specs.declared.refusal.ScriptKind.{ScriptKind}
@@ -20,14 +21,9 @@ abbrev pub first_word : List (List ℕ) → List ℕ
 first_word [] = []
 first_word (word ∷ words) = word
 
--- a number that must be there
-abbrev pub needed : Option ℕ → Result ℕ ScriptKind
-needed (Some n) = Ok n
-needed None = Err BadNumber
-
 -- the number of a stage, a siding or a cell that the first word spells: from one to nine decimal digits
 unfoldable pub first_number : List (List ℕ) → Result ℕ ScriptKind
-first_number words = needed (numeral 10 9 (first_word words))
+first_number words = needed BadNumber (numeral 10 9 (first_word words))
 
 -- the address that a word spells: eight hexadecimal digits of either case
 abbrev pub address_in : List ℕ → Option ℕ
@@ -35,4 +31,4 @@ address_in word = if length word == 8 then numeral 16 8 word else None
 
 -- the address that the first word spells
 unfoldable pub first_address : List (List ℕ) → Result ℕ ScriptKind
-first_address words = needed (address_in (first_word words))
+first_address words = needed BadNumber (address_in (first_word words))

@@ -13,7 +13,7 @@ mod writing;
 
 pub use delay_refusal::{DelayErr, DelayKind};
 pub use kind::{kind_name, place_named};
-pub use reading::{is_ascii, read_move};
+pub use reading::read_move;
 pub use refusal::{ScriptErr, ScriptKind};
 pub use script::{MOST_SCRIPT, Script, is_skipped};
 pub use trace_refusal::TraceKind;

@@ -2,12 +2,13 @@
 #![tactic(auto, unfolding(crate::specs::MoveLines::guess_read, crate::specs::MoveLines::move_read))]
 
 ghost use Rattle.std.specs.Prelude.{◌≡◌};
-ghost use Rattle.run_scripts.specs.MoveLines.{is_ascii, guess_read, kind_read, move_read, words_read, move_in, ReadsWords};
+ghost use Rattle.run_scripts.specs.MoveLines.{guess_read, kind_read, move_read, words_read, move_in, ReadsWords};
 
 use crate::kind::Kind;
 use crate::refusal::ScriptKind;
 use crate::words::Words;
 use cf_bind::{Guess, Move};
+use texts::is_ascii;
 
 /// The guess that the next words give.
 fn read_guess(words: &mut Words<'_>) -> Result<Guess, ScriptKind>
@@ -55,14 +56,6 @@ fn read_next(words: &mut Words<'_>) -> Result<Move, ScriptKind>
 {
     let kind = Kind::named(words.next()).ok_or(ScriptKind::UnknownMove)?;
     read_kind(kind, words)
-}
-
-/// Whether no byte of the line is above 127.
-#[tactic(auto, unfolding(crate::specs::MoveLines::is_ascii))]
-pub fn is_ascii(line: &[u8]) -> bool
-    ensures { result ≡ is_ascii line.now }
-{
-    line.iter().all(|byte| *byte < 128)
 }
 
 /// The move that all of the words give.

@@ -14,7 +14,7 @@ use Rattle.rv_asm.specs.declared.refusal.AsmKind.TheVariants.{LabelTwice}
 use Rattle.rv_asm.specs.declared.place.SectionPlace.{SectionPlace}
 use Rattle.rv_asm.specs.declared.draft.Draft.{Draft}
 use Rattle.rv_asm.specs.declared.object.Object.{Object}
-use Rattle.rv_asm.specs.Answers.{and_then}
+use Rattle.texts.specs.Answers.{and_then}
 use Rattle.rv_text.specs.Lines.{is_line_feed, without_return, lines_from, lines_of_pieces, text_lines}
 use Rattle.rv_asm.specs.Scanning.{is_name_start, is_name_byte, begins_name, name_length, comment_at, said, has_label, label_in, statement_in}
 use Rattle.rv_asm.specs.declared.scanning.Quote.TheVariants.{Outside}

@@ -2,7 +2,7 @@
 use Rattle.std.proofs.Common.{◌≡◌, ℕ, refl}
 use Rattle.std.specs.Prelude.{Result, Ok, Err}
 use Rattle.rv_asm.specs.declared.refusal.AsmKind.{AsmKind}
-use Rattle.rv_asm.specs.Answers.{and_then}
+use Rattle.texts.specs.Answers.{and_then}
 use Rattle.rv_asm.specs.Assembling.{at_line}
 
 -- the first step's answer, from which the second step makes the last

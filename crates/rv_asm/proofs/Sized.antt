@@ -14,7 +14,7 @@ use Rattle.rv_asm.specs.declared.operations.Width.TheVariants as width
 use Rattle.rv_asm.specs.declared.place.SectionPlace.{SectionPlace}
 use Rattle.rv_asm.specs.declared.item.Far.{Far}
 use Rattle.rv_asm.specs.declared.item.Far.TheVariants as far
-use Rattle.rv_asm.specs.Answers.{and_then}
+use Rattle.texts.specs.Answers.{and_then}
 use Rattle.rv_asm.specs.Operands.{bytes_of_width}
 use Rattle.rv_asm.specs.Scanning.{said, statement_in}
 use Rattle.rv_asm.specs.Items.{SourceItem, Nothing, Section, Export, Single, Double, Near, Distant, Numbers, Chars, Zeros, size_of, is_code}

@@ -20,7 +20,8 @@ use Rattle.rv_text.specs.Pieces.{operand_at, operand_count, trimmed}
 use Rattle.rv_text.specs.Numbers.{number_of, numeral}
 use Rattle.rv_text.specs.Registers.{register_of, register_only, register_numbered, register_padded, usual_names}
 use Rattle.rv_text.specs.Tables.{look_up}
-use Rattle.rv_text.specs.Fields.{and_then, required, within, register_in, number_in, immediate_in, field_below, immediate_of, offset_in, base_in, enclosed, is_open}
+use Rattle.texts.specs.Answers.{and_then, needed}
+use Rattle.rv_text.specs.Fields.{within, register_in, number_in, immediate_in, field_below, immediate_of, offset_in, base_in, enclosed, is_open}
 use Rattle.rv_text.specs.LineReading.{LineReading, WholeOf, AimedAt, whole, upper_form, address_form, immediate_form, register_form, set_form, fence_form, jump_form, branch_form, operands_read, takes, wanted, counted, statement_by}
 use Rattle.rv_text.proofs.Spellings.{FindsRegister, usual_names-find}
 use Rattle.rv_asm.specs.Seen.{JumpFits}
@@ -61,13 +62,13 @@ register_of-finds word =
     either (starts_with nat_eq word (codes "x")) (register_padded (drop 1 word)) (look_up usual_names word)
     (padded-finds (drop 1 word)) (usual_names-find word)
 
-required-finds : (found : Option ℕ) → FindsRegister found → IfOk (required BadRegister found) (λ r. IsRegister r)
-required-finds None h = tt
-required-finds (Some r) h = h
+needed-finds : (found : Option ℕ) → FindsRegister found → IfOk (needed BadRegister found) (λ r. IsRegister r)
+needed-finds None h = tt
+needed-finds (Some r) h = h
 
 register_in-fits : (text : List ℕ) → IfOk (register_in text) (λ r. IsRegister r)
 unfolding register_in
-register_in-fits text = required-finds (register_of text) (register_of-finds text)
+register_in-fits text = needed-finds (register_of text) (register_of-finds text)
 
 abbrev Between : ℤ → ℤ → ℤ → Type 0
 Between least greatest z = (least ≤ℤ z) × (z ≤ℤ greatest)
@@ -84,7 +85,7 @@ within-fits least greatest z =
 number_in-fits : (least greatest : ℤ) (text : List ℕ) → IfOk (number_in least greatest text) (λ z. Between least greatest z)
 unfolding number_in
 number_in-fits least greatest text =
-    ok_then (λ z. Unit {0}) (λ z. Between least greatest z) (required BadNumber (number_of text)) (within least greatest) (any (required BadNumber (number_of text))) (λ z u. within-fits least greatest z)
+    ok_then (λ z. Unit {0}) (λ z. Between least greatest z) (needed BadNumber (number_of text)) (within least greatest) (any (needed BadNumber (number_of text))) (λ z u. within-fits least greatest z)
 
 weaker : {A : Type 0} (P Q : A → Type 0) (x : Result A TextErr) → IfOk x P → ((a : A) → P a → Q a) → IfOk x Q
 weaker P Q (Ok a) h k = k a h
@@ -120,8 +121,8 @@ offset_in-fits text = immediate_in-fits (trimmed (before_first is_open text))
 base_in-fits : (text : List ℕ) → IfOk (base_in text) (λ r. IsRegister r)
 unfolding base_in
 base_in-fits text =
-    ok_then (λ u. Unit {0}) (λ r. IsRegister r) (required BadRegister (enclosed (drop (position_or_len is_open text) text))) (λ inner. register_in (trimmed inner))
-    (any (required BadRegister (enclosed (drop (position_or_len is_open text) text)))) (λ inner u. register_in-fits (trimmed inner))
+    ok_then (λ u. Unit {0}) (λ r. IsRegister r) (needed BadRegister (enclosed (drop (position_or_len is_open text) text))) (λ inner. register_in (trimmed inner))
+    (any (needed BadRegister (enclosed (drop (position_or_len is_open text) text)))) (λ inner u. register_in-fits (trimmed inner))
 
 -- the fields of what is read are in range
 abbrev pub ReadingFits : LineReading → Type 0

@@ -1,12 +1,13 @@
 -- The program that a source stands for, or the first refusal: the source's length, bytes that are not ASCII, what a line says by itself, and what it says with all labels known.
 use Rattle.std.specs.Prelude.{ℕ, ◌+◌, Bool, false, nat_lt, Option, Some, None, Result, Ok, Err, List, [], ◌∷◌, ◌++◌, length, is_some, if◌then◌else◌}
 use Rattle.std.specs.List.{list_all}
+use Rattle.texts.specs.Bytes.{is_ascii}
 use Rattle.rv_asm.specs.declared.refusal.AsmKind.{AsmKind}
 use Rattle.rv_asm.specs.declared.refusal.AsmKind.TheVariants.{LabelTwice, TooLarge, NotAscii}
 use Rattle.rv_asm.specs.declared.refusal.AsmErr.{AsmErr}
 use Rattle.rv_asm.specs.declared.place.SectionPlace.{SectionPlace}
 use Rattle.rv_asm.specs.declared.draft.Draft.{Draft}
-use Rattle.rv_asm.specs.Answers.{and_then}
+use Rattle.texts.specs.Answers.{and_then}
 use Rattle.rv_text.specs.Lines.{text_lines}
 use Rattle.rv_asm.specs.Scanning.{said, label_in, statement_in}
 use Rattle.rv_asm.specs.Items.{SourceItem, Export}
@@ -18,10 +19,6 @@ use Rattle.rv_asm.specs.Pieces.{Piece, pieces_of}
 abbrev pub at_line : {A : Type 0} → ℕ → Result A AsmKind → Result A AsmErr
 at_line line (Ok a) = Ok a
 at_line line (Err kind) = Err (record { line = line; kind = kind })
-
--- no byte is above 127
-unfoldable pub is_ascii : List ℕ → Bool
-is_ascii line = list_all (λ byte. nat_lt byte 128) line
 
 -- the first line that is not ASCII is refused
 abbrev pub are_ascii : ℕ → List (List ℕ) → Result (Unit {0}) AsmErr

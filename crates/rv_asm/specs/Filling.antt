@@ -4,7 +4,7 @@ use Rattle.rv_asm.specs.declared.refusal.AsmKind.{AsmKind}
 use Rattle.rv_asm.specs.declared.refusal.AsmErr.{AsmErr}
 use Rattle.rv_asm.specs.declared.place.SectionPlace.{SectionPlace}
 use Rattle.rv_asm.specs.declared.sections.Output.{Output}
-use Rattle.rv_asm.specs.Answers.{and_then}
+use Rattle.texts.specs.Answers.{and_then}
 use Rattle.rv_asm.specs.Scanning.{statement_in}
 use Rattle.rv_asm.specs.Items.{SourceItem}
 use Rattle.rv_asm.specs.Places.{address_of, place_after, item_at}

@@ -7,7 +7,7 @@ use Rattle.rv_text.specs.Fields.{number_in}
 use Rattle.rv_text.specs.LineReading.{counted}
 use Rattle.rv_asm.specs.declared.operations.Width.{Width}
 use Rattle.rv_asm.specs.declared.operations.Width.TheVariants.{Byte, Half, Word}
-use Rattle.rv_asm.specs.Answers.{and_then}
+use Rattle.texts.specs.Answers.{and_then}
 use Rattle.rv_asm.specs.Scanning.{begins_name}
 
 -- a text has this many operands

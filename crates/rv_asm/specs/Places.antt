@@ -3,7 +3,7 @@ use Rattle.std.specs.Prelude.{ℕ, ◌≤◌, ◌+◌, ◌%◌, ◌==◌, ◌&&�
 use Rattle.rv_asm.specs.declared.refusal.AsmKind.{AsmKind}
 use Rattle.rv_asm.specs.declared.refusal.AsmKind.TheVariants.{Misplaced, TooLarge}
 use Rattle.rv_asm.specs.declared.place.SectionPlace.{SectionPlace}
-use Rattle.rv_asm.specs.Answers.{and_then}
+use Rattle.texts.specs.Answers.{and_then}
 use Rattle.rv_asm.specs.Items.{SourceItem, Section, size_of, is_code}
 use Rattle.rv_asm.specs.Reading.{statement_read}
 

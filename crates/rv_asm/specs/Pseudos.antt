@@ -20,7 +20,7 @@ use Rattle.rv_asm.specs.declared.item.Far.{Far}
 use Rattle.rv_asm.specs.declared.item.Far.TheVariants as far
 use Rattle.rv_asm.specs.declared.operations.Pseudo.{Pseudo}
 use Rattle.rv_asm.specs.declared.operations.Pseudo.TheVariants as pseudo
-use Rattle.rv_asm.specs.Answers.{and_then, needed}
+use Rattle.texts.specs.Answers.{and_then, needed}
 use Rattle.rv_asm.specs.Scanning.{begins_name}
 use Rattle.rv_asm.specs.Operands.{count_is}
 use Rattle.rv_asm.specs.Items.{SourceItem, Single, Double, Near, Distant}

@@ -15,7 +15,8 @@ use Rattle.rv_asm.specs.declared.operations.Width.{Width}
 use Rattle.rv_asm.specs.declared.operations.Directive.{Directive}
 use Rattle.rv_asm.specs.declared.operations.Directive.TheVariants as directive
 use Rattle.rv_asm.specs.declared.operations.Pseudo.{Pseudo}
-use Rattle.rv_asm.specs.Answers.{and_then, needed, as_text}
+use Rattle.texts.specs.Answers.{and_then, needed}
+use Rattle.rv_asm.specs.Answers.{as_text}
 use Rattle.rv_asm.specs.Scanning.{is_name}
 use Rattle.rv_asm.specs.Strings.{string_of}
 use Rattle.rv_asm.specs.Operands.{count_is, operands_of, are_placeable}

@@ -1,15 +1,13 @@
 -- What stands in a line of assembly: a label, a statement, and a comment (GNU as, "Statements", "Comments" and "Symbol Names").
 use Rattle.std.specs.Prelude.{ℕ, ◌+◌, ◌==◌, ◌&&◌, ◌||◌, Bool, true, false, Option, Some, None, List, [], ◌∷◌, length, take, drop, codes, nat_eq, nat_le, if◌then◌else◌}
 use Rattle.std.specs.List.{starts_with, prefix_len}
+use Rattle.texts.specs.Bytes.{is_digit}
 use Rattle.rv_text.specs.Pieces.{trimmed}
 use Rattle.rv_asm.specs.declared.scanning.Quote.{Quote}
 use Rattle.rv_asm.specs.declared.scanning.Quote.TheVariants.{Outside, Inside, Escaped}
 
 abbrev pub is_letter : ℕ → Bool
 is_letter byte = nat_le 65 byte && nat_le byte 90 || nat_le 97 byte && nat_le byte 122
-
-abbrev pub is_digit : ℕ → Bool
-is_digit byte = nat_le 48 byte && nat_le byte 57
 
 -- a name begins with a letter, `_`, `.` or `$`
 unfoldable pub is_name_start : ℕ → Bool

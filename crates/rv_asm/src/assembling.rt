@@ -3,7 +3,7 @@
 ghost use Rattle.std.specs.Prelude.{◌≡◌, ◌≤◌, length, IfOk, IfErr};
 ghost use Rattle.rv_text.specs.Lines.{text_lines};
 ghost use Rattle.rv_asm.specs.Labels.{entry_of};
-ghost use Rattle.rv_asm.specs.Assembling.{is_ascii, are_ascii, sections_of, assembled};
+ghost use Rattle.rv_asm.specs.Assembling.{are_ascii, sections_of, assembled};
 ghost use Rattle.rv_asm.specs.Objects.{Objects, RefusesSource};
 ghost use Rattle.rv_asm.specs.Small.{IsSmallObject};
 
@@ -15,13 +15,7 @@ use crate::refusal::{AsmErr, AsmKind};
 use crate::sections::second_look;
 use rv_text::cut_line;
 use std::alloc::Global;
-
-#[tactic(auto, unfolding(crate::specs::Assembling::is_ascii))]
-fn is_ascii(line: &[u8]) -> bool
-    ensures { result ≡ is_ascii line.now }
-{
-    line.iter().all(|byte| *byte < 128)
-}
+use texts::is_ascii;
 
 /// `NotAscii` for the first line that has a byte above 127.
 fn check_ascii(source: &[u8]) -> Result<(), AsmErr>

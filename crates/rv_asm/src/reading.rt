@@ -3,7 +3,8 @@
 
 ghost use Rattle.std.specs.Prelude.{◌≡◌, ◌≤◌, ◌<◌, ◌^◌, pos, ◌≤ℤ◌, Ok, Err, IfOk, length};
 ghost use Rattle.std.specs.Int.RustNames.{unsigned_abs};
-ghost use Rattle.rv_asm.specs.Answers.{and_then, as_text};
+ghost use Rattle.texts.specs.Answers.{and_then};
+ghost use Rattle.rv_asm.specs.Answers.{as_text};
 ghost use Rattle.rv_asm.specs.Operands.{count_is};
 ghost use Rattle.rv_asm.specs.Items.{Section, Zeros};
 ghost use Rattle.rv_asm.specs.Reading.{export_read, numbers_read, one_number, padding, string_read, directive_read, instruction_read, unknown, named_read, statement_read};

@@ -14,7 +14,8 @@ use Rattle.rv_inst.specs.declared.instruction.ImmOp.TheVariants as immop
 use Rattle.rv_text.specs.declared.text_err.TextErr.TheVariants.{BadRegister}
 use Rattle.rv_text.specs.Pieces.{trimmed}
 use Rattle.rv_text.specs.Numbers.{number_of}
-use Rattle.rv_text.specs.Fields.{and_then, required, register_in, number_in, immediate_in, field_below, immediate_of, is_open, before_close, enclosed, offset_in, base_in}
+use Rattle.texts.specs.Answers.{and_then, needed}
+use Rattle.rv_text.specs.Fields.{register_in, number_in, immediate_in, field_below, immediate_of, is_open, before_close, enclosed, offset_in, base_in}
 use Rattle.rv_text.specs.Writing.{hexadecimal, register_text}
 use Rattle.rv_text.proofs.Solid.{is_solid, IsSolid, trimmed-solid, position_at_seam}
 use Rattle.rv_text.proofs.Written.{number_of-signed, number_of-upper, register_of-text, register_solid, signed_solid, signed_no_open}
@@ -22,7 +23,7 @@ use Rattle.rv_text.proofs.Written.{number_of-signed, number_of-upper, register_o
 -- a register
 pub register_in-text : (r : ℕ) → r < 32 → register_in (register_text r) ≡ Ok r
 unfolding register_in
-register_in-text r h = ap (required BadRegister) (register_of-text r h)
+register_in-text r h = ap (needed BadRegister) (register_of-text r h)
 
 -- a number from the least to the greatest
 record IsIn (least greatest z : ℤ) : Type 0 where
@@ -140,8 +141,8 @@ base_in-address z r h low =
     let small = (in_twelve z h).small in
     let after : drop (position_or_len is_open (address_text z r)) (address_text z r) ≡ 40 ∷ (register_text r ++ 41 ∷ []) =
     rw (open_at z r small) (drop-append_seam (signed_decimal z) (40 ∷ (register_text r ++ 41 ∷ []))) in
-    ap (λ text. and_then (required BadRegister (enclosed text)) (λ inner. register_in (trimmed inner))) after
-    ∙ ap (λ found. and_then (required BadRegister found) (λ inner. register_in (trimmed inner))) (close (register_text r))
+    ap (λ text. and_then (needed BadRegister (enclosed text)) (λ inner. register_in (trimmed inner))) after
+    ∙ ap (λ found. and_then (needed BadRegister found) (λ inner. register_in (trimmed inner))) (close (register_text r))
     ∙ ap register_in (trimmed-solid (register_text r) (register_solid r low))
     ∙ register_in-text r low
 

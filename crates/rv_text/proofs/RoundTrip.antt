@@ -23,7 +23,7 @@ use Rattle.rv_text.specs.declared.statement.Jump.TheVariants as jump
 use Rattle.rv_text.specs.declared.text_err.TextErr.{TextErr}
 use Rattle.rv_text.specs.Names.{name_of}
 use Rattle.rv_text.specs.Pieces.{operand_count}
-use Rattle.rv_text.specs.Fields.{and_then}
+use Rattle.texts.specs.Answers.{and_then}
 use Rattle.texts.specs.Hexadecimal.{hex8}
 use Rattle.rv_text.specs.Writing.{hexadecimal, register_text, operand_text, listed, text_of}
 use Rattle.rv_text.specs.LineReading.{distance_of, is_distance, aimed, LineReading, AimedAt, aimed_at, placed, takes, upper_form, address_form, immediate_form, register_form, set_form, fence_form, whole, jump_form, branch_form, operands_read, statement_by, statement_of, read_text}

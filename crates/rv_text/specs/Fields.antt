@@ -2,6 +2,7 @@
 use Rattle.std.specs.Prelude.{ℕ, ◌-◌, ◌==◌, ◌&&◌, ℤ, pos, negsuc, int_le, Bool, true, false, Option, Some, None, Result, Ok, Err, List, length, take, drop, codes, nat_eq, if◌then◌else◌}
 use Rattle.std.specs.Int.RustNames.{unsigned_abs}
 use Rattle.std.specs.List.{starts_with, ends_with, before_first, position_or_len}
+use Rattle.texts.specs.Answers.{and_then, needed}
 use Rattle.rv_inst.specs.declared.instruction.ImmOp.{ImmOp}
 use Rattle.rv_inst.specs.declared.instruction.ImmOp.TheVariants as immop
 use Rattle.rv_text.specs.declared.text_err.TextErr.{TextErr}
@@ -10,19 +11,9 @@ use Rattle.rv_text.specs.Pieces.{trimmed}
 use Rattle.rv_text.specs.Numbers.{number_of}
 use Rattle.rv_text.specs.Registers.{register_of}
 
--- the first refusal, or what the second step makes of the first step's answer
-abbrev pub and_then : {A B : Type 0} → Result A TextErr → (A → Result B TextErr) → Result B TextErr
-and_then (Ok a) step = step a
-and_then (Err e) step = Err e
-
--- what must be there, or else this refusal
-abbrev pub required : {A : Type 0} → TextErr → Option A → Result A TextErr
-required e (Some a) = Ok a
-required e None = Err e
-
 -- an operand that must be a register
 unfoldable pub register_in : List ℕ → Result ℕ TextErr
-register_in text = required BadRegister (register_of text)
+register_in text = needed BadRegister (register_of text)
 
 -- a number from the least to the greatest
 abbrev pub within : ℤ → ℤ → ℤ → Result ℤ TextErr
@@ -31,7 +22,7 @@ within least greatest z =
 
 -- an operand that must be a number from the least to the greatest
 unfoldable pub number_in : ℤ → ℤ → List ℕ → Result ℤ TextErr
-number_in least greatest text = and_then (required BadNumber (number_of text)) (within least greatest)
+number_in least greatest text = and_then (needed BadNumber (number_of text)) (within least greatest)
 
 -- a number of twelve bits, read as signed
 abbrev pub immediate_in : List ℕ → Result ℤ TextErr
@@ -71,5 +62,5 @@ offset_in text = immediate_in (trimmed (before_first is_open text))
 -- the register of an address: what stands between the first `(` and a `)` at the end
 unfoldable pub base_in : List ℕ → Result ℕ TextErr
 base_in text =
-    and_then (required BadRegister (enclosed (drop (position_or_len is_open text) text)))
+    and_then (needed BadRegister (enclosed (drop (position_or_len is_open text) text)))
     (λ inner. register_in (trimmed inner))

@@ -13,7 +13,8 @@ use Rattle.rv_text.specs.declared.statement.Jump.{Jump}
 use Rattle.rv_text.specs.declared.statement.Jump.TheVariants as jump
 use Rattle.rv_text.specs.declared.text_err.TextErr.{TextErr}
 use Rattle.rv_text.specs.declared.text_err.TextErr.TheVariants.{UnknownName, BadNumber, OutOfRange, WrongCount}
-use Rattle.rv_text.specs.Fields.{and_then, required, register_in, field_below, immediate_of, offset_in, base_in}
+use Rattle.texts.specs.Answers.{and_then, needed}
+use Rattle.rv_text.specs.Fields.{register_in, field_below, immediate_of, offset_in, base_in}
 use Rattle.rv_text.specs.Pieces.{name_part, operand_part, operand_count, operand_at}
 use Rattle.rv_text.specs.Numbers.{number_of}
 use Rattle.rv_text.specs.Names.{mnemonic_named}
@@ -44,7 +45,7 @@ pub data LineReading : Type 0 where
 -- the jump or the branch at `pc` to the address that a text spells
 unfoldable pub aimed_at : Jump → List ℕ → ℕ → Result Instr TextErr
 aimed_at jump text pc =
-    and_then (required BadNumber (number_of text)) (λ target. aimed jump (distance_of target pc))
+    and_then (needed BadNumber (number_of text)) (λ target. aimed jump (distance_of target pc))
 
 -- the instruction at `pc`
 abbrev pub placed : ℕ → LineReading → Result Instr TextErr
@@ -162,7 +163,7 @@ statement_by mnemonic text =
 -- what a text says: first its name is looked up
 unfoldable pub statement_of : List ℕ → Result LineReading TextErr
 statement_of text =
-    and_then (required UnknownName (mnemonic_named (name_part text)))
+    and_then (needed UnknownName (mnemonic_named (name_part text)))
     (λ mnemonic. statement_by mnemonic (operand_part text))
 
 -- the instruction that a text spells at `pc`

@@ -2,7 +2,8 @@
 #![tactic(auto, unfolding(crate::specs::Fields::register_in, crate::specs::Fields::number_in, crate::specs::Fields::immediate_of, crate::specs::Fields::offset_in, crate::specs::Fields::base_in))]
 
 ghost use Rattle.std.specs.Prelude.{◌≡◌, ◌-◌, ◌<◌, ◌≤◌, ◌^◌, ◌≤ℤ◌, ◌<ℤ◌, pos, negsuc, Ok, Err, Some, None, MatchOption, IfOk};
-ghost use Rattle.rv_text.specs.Fields.{required, register_in, number_in, immediate_in, field_below, is_shift, immediate_of, enclosed, offset_in, base_in};
+ghost use Rattle.texts.specs.Answers.{needed};
+ghost use Rattle.rv_text.specs.Fields.{register_in, number_in, immediate_in, field_below, is_shift, immediate_of, enclosed, offset_in, base_in};
 
 use crate::numbers::read_number;
 use crate::pieces::{find_byte, trim};

@@ -1,3 +1,5 @@
+pub mod Answers
+pub mod Bytes
 pub mod Hexadecimal
 pub mod Lines
 pub mod Retirement

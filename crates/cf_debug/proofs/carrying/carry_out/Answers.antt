@@ -22,7 +22,7 @@ returns-in-Show-clause-carries g c = as-command _ _ _ _ _ _ _ c.in-Show.is (as-t
 pub returns-in-Break-clause-carries : goal.returns-in-Break-clause-carries
 unfolding CommandAnswers CommandAnswersPart
 returns-in-Break-clause-carries g c =
-    let set = ap (debugger_state (processor_state c.args.desk.core.now c.args.desk.ring.now (g.K.Sink.written c.args.output.now))) c.carry_break.ensures.stop in
+    let set = ap (debugger_state (processor_state c.args.debugger.core.now c.args.debugger.ring.now (g.K.Sink.written c.args.output.now))) c.carry_break.ensures.stop in
     as-command _ _ _ _ _ _ _ c.in-Break.is (as-told _ _ _ _ _ _ _ c.told-in-Break.ensures (carries-told _ _ _ _ _ _ _ _ _ (set, refl) (set, refl) c.carry_break.ensures.puts))
 
 pub returns-in-Back-clause-carries : goal.returns-in-Back-clause-carries

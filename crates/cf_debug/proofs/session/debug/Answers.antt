@@ -15,7 +15,7 @@ loop-byte-init g c = record {
 
 pub returns-in-Some-clause-session : goal.returns-in-Some-clause-session
 returns-in-Some-clause-session g c = record {
-  stop = c.use_byte.new.desk.1.1.1.0;
+  stop = c.use_byte.new.debugger.1.1.1.0;
   ends = ends-at_line _ _ _ _ _ (ends-byte _ _ _ _ _ _ _ _ _ _ _ _ _ _ c.loop-byte.invariant.comes c.in-Byte.ensures.feeds c.in-Some.ensures.uses);
 }
 
@@ -39,7 +39,7 @@ loop-byte-preserved g c = record {
 
 pub returns-in-AtEnd-clause-session : goal.returns-in-AtEnd-clause-session
 returns-in-AtEnd-clause-session g c = record {
-  stop = c.finish.new.desk.1.1.1.0;
+  stop = c.finish.new.debugger.1.1.1.0;
   ends = ends-last _ _ _ _ _ _ _ _ _ _ _ _ c.loop-byte.invariant.comes c.in-AtEnd.ensures.feeds c.finish.ensures.finishes;
 }
 

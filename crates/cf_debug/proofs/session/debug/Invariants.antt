@@ -14,7 +14,7 @@ invariant-loop-byte g l =
     let reported = g.R.Sink.written in
     let begin : DebuggerState = debugger_state (processor_state l.initial.core l.initial.ring (written l.initial.output)) None in
     let now : DebuggerState = debugger_state (processor_state l.core l.ring (written l.output)) l.stop in
-    let before : Session = session_of begin.bench (left l.initial.commands) (reported l.initial.report) in
+    let before : Session = session_of begin.processor (left l.initial.commands) (reported l.initial.report) in
     record {
       comes : Comes before begin now (left l.commands) (reported l.report) l.line l.feed;
       stands : StandsAfterMoves l.initial.core l.core l.ring;

@@ -1,6 +1,6 @@
 use Rattle.std.proofs.Common.{◌≡◌, ℕ, ◌-◌, ◌++◌, ap, sym, ◌∙◌, arith, codes, decimal}
 use Rattle.cf_gen.specs.Draws.{next_state, state_after, drawn}
-use Rattle.cf_gen.specs.Statements.{register_text}
+use Rattle.cf_gen.specs.Statements.{register_operand}
 use Rattle.cf_gen.specs.Program.{statement, load_line}
 use Rattle.cf_gen.proofs.Steps.{lines-more, after-register}
 use Rattle.cf_gen.proofs.program.opening.Goals as goal
@@ -13,7 +13,7 @@ loop-register-preserved c =
     let number : c.below.result ≡ drawn 65536 (state_after (r - 8) x) =
     c.below.ensures.number ∙ ap (λ (y : ℕ). drawn 65536 y) c.loop-register.invariant.state in
     let loaded : c.push_load.new.page ≡ c.loop-register.page ++ load_line x r =
-    c.push_load.ensures.text ∙ ap (λ (n : ℕ). c.loop-register.page ++ statement (codes "li " ++ register_text r ++ codes ", " ++ decimal n)) number in
+    c.push_load.ensures.text ∙ ap (λ (n : ℕ). c.loop-register.page ++ statement (codes "li " ++ register_operand r ++ codes ", " ++ decimal n)) number in
     record {
       text = lines-more (load_line x) r 16 _ _ _ (omega arith) loaded c.loop-register.invariant.text;
       state = c.below.ensures.state ∙ ap next_state c.loop-register.invariant.state ∙ sym (after-register r x (omega arith));

@@ -1,0 +1,10 @@
+-- Kinds of bytes and of texts.
+use Rattle.std.specs.Prelude.{ℕ, Bool, ◌&&◌, List, list_all, nat_le, nat_lt}
+
+-- a decimal digit
+abbrev pub is_digit : ℕ → Bool
+is_digit byte = nat_le 48 byte && nat_le byte 57
+
+-- every byte is below 128
+unfoldable pub is_ascii : List ℕ → Bool
+is_ascii line = list_all (λ byte. nat_lt byte 128) line
