@@ -1,7 +1,8 @@
 //! Where the program goes on after a passenger, and which guesses are made.
 
 ghost use Rattle.std.specs.Prelude.{◌≡◌};
-ghost use Rattle.cf_semantics.specs.moves.Instructions.{is_control as turns_control, is_indirect as is_jalr, target_of, word_after as next_word};
+ghost use Rattle.cf_layout.specs.Accepted.{is_control as turns_control};
+ghost use Rattle.cf_semantics.specs.moves.Instructions.{is_indirect as is_jalr, target_of, word_after as next_word};
 ghost use Rattle.cf_semantics.specs.state.Passengers.{goto as goes_to, guessed as place_guessed};
 ghost use Rattle.cf_semantics.specs.moves.Bars.{may_guess as is_allowed};
 

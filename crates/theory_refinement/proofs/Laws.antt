@@ -19,7 +19,8 @@ use Rattle.cf_bind.specs.declared.binding.Binding.{Binding}
 use Rattle.cf_bind.specs.declared.passenger.End.{End}
 use Rattle.cf_bind.specs.declared.passenger.Guess.{Guess}
 use Rattle.cf_bind.specs.declared.passenger.Passenger.{Passenger}
-use Rattle.cf_semantics.specs.moves.Instructions.{Bad, Fetched, Goes, Got, StepResult, Stops, access_trap, answer_of, after_step, dst_of, fetched, finish_trap, free_trap, is_control, is_free, is_serial, kind_of, mem_after, serve_of, src1_of, src2_of, step_here, value_read, value_written, word_after}
+use Rattle.cf_layout.specs.Accepted.{is_control}
+use Rattle.cf_semantics.specs.moves.Instructions.{Bad, Fetched, Goes, Got, StepResult, Stops, access_trap, answer_of, after_step, dst_of, fetched, finish_trap, free_trap, is_free, is_serial, kind_of, mem_after, serve_of, src1_of, src2_of, step_here, value_read, value_written, word_after}
 use Rattle.cf_semantics.specs.claims.Laws.{AccessesAsLaunched, ComputesAsFinished, IsReadyPassenger, ReadsAsIssued, ServesAndPasses, computes, departed, replied, returned}
 use Rattle.cf_semantics.specs.moves.Moves.{written}
 use Rattle.cf_semantics.specs.state.Options.{on}

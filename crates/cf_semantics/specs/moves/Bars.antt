@@ -15,7 +15,8 @@ use Rattle.cf_bind.specs.declared.moves.Move.TheVariants.{Issue, Emit, Climb, Fa
 use Rattle.cf_bind.specs.declared.moves.Bar.{Bar}
 use Rattle.cf_bind.specs.declared.moves.Bar.TheVariants.{Halted, Failed, NoSuchSite, NoPassenger, NoPacket, Occupied, NotMet, AlreadyMet, SourceMissing, NoUnit, NotDone, Owes, OwesNothing, OpNotThere, LaneFull, LaneEmpty, FetchWaiting, BadGuess, Dead, AlreadyDone}
 use Rattle.cf_semantics.specs.state.Options.{on, is_some}
-use Rattle.cf_semantics.specs.moves.Instructions.{is_control, is_memory, is_serial, is_indirect, fetched}
+use Rattle.cf_layout.specs.Accepted.{is_control}
+use Rattle.cf_semantics.specs.moves.Instructions.{is_memory, is_serial, is_indirect, fetched}
 use Rattle.cf_semantics.specs.state.State.{State, cell_at, siding_at}
 use Rattle.cf_semantics.specs.state.Passengers.{instruction, kind, missing, requests, fresh}
 use Rattle.cf_semantics.specs.state.Layouts.{isa_of, port, launches, recovers, ends_units}

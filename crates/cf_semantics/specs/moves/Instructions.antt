@@ -23,18 +23,13 @@ use Rattle.rv_machine.specs.Outcome as outcome
 use Rattle.rv_machine.specs.Call.{Called, call}
 use Rattle.rv_machine.specs.Call as called
 use Rattle.rv_machine.specs.Step.{synchronizes, breaks, step}
+use Rattle.cf_layout.specs.Accepted.{is_control}
 use Rattle.cf_bind.specs.declared.passenger.End.{End}
 use Rattle.cf_bind.specs.declared.passenger.End.TheVariants.{Trap, Exit}
 
 -- the class of an instruction; no proof about a move looks into it
 unfoldable pub kind_of : Instr → Class
 kind_of i = class_of i
-
--- the classes that turn control
-abbrev pub is_control : Class → Bool
-is_control Branch = true
-is_control Jump = true
-is_control _ = false
 
 -- loads and stores
 abbrev pub is_memory : Class → Bool

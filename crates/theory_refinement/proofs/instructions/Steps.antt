@@ -43,7 +43,8 @@ use Rattle.cf_bind.specs.declared.passenger.Passenger.{Passenger}
 use Rattle.cf_bind.specs.declared.passenger.End.{End}
 use Rattle.cf_bind.specs.declared.passenger.End.TheVariants.{Trap}
 use Rattle.cf_semantics.specs.state.Options.{on}
-use Rattle.cf_semantics.specs.moves.Instructions.{kind_of, is_control, is_serial, Fetched, Got, Bad, read_as, word_read, fetched, register, src1_of, src2_of, dst_of, value_read, value_written, word_after, finish_trap, free_trap, refused, access_trap, mem_after, number, answer_of, serve_of, StepResult, Goes, Stops, stepped, step_at, at_pc, after_step}
+use Rattle.cf_layout.specs.Accepted.{is_control}
+use Rattle.cf_semantics.specs.moves.Instructions.{kind_of, is_serial, Fetched, Got, Bad, read_as, word_read, fetched, register, src1_of, src2_of, dst_of, value_read, value_written, word_after, finish_trap, free_trap, refused, access_trap, mem_after, number, answer_of, serve_of, StepResult, Goes, Stops, stepped, step_at, at_pc, after_step}
 use Rattle.cf_semantics.specs.state.Passengers.{kind, instruction, reg_in}
 use Rattle.cf_semantics.specs.moves.Steps.{onward, served, stepped_as}
 use Rattle.cf_semantics.specs.claims.Path.{is_trap, has_reg}

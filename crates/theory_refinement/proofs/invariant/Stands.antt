@@ -6,7 +6,8 @@ use Rattle.cf_bind.specs.declared.binding.Binding.{Binding}
 use Rattle.cf_bind.specs.declared.passenger.Guess.TheVariants.{Next}
 use Rattle.cf_bind.specs.declared.passenger.Passenger.{Passenger}
 use Rattle.cf_semantics.specs.state.Options.{is_some, Where}
-use Rattle.cf_semantics.specs.moves.Instructions.{is_control, is_memory, is_serial, is_free}
+use Rattle.cf_layout.specs.Accepted.{is_control}
+use Rattle.cf_semantics.specs.moves.Instructions.{is_memory, is_serial, is_free}
 use Rattle.cf_semantics.specs.state.Column.{Item, Up, Down}
 use Rattle.cf_semantics.specs.state.Passengers.{kind, missing}
 use Rattle.cf_semantics.specs.claims.Ahead.{has_served}

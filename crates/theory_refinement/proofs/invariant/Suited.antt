@@ -3,7 +3,8 @@ use Rattle.std.specs.Prelude.{◌≡◌, ℕ, suc, ◌≤◌, ◌<◌, Some, Non
 use Rattle.rv_inst.specs.declared.classes.Class.{Class}
 use Rattle.rv_inst.specs.declared.classes.Class.TheVariants.{Memory, Serial, Free, Mul, Div}
 use Rattle.cf_layout.specs.Layout.{Plan, siding_of, unit_at, launch_stage, recover_stage, last_stage, cells_of, is_homed}
-use Rattle.cf_semantics.specs.moves.Instructions.{is_control, is_memory}
+use Rattle.cf_layout.specs.Accepted.{is_control}
+use Rattle.cf_semantics.specs.moves.Instructions.{is_memory}
 use Rattle.cf_semantics.specs.state.Layouts.{port}
 use Rattle.theory_refinement.proofs.invariant.Lone.{is_high}
 

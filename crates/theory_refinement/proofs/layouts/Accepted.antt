@@ -8,7 +8,8 @@ use Rattle.rv_inst.specs.declared.classes.Class.TheVariants.{Add, Logic, Shift, 
 use Rattle.cf_layout.specs.Layout.{Plan, cells_of, homes, is_homed, last_of, last_stage, launch_stage, place_of, recover_stage, recovers_by, serves, siding_at, siding_of, stages_of, unit_at, unit_homes}
 use Rattle.cf_layout.specs.Accepted as accepted
 use Rattle.cf_layout.specs.Accepted.{IsAccepted, IsSiding, IsStage, memory_launch}
-use Rattle.cf_semantics.specs.moves.Instructions.{is_control, is_memory}
+use Rattle.cf_layout.specs.Accepted.{is_control}
+use Rattle.cf_semantics.specs.moves.Instructions.{is_memory}
 use Rattle.cf_semantics.specs.state.Layouts.{port}
 use Rattle.cf_semantics.specs.state.Options.{is_some, on}
 use Rattle.theory_refinement.proofs.invariant.Lone.{is_high}

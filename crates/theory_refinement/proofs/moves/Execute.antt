@@ -14,7 +14,8 @@ use Rattle.theory_refinement.proofs.invariant.Stands.{Stands}
 use Rattle.theory_refinement.proofs.invariant.Suited.{Suits, is_plain}
 use Rattle.cf_semantics.specs.moves.Bars.{bar, execute_bar, row_bar}
 use Rattle.cf_semantics.specs.state.Column.{Up}
-use Rattle.cf_semantics.specs.moves.Instructions.{is_control, step_at}
+use Rattle.cf_layout.specs.Accepted.{is_control}
+use Rattle.cf_semantics.specs.moves.Instructions.{step_at}
 use Rattle.cf_semantics.specs.state.Layouts.{isa_of}
 use Rattle.cf_semantics.specs.moves.Moves.{moved, with_passenger}
 use Rattle.cf_semantics.specs.state.Options.{on}

@@ -36,7 +36,8 @@ use Rattle.theory_refinement.proofs.invariant.Stands.{Blank, Low, Stands}
 use Rattle.theory_refinement.proofs.invariant.Suited.{Suits}
 use Rattle.cf_semantics.specs.moves.Bars.{bar, issue_bar, may_guess, row_bar}
 use Rattle.cf_semantics.specs.state.Column.{Item, Up, column, column_from, items}
-use Rattle.cf_semantics.specs.moves.Instructions.{after_step, dst_of, fetched, is_control, is_free, is_serial, step_at}
+use Rattle.cf_layout.specs.Accepted.{is_control}
+use Rattle.cf_semantics.specs.moves.Instructions.{after_step, dst_of, fetched, is_free, is_serial, step_at}
 use Rattle.cf_semantics.specs.state.Layouts.{isa_of}
 use Rattle.cf_semantics.specs.moves.Moves.{fetch_at, moved}
 use Rattle.cf_semantics.specs.state.Options.{When, is_some, on}

@@ -24,7 +24,8 @@ use Rattle.theory_refinement.proofs.invariant.Stands.{Behind, Stands}
 use Rattle.theory_refinement.proofs.invariant.Suited.{Suits, is_plain}
 use Rattle.cf_semantics.specs.moves.Bars.{bar}
 use Rattle.cf_semantics.specs.state.Column.{Down, Item, Up}
-use Rattle.cf_semantics.specs.moves.Instructions.{access_trap, after_step, is_control, is_free, is_memory, is_serial, step_at}
+use Rattle.cf_layout.specs.Accepted.{is_control}
+use Rattle.cf_semantics.specs.moves.Instructions.{access_trap, after_step, is_free, is_memory, is_serial, step_at}
 use Rattle.cf_semantics.specs.state.Layouts.{isa_of, port}
 use Rattle.cf_semantics.specs.moves.Moves.{back_in, moved, set_last, with_passenger}
 use Rattle.cf_semantics.specs.state.Options.{on}

@@ -14,7 +14,8 @@ use Rattle.theory_refinement.proofs.instructions.Steps.{plain_steps, straight_ne
 use Rattle.theory_refinement.proofs.invariant.Stands.{Stands}
 use Rattle.theory_refinement.proofs.invariant.Suited.{is_plain}
 use Rattle.cf_semantics.specs.state.Column.{Up}
-use Rattle.cf_semantics.specs.moves.Instructions.{Bad, Fetched, Goes, Got, Stops, dst_of, fetched, finish_trap, is_control, is_free, is_memory, is_serial, kind_of, src1_of, src2_of, step_at, value_written}
+use Rattle.cf_layout.specs.Accepted.{is_control}
+use Rattle.cf_semantics.specs.moves.Instructions.{Bad, Fetched, Goes, Got, Stops, dst_of, fetched, finish_trap, is_free, is_memory, is_serial, kind_of, src1_of, src2_of, step_at, value_written}
 use Rattle.cf_semantics.specs.state.Options.{on}
 use Rattle.cf_semantics.specs.state.Passengers.{finish, instruction, kind, missing, value_in}
 use Rattle.cf_semantics.specs.claims.Walks.{Everywhere, walk}

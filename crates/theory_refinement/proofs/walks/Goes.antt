@@ -9,7 +9,8 @@ use Rattle.theory_refinement.proofs.instructions.Steps.{kind_is, plain_steps, st
 use Rattle.theory_refinement.proofs.invariant.Stands.{Stands}
 use Rattle.theory_refinement.proofs.invariant.Suited.{is_plain}
 use Rattle.cf_semantics.specs.state.Column.{Up}
-use Rattle.cf_semantics.specs.moves.Instructions.{at_pc, Bad, Fetched, Goes, Got, StepResult, Stops, access_trap, after_step, dst_of, fetched, is_control, is_free, is_memory, is_serial, kind_of, src1_of, src2_of, step_at, value_read, value_written, word_after}
+use Rattle.cf_layout.specs.Accepted.{is_control}
+use Rattle.cf_semantics.specs.moves.Instructions.{at_pc, Bad, Fetched, Goes, Got, StepResult, Stops, access_trap, after_step, dst_of, fetched, is_free, is_memory, is_serial, kind_of, src1_of, src2_of, step_at, value_read, value_written, word_after}
 use Rattle.cf_semantics.specs.state.Layouts.{isa_of}
 use Rattle.cf_semantics.specs.state.Options.{on}
 use Rattle.cf_semantics.specs.moves.Steps.{onward}

@@ -11,7 +11,8 @@ use Rattle.theory_refinement.proofs.instructions.Memory.{after_access, memory_st
 use Rattle.theory_refinement.proofs.walks.PathFinish.{Finishes}
 use Rattle.theory_refinement.proofs.instructions.Steps.{sure_dst_below, kind_is, straight_next, straight_trap}
 use Rattle.cf_semantics.specs.state.Column.{Up}
-use Rattle.cf_semantics.specs.moves.Instructions.{Goes, access_trap, after_step, dst_of, is_control, is_memory, kind_of, step_at, value_written}
+use Rattle.cf_layout.specs.Accepted.{is_control}
+use Rattle.cf_semantics.specs.moves.Instructions.{Goes, access_trap, after_step, dst_of, is_memory, kind_of, step_at, value_written}
 use Rattle.cf_semantics.specs.state.Passengers.{finish, goto_undone, guessed, instruction, kind, missing, reg_in, value_in}
 use Rattle.mem_regions.specs.Access.{bounds_of}
 use Rattle.rv_inst.specs.declared.isa.Isa.{Isa}

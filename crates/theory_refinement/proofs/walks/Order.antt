@@ -7,7 +7,8 @@ use Rattle.cf_layout.specs.Layout.{Plan, launch_stage, siding_of}
 use Rattle.theory_refinement.proofs.invariant.Stands.{Each, Stands}
 use Rattle.theory_refinement.proofs.invariant.Suited.{Suits}
 use Rattle.cf_semantics.specs.state.Column.{Down, Item, Up, column_from, in_order, items, packet_in, passenger_in}
-use Rattle.cf_semantics.specs.moves.Instructions.{is_control, is_serial}
+use Rattle.cf_layout.specs.Accepted.{is_control}
+use Rattle.cf_semantics.specs.moves.Instructions.{is_serial}
 use Rattle.cf_semantics.specs.state.Layouts.{isa_of, port}
 use Rattle.cf_semantics.specs.state.Options.{is_some}
 use Rattle.cf_semantics.specs.state.Passengers.{kind}
