@@ -137,19 +137,15 @@ last_stage_is plan acc c = by c
     by Mul = general Mul
     by Div = general Div
 
--- the two words for the classes that turn control agree
-control_is : (c : Class) → is_control c ≡ accepted.is_control c
-control_is c = grind arith
-
 -- control turns at or below the stage from which memory is reached
 control_low : (plan : Plan) → IsAccepted plan → (c : Class) (i : ℕ) → is_control c ≡ true → unit_at plan c i ≡ true → i ≤ launch_stage plan (port plan)
-control_low plan acc c i t e = subst (λ (m : ℕ). i ≤ m) (launch_is plan) (acc.control_units c i (sym (control_is c) ∙ t) e)
+control_low plan acc c i t e = subst (λ (m : ℕ). i ≤ m) (launch_is plan) (acc.control_units c i t e)
 
 control_siding : (plan : Plan) → IsAccepted plan → (c : Class) (k : ℕ) → is_control c ≡ true → siding_of plan c ≡ Some k → recover_stage plan k ≤ launch_stage plan (port plan)
 unfolding recover_stage
 control_siding plan acc c k t e =
     subst (λ (m : ℕ). (siding_at plan k).recover ≤ m) (launch_is plan)
-    (of_sided (λ siding. serves siding c ≡ true → siding.recover ≤ memory_launch plan) plan c k e (acc.control_sidings c (sym (control_is c) ∙ t)) (sided_for plan c k e))
+    (of_sided (λ siding. serves siding c ≡ true → siding.recover ≤ memory_launch plan) plan c k e (acc.control_sidings c t) (sided_for plan c k e))
 
 -- a class of the base set has a home
 basic_homed : (plan : Plan) → IsAccepted plan → (c : Class) → is_plain c ≡ true → is_extra c ≡ false → is_homed plan c ≡ true
